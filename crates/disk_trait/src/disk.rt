@@ -1,7 +1,7 @@
 ghost use Rattle.std.specs.Prelude.{◌≡◌, ℕ, List, Option, IfOk, OnOk, OnErr, IsErr, IsErrOf};
 ghost use Rattle.std.specs.Option.{ForSome};
 ghost use Rattle.disk_trait.specs.declared.ids.FileId.{FileId};
-ghost use Rattle.disk_trait.specs.Counts.{Counted};
+ghost use Rattle.fault_counts.specs.Counts.{Counted};
 ghost use Rattle.disk_trait.specs.Files.{Files, rewritten, SameButOne};
 
 use crate::bytes::Bytes;

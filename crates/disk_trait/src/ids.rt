@@ -1,3 +1,5 @@
+ghost use Rattle.std.specs.Prelude.{◌≡◌};
+
 /// The name of a content in the pool: its digest, and a number that tells contents of one digest apart.
 #[derive(Clone, Copy, Debug, PartialEq, Eq, PartialOrd, Ord)]
 pub struct PoolId {
@@ -12,4 +14,22 @@ pub enum FileId {
     Head,
     /// The tree of a backup: the host's place in order of adding, and the backup's number.
     Table(u32, u32),
+}
+
+#[tactic(auto, unfolding(crate::specs::Files::is_same_file))]
+impl FileId {
+    ghost use Rattle.disk_trait.specs.Files.{is_same_file};
+
+    /// Whether both name one file.
+    pub fn is_same(self, other: FileId) -> bool
+        ensures { result ≡ is_same_file self other }
+    {
+        match (self, other) {
+            (FileId::Head, FileId::Head) => true,
+            (FileId::Table(host, number), FileId::Table(other_host, other_number)) => {
+                host == other_host && number == other_number
+            }
+            _ => false,
+        }
+    }
 }
