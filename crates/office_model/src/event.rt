@@ -1,0 +1,128 @@
+use attr_records::{HostName, PathName, PutRule};
+use disk_trait::{Bytes, FileId};
+use stream_traits::Moment;
+use std::error::Error;
+use std::fmt;
+
+use crate::session::SessionName;
+
+/// The kinds of a backup.
+#[derive(Clone, Copy, Debug, PartialEq, Eq)]
+pub enum Kind {
+    /// Begins with the empty tree.
+    Full,
+}
+
+/// What a caller asks of the office. One call is one event, and takes place at once.
+#[derive(Debug, Drop)]
+pub enum Event {
+    /// A new host, which has no backups.
+    AddHost { host: HostName },
+    /// Opens a dump of a host.
+    OpenDump { host: HostName, kind: Kind, now: Moment },
+    /// Puts a file with default attributes into the tree of an open dump.
+    Put { dump: SessionName, path: PathName, bytes: Bytes },
+    /// Makes the tree of an open dump the host's next backup.
+    Commit { dump: SessionName, now: Moment },
+    /// Asks for the bytes of a file of a backup.
+    ReadFile { host: HostName, number: u32, path: PathName },
+}
+
+/// What an event that was carried out gives.
+#[derive(Debug, Drop)]
+pub enum Answer {
+    Done,
+    /// The name of the dump that was opened.
+    Dump(SessionName),
+    /// The number of the backup that was made.
+    Committed(u32),
+    /// The bytes of a file.
+    Content(Bytes),
+}
+
+/// A rule of the office that an event may break.
+#[derive(Clone, Copy, Debug, PartialEq, Eq)]
+pub enum Rule {
+    /// There is a host of this name.
+    HostExists,
+    /// There are 1,024 hosts.
+    HostsFull,
+    /// There is no host of this name.
+    NoHost,
+    /// The host has an open dump.
+    SessionOpen,
+    /// The host's numbers or the epoch's sessions are used up.
+    NumbersSpent,
+    /// There is no open session of this name.
+    NoSession,
+    /// The path's parent is neither the root nor a directory of the tree.
+    NoParent,
+    /// A directory is at the path.
+    IsDirectory,
+    /// The tree has 1,048,576 paths.
+    TooManyEntries,
+    /// The file has more than 67,108,864 bytes.
+    FileTooLarge,
+    /// The host has no backup of this number.
+    NoBackup,
+    /// Nothing is at the path.
+    NoPath,
+    /// What is at the path is no file.
+    NotAFile,
+}
+
+/// Why an event was not carried out. But for a `DiskFault` of a commit, the office is as before.
+#[derive(Debug, Drop)]
+pub enum Refusal {
+    /// This is the first rule that the event breaks.
+    Broken(Rule),
+    /// An earlier fault of the disk left the office between two states, so it answers nothing else.
+    Halted,
+    /// The disk failed; its count of faults rose in this call.
+    DiskFault,
+    /// A file of the store doesn't hold what the store left in it.
+    Damaged { file: FileId, found: Option<Bytes> },
+    /// There was no memory.
+    Memory,
+}
+
+impl Rule {
+    /// The rule's name, as a response says it.
+    pub fn name(self) -> &'static str {
+        match self {
+            Rule::HostExists => "HostExists",
+            Rule::HostsFull => "HostsFull",
+            Rule::NoHost => "NoHost",
+            Rule::SessionOpen => "SessionOpen",
+            Rule::NumbersSpent => "NumbersSpent",
+            Rule::NoSession => "NoSession",
+            Rule::NoParent => "NoParent",
+            Rule::IsDirectory => "IsDirectory",
+            Rule::TooManyEntries => "TooManyEntries",
+            Rule::FileTooLarge => "FileTooLarge",
+            Rule::NoBackup => "NoBackup",
+            Rule::NoPath => "NoPath",
+            Rule::NotAFile => "NotAFile",
+        }
+    }
+}
+
+impl fmt::Display for Rule {
+    fn fmt<W: fmt::Write>(&self, f: &mut fmt::Formatter<W>) -> fmt::Result {
+        write!(f, "{}", self.name())
+    }
+}
+
+impl fmt::Display for Refusal {
+    fn fmt<W: fmt::Write>(&self, f: &mut fmt::Formatter<W>) -> fmt::Result {
+        match self {
+            Refusal::Broken(rule) => write!(f, "{rule}"),
+            Refusal::Halted => write!(f, "Halted"),
+            Refusal::DiskFault => write!(f, "DiskFault"),
+            Refusal::Damaged { .. } => write!(f, "Damaged"),
+            Refusal::Memory => write!(f, "no memory"),
+        }
+    }
+}
+
+impl Error for Refusal {}

@@ -1,0 +1,14 @@
+//! What a backup server is: an office of hosts with whole trees, and what each event does to it.
+//!
+//! The definitions in `specs/` are the whole of it: the office and its states, the first rule that
+//! an event breaks, the step, the legal history. Everything above speaks to a `Port`, whose calls
+//! are events. The crate knows values alone: no disk, no bytes of a file, no HTTP.
+#![tactic(auto)]
+
+mod event;
+mod port;
+mod session;
+
+pub use event::{Answer, Event, Kind, Refusal, Rule};
+pub use port::Port;
+pub use session::SessionName;

@@ -1,0 +1,4 @@
+pub mod Clocks
+pub mod Memory
+pub mod Moments
+pub mod Told

@@ -1,0 +1,18 @@
+//! Streams of bytes and clocks, as traits that real and made-up ends share.
+#![tactic(auto)]
+
+mod clock;
+mod link;
+mod memory;
+mod memory_clock;
+mod reading;
+#[cfg(test)]
+mod tests;
+mod writing;
+
+pub use clock::{Clock, Moment};
+pub use link::{Failed, Faults, Link, Sink, Source};
+pub use memory::MemoryLink;
+pub use memory_clock::{FixedClock, ListClock};
+pub use reading::{ReadFault, read_byte, read_exactly};
+pub use writing::write_all;
