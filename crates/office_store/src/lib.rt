@@ -5,4 +5,5 @@
 
 #[tactic(auto, unfolding(crate::specs::Layout::host_line, crate::specs::Layout::head_start, crate::specs::Layout::file_line, crate::specs::Layout::table_start))]
 mod layout;
+mod live;
 mod parts;

@@ -4,8 +4,9 @@ ghost use Rattle.office_model.specs.Rules.{plain_file};
 use std::collections::BTreeMap;
 use std::marker::Model;
 use std::alloc::{AllocError, Global};
+use std::mem;
 
-use attr_records::{Attr, HostName, Item, PathName};
+use attr_records::{Attr, HostName, Item, PathName, PutRule};
 use disk_trait::Bytes;
 use office_model::SessionName;
 use stream_traits::Moment;
@@ -72,7 +73,8 @@ impl Backup {
 }
 
 impl Host {
-    ghost use Rattle.std.specs.Prelude.{◌≡◌, [], IfOk, length};
+    ghost use Rattle.std.specs.Prelude.{◌≡◌, [], OnOk, OnErr};
+    ghost use Rattle.office_model.specs.Step.{with_backup};
 
     pub(crate) fn new(alloc: Global, name: HostName) -> Host
         ensures { result ≡ record { name = name; backups = [] } }
@@ -94,6 +96,28 @@ impl Host {
     {
         self.backups.as_slice()
     }
+
+    /// Makes the tree of a dump the host's next backup, which ended now. Where there is no memory,
+    /// both stay as they were.
+    pub(crate) fn commit(&mut self, alloc: Global, dump: &mut Dump, end: Moment) -> Result<(), AllocError>
+        ensures ok { OnOk result (self.new ≡ with_backup self.old dump.old end) }
+        ensures err { OnErr result (self.new ≡ self.old) }
+        ensures dump { OnErr result (dump.new ≡ dump.old) }
+    {
+        let tree = mem::replace(&mut dump.tree, BTreeMap::new(alloc));
+        let backup = Backup {
+            start: dump.start,
+            end,
+            tree,
+        };
+        match self.backups.push(backup) {
+            Ok(()) => Ok(()),
+            Err(failed) => {
+                dump.tree = failed.value.tree;
+                Err(AllocError)
+            }
+        }
+    }
 }
 
 /// A file with default attributes, of a copy of these bytes.
@@ -107,7 +131,8 @@ fn plain_file(alloc: Global, bytes: &[u8]) -> Result<Item, AllocError>
 }
 
 impl Dump {
-    ghost use Rattle.std.specs.Prelude.{◌≡◌, [], IfOk, OnErr, length};
+    ghost use Rattle.std.specs.Prelude.{◌≡◌, ℕ, List, [], IfOk, OnErr, length};
+    ghost use Rattle.office_model.specs.Nodes.{broken_put};
     ghost use Rattle.attr_records.specs.Trees.{with_node};
     ghost use Rattle.office_model.specs.Rules.{plain_file};
 
@@ -134,6 +159,28 @@ impl Dump {
         self.host
     }
 
+    pub(crate) fn start(&self) -> Moment
+        ensures { result ≡ self.now.start }
+    {
+        self.start
+    }
+
+    pub(crate) fn tree(&self) -> &BTreeMap<PathName, Item>
+        ensures { result.now.entries ≡ self.now.tree }
+    {
+        &self.tree
+    }
+
+    /// The first rule that putting a file of this many bytes at a path breaks.
+    pub(crate) fn broken_put(&self, alloc: Global, path: &PathName, size: u64) -> Result<Option<PutRule>, AllocError>
+        ensures { IfOk result (λ rule. (bytes : List ℕ) → length bytes ≡ size → rule ≡ broken_put self.now.tree path.now (plain_file bytes)) }
+    {
+        match attr_records::broken_put_file(alloc, &self.tree, path, size) {
+            Ok(rule) => Ok(rule),
+            Err(error) => Err(error),
+        }
+    }
+
     /// Puts a file with default attributes at a path.
     pub(crate) fn put(&mut self, alloc: Global, path: &PathName, bytes: &[u8]) -> Result<(), AllocError>
         ensures put { IfOk result (λ _. self.new ≡ record self.old { tree = with_node self.old.tree path.now (plain_file bytes.now) }) }
@@ -143,16 +190,5 @@ impl Dump {
         let item = plain_file(alloc, bytes)?;
         self.tree.insert(path, item)?;
         Ok(())
-    }
-
-    /// The dump as a backup that ends now.
-    pub(crate) fn into_backup(self, end: Moment) -> Backup
-        ensures { result ≡ record { start = self.start; end = end; tree = self.tree } }
-    {
-        Backup {
-            start: self.start,
-            end,
-            tree: self.tree,
-        }
     }
 }
