@@ -8,7 +8,7 @@ use Rattle.std.proofs.lemmas.Bool.Decides.{nat_tests}
 use Rattle.std.proofs.lemmas.Option.{slice_get_within, slice_get_cases}
 use Rattle.attr_records.specs.declared.trees.PutRule.{PutRule}
 use Rattle.attr_records.specs.Trees as Trees
-use Rattle.office_model.specs.Nodes.{IsTree, IsTree-nil, IsTree-with_node, broken_put}
+use Rattle.office_model.specs.Nodes.{IsTree, IsTree-nil, IsTree-with_file, broken_put}
 use Rattle.attr_records.specs.Items.{is_dir, is_large}
 use Rattle.office_model.specs.declared.session.SessionName.{SessionName}
 use Rattle.office_model.specs.declared.event.Event.{Event}
@@ -111,7 +111,7 @@ IsSound-with_file_put office place path bytes dump sound at rule = subst IsSound
           hosts = sound.hosts;
           names_differ = sound.names_differ;
           dumps = λ i other e. at_other i other (AtEach-set (IsSoundDump office) office.dumps place (dump_with_file dump path bytes) sound.dumps
-              (record { this_epoch = was.this_epoch; given_out = was.given_out; has_number = was.has_number; has_host = was.has_host; tree = IsTree-with_node dump.tree path (plain_file bytes) was.tree rule }) i other e);
+              (record { this_epoch = was.this_epoch; given_out = was.given_out; has_number = was.has_number; has_host = was.has_host; tree = IsTree-with_file dump.tree path bytes was.tree rule }) i other e);
           one_dump_a_host = Differ-set (λ (d : Dump). d.host) office.dumps place dump (dump_with_file dump path bytes) at refl sound.one_dump_a_host;
           sessions_differ = Differ-set (λ (d : Dump). d.name) office.dumps place dump (dump_with_file dump path bytes) at refl sound.sessions_differ;
         }

@@ -1,18 +1,21 @@
 -- The office in memory after an event.
-use Rattle.std.proofs.Common.{◌≡◌, ℕ, ◌+◌, ◌-◌, ◌^◌, ◌<◌, List, [], ◌∷◌, ◌++◌, length, Option, None, Some, refl, sym, ap, ◌∙◌, subst, arith, slice_get, slice_set, unwrap_or, is_some, if◌then◌else◌, zero, suc, get_or}
+use Rattle.std.proofs.Common.{◌≡◌, ℕ, ◌+◌, ◌-◌, ◌^◌, ◌<◌, ◌≤◌, List, [], ◌∷◌, ◌++◌, length, Option, None, Some, refl, sym, ap, ◌∙◌, subst, arith, slice_get, slice_set, unwrap_or, is_some, if◌then◌else◌, zero, suc, get_or, take, drop, length-append}
 use Rattle.office_model.specs.declared.session.SessionName.{SessionName}
 use Rattle.office_model.specs.declared.event.Event.TheVariants.{AddHost, OpenDump, Put, Commit}
 use Rattle.office_model.specs.declared.event.Kind.TheVariants.{Full}
 use Rattle.std.specs.List.{remove}
 use Rattle.std.specs.Option.{option_map_or, option_and_then}
-use Rattle.std.proofs.lemmas.Option.{get_or_from_slice_get}
+use Rattle.std.proofs.lemmas.Option.{get_or_from_slice_get, slice_get_within, same_Some, slice_get_read}
+use Rattle.disk_trait.specs.declared.ids.FileId.TheVariants.{Table}
+use Rattle.attr_records.specs.Items.{Tree}
+use Rattle.office_store.specs.Layout.{table_file, head_file}
 use Rattle.attr_records.specs.Trees.{with_node}
-use Rattle.office_model.specs.Office.{Office, Host, Backup, Dump, IsSound, host_place, dump_place, dump_named, number_limit}
+use Rattle.office_model.specs.Office.{Office, Host, Backup, Dump, IsSound, host_place, dump_place, dump_named, number_limit, host_limit}
 use Rattle.office_model.specs.declared.event.Rule.TheVariants.{NoSession}
 use Rattle.office_model.specs.Rules.{broken_rule, plain_file}
 use Rattle.office_model.specs.Step.{after, next_session, next_number, with_dump, with_file_put, with_dump_committed, with_backup}
 use Rattle.office_model.specs.Soundness.{IsSound-after, host_of_dump, with_dump_committed-at}
-use Rattle.office_store.specs.Lives.{dumps_with_file, MayCommit, Commits}
+use Rattle.office_store.specs.Lives.{dumps_with_file, MayCommit, Commits, IsCommitFiles}
 
 pub sound_with_host : (office office' : Office) (name name' : List ℕ) (host : Host) (hosts : List Host) → IsSound office → office ≡ office'
     → broken_rule office' (AddHost name) ≡ None → host ≡ record { name = name'; backups = [] } → name' ≡ name → hosts ≡ office.hosts ++ host ∷ []
@@ -61,6 +64,8 @@ pub record Committing (office : Office) (session : SessionName) (place : ℕ) : 
   pub host : Host
   pub is_host : slice_get office.hosts dump.host ≡ Some host
   pub has_number : length host.backups < number_limit
+  pub few_files : length dump.tree < 2 ^ 32
+  pub few_hosts : length office.hosts ≤ host_limit
 
 named : (dumps : List Dump) (session : SessionName) → (if is_some (dump_named dumps session) then None else Some NoSession) ≡ None
     → (dump : Dump) × (slice_get dumps (unwrap_or (dump_place dumps session) 0) ≡ Some dump) × (dump_named dumps session ≡ Some dump)
@@ -81,10 +86,11 @@ committing office office' session now place sound view rule place_is =
     let found = named office.dumps session rule in
     let is_dump : slice_get office.dumps place ≡ Some found.0 = ap (slice_get office.dumps) place_is ∙ found.1 in
     let host = host_of_dump office place found.0 sound is_dump in
-    record { place_is = place_is; dump = found.0; is_dump = is_dump; named = found.2; host = host.0; is_host = host.1; has_number = host.2 }
+    let few : length found.0.tree < 2 ^ 32 = let most = (sound.dumps place found.0 is_dump).tree.few in omega arith in
+    record { place_is = place_is; dump = found.0; is_dump = is_dump; named = found.2; host = host.0; is_host = host.1; has_number = host.2; few_files = few; few_hosts = sound.few_hosts }
 
 pub may_commit : (office : Office) (session : SessionName) (place : ℕ) → Committing office session place → MayCommit office.hosts office.dumps place
-may_commit office session place c = record { dump = c.dump; is_dump = c.is_dump; host = c.host; is_host = c.is_host; has_number = c.has_number }
+may_commit office session place c = record { dump = c.dump; is_dump = c.is_dump; host = c.host; is_host = c.is_host; has_number = c.has_number; few_files = c.few_files; few_hosts = c.few_hosts }
 
 pub after_commit : (office : Office) (session : SessionName) (place now number : ℕ) (hosts : List Host) (dumps : List Dump) → Committing office session place
     → Commits office.hosts office.dumps hosts dumps place now number → record office { hosts = hosts; dumps = dumps } ≡ after office (Commit session now)
@@ -126,3 +132,54 @@ commits_of hosts dumps dumps' place now h dump dump' host host' backups dump_is 
   where
     ap2 : {d d' : Dump} {k k' : Host} → d ≡ d' → k ≡ k' → slice_set hosts d.host (with_backup k d now) ≡ slice_set hosts d'.host (with_backup k' d' now)
     ap2 {d} {d'} {k} {k'} p q = ap (λ x. slice_set hosts x.host (with_backup k x now)) p ∙ ap (λ y. slice_set hosts d'.host (with_backup y d' now)) q
+
+set-parts : {A : Type 0} (xs : List A) (i : ℕ) (x : A) → i < length xs → slice_set xs i x ≡ take i xs ++ x ∷ drop (i + 1) xs
+set-parts [] i x h = absurd (omega arith)
+set-parts (y ∷ ys) zero x h = refl
+set-parts (y ∷ ys) (suc i) x h =
+    let one_more : suc i + 1 ≡ suc (i + 1) = omega arith in
+    let inside : i < length ys = omega arith in
+    rw one_more (ap (λ zs. y ∷ zs) (set-parts ys i x inside))
+
+pub commit_files_of : (epoch : ℕ) (hosts : List Host) (dumps : List Dump) (place now h : ℕ) (dump : Dump) (host : Host) (backups : List Backup)
+    (start : ℕ) (tree : Tree) (name : List ℕ) (table_bytes head_bytes : List ℕ) (before after : List Host)
+    → slice_get dumps place ≡ Some dump → h ≡ dump.host → slice_get hosts h ≡ Some host → backups ≡ host.backups
+    → start ≡ dump.start → tree ≡ dump.tree → name ≡ host.name
+    → table_bytes ≡ table_file start now tree
+    → before ≡ take h hosts → after ≡ drop (h + 1) hosts
+    → ((k : Host) → k.name ≡ name → length k.backups ≡ length backups + 1 → head_bytes ≡ head_file epoch (before ++ k ∷ after))
+    → IsCommitFiles epoch hosts dumps place now (Table h (length backups)) table_bytes head_bytes
+commit_files_of epoch hosts dumps place now h dump host backups start tree name table_bytes head_bytes before after is_dump h_is is_host backups_are start_is tree_is name_is table before_is after_is head =
+    record { each = λ d k e f.
+      let same_dump : dump ≡ d = same_Some dump d (sym is_dump ∙ e) in
+      let same_host : host ≡ k = same_Some host k (sym is_host ∙ ap (slice_get hosts) (h_is ∙ ap (λ x. x.host) same_dump) ∙ f) in
+      let place_is : h ≡ d.host = h_is ∙ ap (λ x. x.host) same_dump in
+      let count : length backups ≡ length k.backups = ap length backups_are ∙ ap (λ x. length x.backups) same_host in
+      let table_is : Table h (length backups) ≡ Table d.host (length k.backups) = ap (λ n. Table n (length backups)) place_is ∙ ap (Table d.host) count in
+      let bytes_are : table_bytes ≡ table_file d.start now d.tree =
+          table ∙ ap (λ s. table_file s now tree) (start_is ∙ ap (λ x. x.start) same_dump) ∙ ap (table_file d.start now) (tree_is ∙ ap (λ x. x.tree) same_dump) in
+      let inside : h < length hosts = slice_get_within hosts h host is_host in
+      let longer : length (with_backup k d now).backups ≡ length backups + 1 = omega (arith, length-append k.backups ((record { start = d.start; end = now; tree = d.tree }) ∷ []), count) in
+      let head_is : head_bytes ≡ head_file epoch (slice_set hosts d.host (with_backup k d now)) =
+          head (with_backup k d now) (sym (name_is ∙ ap (λ x. x.name) same_host)) longer
+          ∙ ap (λ hs. head_file epoch (hs ++ with_backup k d now ∷ after)) before_is ∙ ap (λ hs. head_file epoch (take h hosts ++ with_backup k d now ∷ hs)) after_is
+          ∙ ap (head_file epoch) (sym (set-parts hosts h (with_backup k d now) inside) ∙ ap (λ n. slice_set hosts n (with_backup k d now)) place_is) in
+      (table_is, bytes_are, head_is) }
+
+pub commit_files_at : (epoch : ℕ) (hosts : List Host) (dumps : List Dump) (place now h : ℕ) (dump : Dump) (host : Host) (backups : List Backup)
+    (start : ℕ) (tree : Tree) (name : List ℕ) (table_bytes head_bytes : List ℕ) (before after : List Host) → MayCommit hosts dumps place
+    → dump ≡ get_or dumps place dump → h ≡ dump.host → host ≡ get_or hosts h host → backups ≡ host.backups
+    → start ≡ dump.start → tree ≡ dump.tree → name ≡ host.name
+    → table_bytes ≡ table_file start now tree
+    → before ≡ take h hosts → after ≡ drop (h + 1) hosts
+    → ((k : Host) → k.name ≡ name → length k.backups ≡ length backups + 1 → head_bytes ≡ head_file epoch (before ++ k ∷ after))
+    → IsCommitFiles epoch hosts dumps place now (Table h (length backups)) table_bytes head_bytes
+commit_files_at epoch hosts dumps place now h dump host backups start tree name table_bytes head_bytes before after may dump_is h_is host_is =
+    let same_dump : dump ≡ may.dump = dump_is ∙ get_or_from_slice_get dumps place may.dump dump may.is_dump in
+    let host_at : slice_get hosts h ≡ Some may.host = ap (slice_get hosts) (h_is ∙ ap (λ x. x.host) same_dump) ∙ may.is_host in
+    let same_host : host ≡ may.host = host_is ∙ get_or_from_slice_get hosts h may.host host host_at in
+    commit_files_of epoch hosts dumps place now h dump host backups start tree name table_bytes head_bytes before after
+      (may.is_dump ∙ ap Some (sym same_dump)) h_is (host_at ∙ ap Some (sym same_host))
+
+pub may_commit_slices : (hosts hosts' : List Host) (dumps dumps' : List Dump) (place : ℕ) → hosts' ≡ hosts → dumps' ≡ dumps → MayCommit hosts dumps place → MayCommit hosts' dumps' place
+may_commit_slices hosts hosts' dumps dumps' place h d may = rw (h, d) may

@@ -7,3 +7,6 @@
 mod layout;
 mod live;
 mod parts;
+mod store;
+
+pub use store::Store;

@@ -1,5 +1,5 @@
 ghost use Rattle.std.specs.Prelude.{◌≡◌, None, Some, IfOk, OnOk, OnErr};
-ghost use Rattle.office_store.specs.Lives.{dumps_with_file, MayCommit, Commits};
+ghost use Rattle.office_store.specs.Lives.{dumps_with_file, MayCommit, Commits, IsCommitFiles};
 ghost use Rattle.office_model.specs.Office.{host_place, dump_place, dump_of_host};
 ghost use Rattle.office_model.specs.Rules.{rule_of_put};
 
@@ -7,10 +7,11 @@ use std::alloc::{AllocError, Global};
 use std::marker::Model;
 
 use attr_records::{HostName, Item, PathName, PutRule};
-use disk_trait::Bytes;
+use disk_trait::{Bytes, FileId};
 use office_model::{Event, Rule, SessionName};
 use stream_traits::Moment;
 
+use crate::layout::{head_file, table_file};
 use crate::parts::{Dump, Host};
 
 /// The place of the host of this name in order of adding.
@@ -76,6 +77,34 @@ fn commit_at(alloc: Global, hosts: &mut Vec<Host>, dumps: &mut Vec<Dump>, place:
     }
     dumps.remove(place);
     Ok(number)
+}
+
+/// What a commit writes: the table of the new backup, and Head.
+#[derive(Drop)]
+pub(crate) struct CommitFiles {
+    pub(crate) table: FileId,
+    pub(crate) table_bytes: Vec<u8>,
+    pub(crate) head_bytes: Vec<u8>,
+}
+
+/// What a commit of the dump at this place writes.
+fn commit_files(alloc: Global, epoch: u64, hosts: &[Host], dumps: &[Dump], place: usize, now: Moment) -> Result<CommitFiles, AllocError>
+    requires { MayCommit hosts.now dumps.now place }
+    ensures { IfOk result (λ files. IsCommitFiles epoch hosts.now dumps.now place now files.table files.table_bytes.items files.head_bytes.items) }
+{
+    let dump = &dumps[place];
+    let at = dump.host();
+    let host = &hosts[at];
+    let number = host.backups().len();
+    let table_bytes = table_file(alloc, dump.start(), now, dump.tree())?;
+    let (before, _) = hosts.split_at(at);
+    let (_, after) = hosts.split_at(at + 1);
+    let head_bytes = head_file(alloc, epoch, before, host.name(), number + 1, after)?;
+    Ok(CommitFiles {
+        table: FileId::Table(at as u32, number as u32),
+        table_bytes,
+        head_bytes,
+    })
 }
 
 /// The office in memory, with whole trees: what a store is at any moment, beside its disk.
@@ -212,12 +241,13 @@ impl LiveOffice {
 
 /// What events do.
 impl LiveOffice {
-    ghost use Rattle.std.specs.Prelude.{◌≡◌, IfOk, OnOk, OnErr, None, []};
+    ghost use Rattle.std.specs.Prelude.{◌≡◌, IfOk, OnOk, OnErr, None, [], unwrap_or};
+    ghost use Rattle.office_store.specs.Layout.{head_file};
     ghost use Rattle.office_model.specs.declared.event.Event.TheVariants.{AddHost, OpenDump, Put, Commit, ReadFile};
     ghost use Rattle.office_model.specs.declared.event.Kind.TheVariants.{Full};
     ghost use Rattle.office_model.specs.Rules.{broken_rule};
     ghost use Rattle.office_model.specs.Step.{after, next_session, next_number, content_of};
-    ghost use Rattle.office_model.specs.Office.{host_named, dump_named};
+    ghost use Rattle.office_model.specs.Office.{host_named, dump_named, dump_place};
 
     /// An office without hosts at this epoch.
     pub(crate) fn new(alloc: Global, epoch: u64) -> LiveOffice
@@ -294,5 +324,23 @@ impl LiveOffice {
             Some(Item::Dir { attr: _ }) => Ok(Bytes::new(alloc)),
             Some(Item::Link { attr: _, target: _ }) => Ok(Bytes::new(alloc)),
         }
+    }
+
+    /// Head as it will be with this host.
+    pub(crate) fn head_with_host(&self, alloc: Global, name: &HostName) -> Result<Vec<u8>, AllocError>
+        ensures { IfOk result (λ bytes. bytes.items ≡ head_file self.now.epoch (after self.now (AddHost name.now)).hosts) }
+    {
+        let bytes = head_file(alloc, self.epoch, &self.hosts, name, 0, &[])?;
+        Ok(bytes)
+    }
+
+    /// What a commit of this dump writes.
+    pub(crate) fn commit_files(&self, alloc: Global, session: SessionName, now: Moment) -> Result<CommitFiles, AllocError>
+        requires { broken_rule self.now (Commit session now) ≡ None }
+        ensures { IfOk result (λ files. IsCommitFiles self.now.epoch self.now.hosts self.now.dumps (unwrap_or (dump_place self.now.dumps session) 0) now files.table files.table_bytes.items files.head_bytes.items) }
+    {
+        let place = dump_place(&self.dumps, session).unwrap_or(0);
+        let files = commit_files(alloc, self.epoch, &self.hosts, &self.dumps, place, now)?;
+        Ok(files)
     }
 }
