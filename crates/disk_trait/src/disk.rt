@@ -46,8 +46,8 @@ impl Error for DiskError {}
 ///
 /// Contracts know what a disk's files are where the disk tells them (`files`, `None` where it
 /// doesn't), and how many of its calls failed (`fault_count`, which never falls and stands still at
-/// `u64::MAX`). A worker may take a disk into its thread.
-pub trait Disk: Send {
+/// `u64::MAX`). A function that takes a disk into a thread asks for `D: Disk + Send`.
+pub trait Disk {
     ghost files: { Self → Option Files };
 
     ghost fault_count: { Self → ℕ };

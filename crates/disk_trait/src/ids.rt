@@ -1,4 +1,7 @@
-ghost use Rattle.std.specs.Prelude.{◌≡◌};
+ghost use Rattle.std.specs.Prelude.{◌≡◌, Some};
+ghost use Rattle.disk_trait.specs.Names.{real_name};
+
+use std::fmt;
 
 /// The name of a content in the pool: its digest, and a number that tells contents of one digest apart.
 #[derive(Clone, Copy, Debug, PartialEq, Eq, PartialOrd, Ord)]
@@ -30,6 +33,18 @@ impl FileId {
                 host == other_host && number == other_number
             }
             _ => false,
+        }
+    }
+}
+
+/// The file's real name, under which a folder has it.
+impl fmt::Display for FileId {
+    ghost output = { λ file. Some (real_name file) };
+
+    fn fmt<W: fmt::Write>(&self, f: &mut fmt::Formatter<W>) -> fmt::Result {
+        match self {
+            FileId::Head => write!(f, "head"),
+            FileId::Table(host, number) => write!(f, "table-{host}-{number}"),
         }
     }
 }

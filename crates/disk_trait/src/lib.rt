@@ -8,7 +8,9 @@
 mod bytes;
 mod disk;
 mod ids;
+mod memory;
 
 pub use bytes::Bytes;
 pub use disk::{Disk, DiskError, Failed};
 pub use ids::{FileId, PoolId};
+pub use memory::{DiskRoom, MemoryDisk};

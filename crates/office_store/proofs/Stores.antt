@@ -1,24 +1,25 @@
 -- What a store at work does, as its clauses say it.
-use Rattle.std.proofs.Common.{◌≡◌, ℕ, Bool, true, false, List, Option, None, Some, Result, Ok, Err, refl, sym, ap, ◌∙◌, subst, inl, inr, unwrap_or}
+use Rattle.std.specs.Option.{ForSome}
+use Rattle.std.proofs.Common.{◌≡◌, ℕ, ◌≤◌, [], arith, Bool, true, false, List, Option, None, Some, Result, Ok, Err, refl, sym, ap, ◌∙◌, subst, inl, inr, unwrap_or}
 use Rattle.fault_counts.specs.Counts.{Counted}
 use Rattle.disk_trait.specs.declared.ids.FileId.{FileId}
 use Rattle.disk_trait.specs.declared.ids.FileId.TheVariants.{Head}
 use Rattle.disk_trait.specs.declared.disk.Disk.{Ghosts}
-use Rattle.disk_trait.specs.Files.{Files, rewritten}
+use Rattle.disk_trait.specs.Files.{Files, rewritten, with_file, is_same_file-itself}
 use Rattle.office_model.specs.declared.session.SessionName.{SessionName}
 use Rattle.office_model.specs.declared.event.Event.{Event}
 use Rattle.office_model.specs.declared.event.Event.TheVariants.{AddHost, Commit}
 use Rattle.office_model.specs.declared.event.Answer.TheVariants.{Done, Committed}
 use Rattle.office_model.specs.declared.event.Refusal.TheVariants.{DiskFault}
-use Rattle.office_model.specs.Office.{Office, IsSound, durable, dump_place, dump_named}
+use Rattle.office_model.specs.Office.{Office, IsSound, durable, reopened, no_office, dump_place, dump_named}
 use Rattle.office_model.specs.Rules.{broken_rule}
 use Rattle.office_model.specs.Step.{Reply, State, Running, Stopped, IsOfficeStep, IsStep, IsSoundState, after, next_number}
 use Rattle.office_model.specs.History.{GoesOn}
-use Rattle.office_model.specs.Soundness.{IsSoundState-step}
+use Rattle.office_model.specs.Soundness.{IsSoundState-step, IsSound-durable, IsSound-reopened, IsSound-no_office}
 use Rattle.office_store.specs.Layout.{head_file}
 use Rattle.office_store.specs.Lives.{IsCommitFiles}
 use Rattle.office_store.specs.declared.store.Store.{Store}
-use Rattle.office_store.specs.Kept.{Tells, IsRunning, IsStopped, InState, IsAt, Works, Serves}
+use Rattle.office_store.specs.Kept.{IsHeadOf, StandsFor, Opens, Tells, IsRunning, IsStopped, InState, IsAt, Works, Serves}
 use Rattle.office_store.proofs.Lives.{committing}
 use Rattle.office_store.proofs.Stands.{tells_added, tells_committed}
 
@@ -80,3 +81,43 @@ serves {D} {d} old event reply new ready works = record {
         (works.next, record { step = step; sound = sound; later = works.counted.later; cause = works.counted.rose },
           in_state new works.next works.at sound (λ going. works.keeps going sound_old tells_old))
     steps (Stopped before next) at = let h = at.halted in cc
+
+stands_opened : (files : Files) (head : List ℕ) → head ≡ head_file 1 [] → StandsFor (with_file files Head head) (durable (reopened no_office))
+stands_opened files head head_is = record {
+  head = rw (is_same_file-itself Head) head_is;
+  tables = λ h n host backup e f. cc;
+  durable = refl;
+  sound = IsSound-durable (reopened no_office) (IsSound-reopened no_office IsSound-no_office);
+}
+
+pub opens : {D : Type 0} {d : Ghosts D} (disk read : D) (store : Store D d) (head slice : List ℕ) {failed failed' : Type 0}
+    → ForSome (d.files disk) (λ all. None ≡ all Head) → d.files read ≡ d.files disk → Counted (d.fault_count disk) (d.fault_count read) failed
+    → store.halted ≡ false → store.office ≡ record { epoch = 1; hosts = []; dumps = []; sequence = 0 }
+    → slice ≡ head → head ≡ head_file 1 []
+    → d.files store.disk ≡ rewritten (d.files read) Head slice → Counted (d.fault_count read) (d.fault_count store.disk) failed'
+    → Opens disk store
+opens {d = d} disk read store head slice absent same counted ready office slice_is head_is written counted' = record {
+  absent = absent_is (d.files disk) absent;
+  running = λ before tells.
+      let none : before ≡ no_office = first before tells.all (tells.all Head) (absent tells.all tells.told) tells.stands.head in
+      record {
+        ready = ready;
+        office_is = office ∙ ap reopened (sym none);
+        sound = IsSound-reopened before tells.stands.sound;
+        tells = record {
+          all = with_file tells.all Head slice;
+          told = written ∙ ap (λ o. rewritten o Head slice) (same ∙ tells.told);
+          stands = subst (λ o. StandsFor (with_file tells.all Head slice) (durable (reopened o))) (sym none) (stands_opened tells.all slice (slice_is ∙ head_is));
+        };
+      };
+  ready = ready;
+  office = office;
+  later = let m = counted.later in let n = counted'.later in omega arith;
+}
+  where
+    absent_is : (told : Option Files) → ForSome told (λ all. None ≡ all Head) → ForSome told (λ all. all Head ≡ None)
+    absent_is None h = λ all e. cc
+    absent_is (Some all) h = λ other e. sym (h other e)
+    first : (before : Office) (all : Files) (head : Option (List ℕ)) → None ≡ head → IsHeadOf head before → before ≡ no_office
+    first before all None e h = h
+    first before all (Some bytes) e h = cc

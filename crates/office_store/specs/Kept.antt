@@ -1,13 +1,16 @@
 -- What a store keeps: the disk's files stand for the office, and the store has the office in memory.
-use Rattle.std.specs.Prelude.{◌≡◌, ℕ, ◌≤◌, Bool, true, false, List, [], Option, Some, None, Result, Ok, Err, slice_get, IsSome, ◌⊎◌}
+use Rattle.std.specs.Prelude.{◌≡◌, ◌≢◌, ℕ, ◌≤◌, Bool, true, false, List, [], Option, Some, None, Result, Ok, Err, slice_get, IsSome, ◌⊎◌}
+use Rattle.std.specs.Option.{ForSome}
 use Rattle.fault_counts.specs.Counts.{Rose, Counted}
+use Rattle.office_store.specs.declared.open.OpenFault.{OpenFault}
+use Rattle.office_store.specs.declared.open.OpenFault.TheVariants.{Foreign, Disk, Memory}
 use Rattle.disk_trait.specs.declared.ids.FileId.{FileId}
 use Rattle.disk_trait.specs.declared.ids.FileId.TheVariants.{Head, Table}
 use Rattle.disk_trait.specs.declared.disk.Disk.{Ghosts}
 use Rattle.disk_trait.specs.Files.{Files}
 use Rattle.office_model.specs.declared.event.Event.{Event}
 use Rattle.office_model.specs.declared.event.Refusal.TheVariants.{Halted, DiskFault}
-use Rattle.office_model.specs.Office.{Office, Host, Backup, IsSound, durable, no_office}
+use Rattle.office_model.specs.Office.{Office, Host, Backup, IsSound, durable, no_office, reopened}
 use Rattle.office_model.specs.Step.{Reply, Call, State, Running, Stopped, IsOfficeStep}
 use Rattle.office_model.specs.History.{GoesOn, Leads}
 use Rattle.office_store.specs.Layout.{head_file, table_file}
@@ -81,3 +84,24 @@ pub record Moves {D : Type 0} {d : Ghosts D} (old : Store D d) (calls : List Cal
       → (next : State) × Leads state (d.fault_count old.disk) calls next (d.fault_count new.disk) × InState new next
   pub later : d.fault_count old.disk ≤ d.fault_count new.disk
   pub stops : new.halted ≡ true → (old.halted ≡ true) ⊎ Rose (d.fault_count old.disk) (d.fault_count new.disk)
+
+-- A store was opened on a disk: Head was absent, the office is the one before any opening with its epoch raised, and where the
+-- disk told its files, it stands for it now.
+pub record Opens {D : Type 0} {d : Ghosts D} (disk : D) (store : Store D d) : Type 0 where
+  pub absent : ForSome (d.files disk) (λ all. all Head ≡ None)
+  pub running : (office : Office) → Tells d.files disk office → IsRunning store (reopened office)
+  pub ready : store.halted ≡ false
+  pub office : store.office ≡ reopened no_office
+  pub later : d.fault_count disk ≤ d.fault_count store.disk
+
+-- why a disk was refused: Head is there, with the bytes found
+abbrev pub IsCause : OpenFault → Option Files → Type 0
+IsCause (Foreign file found) told = (file ≡ Head) × IsSome found × ForSome told (λ all. found ≡ all Head)
+IsCause Disk told = Unit {0}
+IsCause Memory told = Unit {0}
+
+-- A disk was refused and is handed back: its files are as they were, but where it failed.
+pub record Refuses {D : Type 0} (files : D → Option Files) (faults : D → ℕ) (disk disk' : D) (fault : OpenFault) : Type 0 where
+  pub cause : IsCause fault (files disk)
+  pub same : fault ≢ Disk → files disk' ≡ files disk
+  pub counted : Counted (faults disk) (faults disk') (fault ≡ Disk)

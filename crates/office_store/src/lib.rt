@@ -6,7 +6,11 @@
 #[tactic(auto, unfolding(crate::specs::Layout::host_line, crate::specs::Layout::head_start, crate::specs::Layout::file_line, crate::specs::Layout::table_start))]
 mod layout;
 mod live;
+mod open;
 mod parts;
+mod port;
 mod store;
 
+pub use open::{OpenFault, OpenRefused};
+pub use port::DirectPort;
 pub use store::Store;

@@ -1,15 +1,17 @@
-ghost use Rattle.std.specs.Prelude.{◌≡◌, ⊤, IsErr, OnOk};
+ghost use Rattle.std.specs.Prelude.{◌≡◌, ⊤, Some, IsErr, OnOk};
 ghost use Rattle.fault_counts.specs.Counts.{Counted};
 ghost use Rattle.disk_trait.specs.Files.{rewritten};
 
 use std::alloc::Global;
 
 use attr_records::HostName;
-use disk_trait::{Disk, Failed, FileId};
+use disk_trait::{Bytes, Disk, DiskError, Failed, FileId};
 use office_model::{Answer, Event, Refusal, SessionName};
 use stream_traits::Moment;
 
+use crate::layout::first_head_file;
 use crate::live::{CommitFiles, LiveOffice};
+use crate::open::{OpenFault, OpenRefused};
 
 /// Writes a file and makes it durable.
 fn keep_file<D: Disk>(disk: &mut D, file: FileId, bytes: &[u8]) -> Result<(), Failed>
@@ -41,6 +43,16 @@ fn keep_commit<D: Disk>(disk: &mut D, files: &CommitFiles) -> Result<(), Failed>
     }
 }
 
+/// The refusal of a Head that is there.
+fn foreign_head(found: Bytes) -> OpenFault
+    ensures { result ≡ OpenFault.Foreign FileId.Head (Some found) }
+{
+    OpenFault::Foreign {
+        file: FileId::Head,
+        found: Some(found),
+    }
+}
+
 /// An office on a disk.
 ///
 /// The committed trees and those of open dumps stay in memory, and reads are answered from there. A
@@ -55,11 +67,61 @@ pub struct Store<D: Disk> {
 }
 
 impl<D: Disk> Store<D> {
-    ghost use Rattle.std.specs.Prelude.{false, true, None, IfOk};
+    ghost use Rattle.std.specs.Prelude.{false, true, None, IfOk, IfErr};
     ghost use Rattle.office_model.specs.declared.event.Event.TheVariants.{AddHost, Commit};
     ghost use Rattle.office_model.specs.Rules.{broken_rule};
     ghost use Rattle.office_model.specs.Step.{IsAnswerTo};
-    ghost use Rattle.office_store.specs.Kept.{Serves, Works};
+    ghost use Rattle.office_store.specs.Kept.{Serves, Works, Opens, Refuses};
+
+    /// Opens the store of a disk, with the epoch raised. In this layout no Head is taken that is
+    /// there: the disk of an earlier opening is refused as Foreign, untouched.
+    pub fn open(alloc: Global, disk: D) -> Result<Store<D>, OpenRefused<D>>
+        ensures opened { IfOk result (Opens disk) }
+        ensures refused { IfErr result (λ refused. Refuses D.files D.fault_count disk refused.disk refused.fault) }
+    {
+        let mut disk = disk;
+        match disk.read(alloc, FileId::Head) {
+            Ok(None) => {}
+            Ok(Some(found)) => return Err(OpenRefused { disk, fault: foreign_head(found) }),
+            Err(DiskError::Failed) => return Err(OpenRefused { disk, fault: OpenFault::Disk }),
+            Err(DiskError::Memory) => return Err(OpenRefused { disk, fault: OpenFault::Memory }),
+        }
+        let head = match first_head_file(alloc, 1) {
+            Ok(head) => head,
+            Err(_) => return Err(OpenRefused { disk, fault: OpenFault::Memory }),
+        };
+        match keep_file(&mut disk, FileId::Head, head.as_slice()) {
+            Ok(()) => {}
+            Err(Failed) => return Err(OpenRefused { disk, fault: OpenFault::Disk }),
+        }
+        Ok(Store {
+            disk,
+            office: LiveOffice::new(alloc, 1),
+            halted: false,
+        })
+    }
+
+    /// The disk.
+    pub fn close(self) -> D
+        ensures { result ≡ self.disk }
+    {
+        let Store { disk, office: _, halted: _ } = self;
+        disk
+    }
+
+    /// How many of the disk's calls failed.
+    pub fn faults(&self) -> u64
+        ensures { result ≡ D.fault_count self.now.disk }
+    {
+        self.disk.faults()
+    }
+
+    /// Whether a fault of the disk has halted the store.
+    pub fn halted(&self) -> bool
+        ensures { result ≡ self.now.halted }
+    {
+        self.halted
+    }
 
     /// Carries out one event, as one step of the office.
     pub fn apply(&mut self, alloc: Global, event: &Event) -> Result<Answer, Refusal>

@@ -1,0 +1,34 @@
+use std::error::Error;
+use std::fmt;
+
+use disk_trait::{Bytes, Disk, FileId};
+
+/// Why a store wasn't opened.
+#[derive(Debug, Drop)]
+pub enum OpenFault {
+    /// A file of the store that isn't taken: its name, and the bytes found.
+    Foreign { file: FileId, found: Option<Bytes> },
+    /// The disk failed; its count of faults rose.
+    Disk,
+    /// There was no memory.
+    Memory,
+}
+
+impl fmt::Display for OpenFault {
+    fn fmt<W: fmt::Write>(&self, f: &mut fmt::Formatter<W>) -> fmt::Result {
+        match self {
+            OpenFault::Foreign { file, found: _ } => write!(f, "foreign {file}"),
+            OpenFault::Disk => write!(f, "the disk failed"),
+            OpenFault::Memory => write!(f, "no memory"),
+        }
+    }
+}
+
+impl Error for OpenFault {}
+
+/// A disk on which no store was opened, handed back.
+#[derive(Drop)]
+pub struct OpenRefused<D: Disk> {
+    pub disk: D,
+    pub fault: OpenFault,
+}
