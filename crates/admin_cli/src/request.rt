@@ -21,11 +21,24 @@ impl Model for SessionText {
 /// What a request's line asks.
 #[derive(Debug, Drop)]
 pub enum Ask {
-    AddHost { host: HostName },
-    OpenDump { host: HostName },
-    Put { dump: SessionText, path: PathName },
-    Commit { dump: SessionText },
-    ReadFile { host: HostName, number: u32, path: PathName },
+    AddHost {
+        host: HostName,
+    },
+    OpenDump {
+        host: HostName,
+    },
+    Put {
+        dump: SessionText,
+        path: PathName,
+    },
+    Commit {
+        dump: SessionText,
+    },
+    ReadFile {
+        host: HostName,
+        number: u32,
+        path: PathName,
+    },
 }
 
 /// A request's head: what it asks, the length of its body where it names one, and whether it is the
@@ -53,9 +66,26 @@ impl Head {
     {
         match self.ask {
             Ask::AddHost { host } => Event::AddHost { host },
-            Ask::OpenDump { host } => Event::OpenDump { host, kind: Kind::Full, now: moment },
-            Ask::Put { dump: _, path } => Event::Put { dump: SessionName { epoch: 0, sequence: 0 }, path, bytes: body },
-            Ask::Commit { dump: _ } => Event::Commit { dump: SessionName { epoch: 0, sequence: 0 }, now: moment },
+            Ask::OpenDump { host } => Event::OpenDump {
+                host,
+                kind: Kind::Full,
+                now: moment,
+            },
+            Ask::Put { dump: _, path } => Event::Put {
+                dump: SessionName {
+                    epoch: 0,
+                    sequence: 0,
+                },
+                path,
+                bytes: body,
+            },
+            Ask::Commit { dump: _ } => Event::Commit {
+                dump: SessionName {
+                    epoch: 0,
+                    sequence: 0,
+                },
+                now: moment,
+            },
             Ask::ReadFile { host, number, path } => Event::ReadFile { host, number, path },
         }
     }
