@@ -2,7 +2,7 @@
 use Rattle.std.proofs.Common.{◌≡◌, ℕ, ◌+◌, ◌<◌, ◌==◌, Bool, true, false, ◌||◌, not, List, [], ◌∷◌, ◌++◌, length, Option, Some, None, refl, sym, ap, ◌∙◌, subst, inl, inr, suc, append_assoc, append-nil, length-append, arith}
 use Rattle.std.specs.Option.{ForSome}
 use Rattle.std.proofs.lemmas.Bool.Decides.{nat_tests}
-use Rattle.stream_traits.specs.Told.{before, behind, IsEnd, IsShort, behind_nil, behind_append, before_nil, before_append}
+use Rattle.stream_traits.specs.Told.{before, behind, IsShort, behind_nil, behind_append, before_nil, before_append}
 use Rattle.stream_traits.specs.Moments.{first_moment, after_reading}
 use Rattle.office_model.specs.declared.event.Event.{Event}
 use Rattle.office_model.specs.Step.{Reply, Call}
@@ -12,7 +12,7 @@ use Rattle.admin_cli.specs.declared.connection.Request.{Request}
 use Rattle.admin_cli.specs.declared.request.Head.{Head}
 use Rattle.admin_cli.specs.Form.{head_bytes, body_length, IsHead, IsEventOf, EndsInHead}
 use Rattle.admin_cli.specs.Response.{response_to, is_not_built}
-use Rattle.admin_cli.specs.Talk.{Exchange, IsExchange, AreExchanges, Gave, GoOn, request_bytes, requests, responses, response_at, calls_of, moments_of, goes_on, is_last, is_memory, request_limit, final_list, Stops, StopsCalled, Talk, Converses}
+use Rattle.admin_cli.specs.Talk.{Exchange, AreExchanges, Gave, GoOn, request_bytes, requests, responses, response_at, calls_of, moments_of, goes_on, is_last, is_memory, request_limit, final_list, Stops, StopsCalled, Converses}
 use Rattle.admin_cli.specs.Serving.{ReadsRequest, EndsUncalled, EndsCalled, Responds, GoesOn, EndsAt, SoFar}
 
 -- what is told behind these bytes, where the whole is told
@@ -92,10 +92,11 @@ EndsAt-called moves old new left left' written written' written'' moments moment
       word = ends.word;
       wrote = ends.wrote ∙ ap (λ w. behind w ends.word) silent;
       stops = λ input is.
-          let t = told_after (request_bytes request.head request.body) left left' input read.reads is in
-          (t.0,
+          let t = told_after (request_bytes request.head request.body) left left' input read.reads is in (
+            t.0,
             t.2 ∙ ap (λ bytes. bytes ++ t.0) (sym (append-nil (request_bytes request.head request.body))),
-            subst (λ b. StopsCalled end event reply b ends.word) is_closes ends.stops);
+            subst (λ b. StopsCalled end event reply b ends.word) is_closes ends.stops,
+          );
     }
 
 requests-append : (xs ys : List Exchange) → requests (xs ++ ys) ≡ requests xs ++ requests ys
@@ -186,7 +187,7 @@ SoFar-more moves joined old now new left left' left'' written written' written''
       writes = goes.writes ∙ ap (λ w. behind w (response_at count x)) so_far.writes
           ∙ sym (behind_append written (responses 0 xs) (response_at count x))
           ∙ ap (behind written) (sym (responses-append 0 xs (x ∷ [])
-              ∙ ap (λ b. responses 0 xs ++ b) (append-nil (response_at (0 + length xs) x) ∙ ap (λ n. response_at n x) at_end)));
+          ∙ ap (λ b. responses 0 xs ++ b) (append-nil (response_at (0 + length xs) x) ∙ ap (λ n. response_at n x) at_end)));
     }
 
 -- the connection ends behind the exchanges so far
@@ -208,10 +209,10 @@ Converses-ends moves joined old now new left left' written written' written'' mo
           (Gave-append moments moments' moments'' (moments_of xs) (moments_of last) so_far.clock ends.clock);
       talk = λ input above is_input is_above.
           let t = told_after (requests xs) left left' input so_far.reads is_input in
-          let u = ends.stops t.0 t.1 in
-          (responses 0 xs ++ ends.word,
+          let u = ends.stops t.0 t.1 in (
+            responses 0 xs ++ ends.word,
             ends.wrote ∙ ap (λ w. behind w ends.word) (so_far.writes ∙ ap (λ w. behind w (responses 0 xs)) is_above)
-              ∙ ap Some (append_assoc above (responses 0 xs) ends.word),
+                ∙ ap Some (append_assoc above (responses 0 xs) ends.word),
             record {
               before = xs;
               final = ends.final;
@@ -223,5 +224,6 @@ Converses-ends moves joined old now new left left' written written' written'' mo
                   ∙ ap (λ b. b ++ u.0) (sym (requests-append xs last));
               stops = subst (λ n. Stops end u.0 n ends.final ends.word) (sym so_far.count_is) u.2;
               says = refl;
-            });
+            },
+          );
     }

@@ -1,5 +1,5 @@
 -- What the steps of a connection give: a request, an exchange, the exchanges so far.
-use Rattle.std.specs.Prelude.{◌≡◌, ℕ, ◌<◌, Bool, true, false, List, [], ◌∷◌, ◌++◌, length, Option, Some, None, ◌⊎◌}
+use Rattle.std.specs.Prelude.{◌≡◌, ℕ, ◌<◌, Bool, true, false, List, [], ◌∷◌, ◌++◌, length, Option, Some, ◌⊎◌}
 use Rattle.stream_traits.specs.Told.{before, behind, WroteFront}
 use Rattle.office_model.specs.declared.event.Event.{Event}
 use Rattle.office_model.specs.Step.{Reply, Call}

@@ -4,14 +4,13 @@ ghost use Rattle.admin_cli.specs.Response.{not_built_response, no_memory_respons
 ghost use Rattle.admin_cli.specs.Talk.{Converses, is_memory, request_limit};
 ghost use Rattle.admin_cli.specs.Serving.{ReadsRequest, SaysLast, EndsUncalled, EndsCalled, Responds, GoesOn, EndsAt};
 
+use crate::head::{HeadRead, read_head};
+use crate::request::Head;
+use crate::response::{send_no_memory, send_not_built, send_response};
 use disk_trait::Bytes;
 use office_model::{Answer, Event, Port, Refusal, Rule};
 use std::alloc::Global;
 use stream_traits::{Clock, Failed, Faults, Link, ReadFault, Sink, Source, read_exactly};
-
-use crate::head::{HeadRead, read_head};
-use crate::request::Head;
-use crate::response::{send_no_memory, send_not_built, send_response};
 
 /// How a connection ended.
 #[derive(Clone, Copy, Debug, PartialEq, Eq)]

@@ -3,10 +3,9 @@ ghost use Rattle.fault_counts.specs.Counts.{Counted};
 ghost use Rattle.stream_traits.specs.Told.{behind, WroteFront};
 ghost use Rattle.admin_cli.specs.Response.{response_to, content_of, not_built_response, no_memory_response};
 
+use crate::texts::{no_memory_text, not_built_text, response_text};
 use office_model::{Answer, Event, Refusal};
 use stream_traits::{Failed, Sink, write_all};
-
-use crate::texts::{no_memory_text, not_built_text, response_text};
 
 /// Writes the response to a reply and sends it on. It takes no memory: all but a file's bytes is put
 /// together in room that is there before. Where a call fails, a front of the response may be out.
@@ -87,4 +86,3 @@ fn content(reply: &Result<Answer, Refusal>) -> &[u8]
         Err(_) => b"",
     }
 }
-

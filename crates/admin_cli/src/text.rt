@@ -4,12 +4,12 @@ use itoa::Buffer;
 use std::marker::Model;
 
 /// The most bytes of a text.
-const ROOM: usize = 512;
+pub const ROOM: usize = 512;
 
 /// A text of at most 512 bytes, which takes no memory but its own room.
 #[derive(Drop)]
 pub struct Text {
-    bytes: [u8; 512],
+    bytes: [u8; ROOM],
     len: usize,
 }
 
@@ -45,7 +45,7 @@ impl Text {
 
     /// Puts bytes at the end.
     pub fn push(&mut self, bytes: &[u8])
-        requires { length self.old + length bytes.now ≤ 512 }
+        requires { length self.old + length bytes.now ≤ ROOM }
         ensures value { self.new ≡ self.old ++ bytes.now }
         ensures len { length self.new ≡ length self.old + length bytes.now }
     {
@@ -56,7 +56,7 @@ impl Text {
 
     /// Puts a number at the end, in decimal.
     pub fn push_number(&mut self, number: u64)
-        requires { length self.old + 20 ≤ 512 }
+        requires { length self.old + 20 ≤ ROOM }
         ensures value { self.new ≡ self.old ++ decimal number }
         ensures len { length self.new ≤ length self.old + 20 }
     {

@@ -3,10 +3,9 @@ ghost use Rattle.office_model.specs.Session.{session_text};
 ghost use Rattle.admin_cli.specs.Form.{close_line};
 ghost use Rattle.admin_cli.specs.Response.{response_head, response_bytes, json_response, json_pair, json_text, refused, real_name, damaged_body, done_response, rule_response, refusal_response, response_to, content_of, not_built_response, no_memory_response};
 
+use crate::text::{ROOM, Text};
 use disk_trait::{Bytes, FileId};
 use office_model::{Answer, Event, Refusal, Rule, SessionName};
-
-use crate::text::Text;
 
 /// The response to a reply, up to a file's bytes.
 pub fn response_text(event: &Event, reply: &Result<Answer, Refusal>, closes: bool) -> Text
@@ -49,7 +48,11 @@ fn empty_text(closes: bool) -> Text
 fn dump_text(session: SessionName, closes: bool) -> Text
     ensures { result ≡ json_response (codes "201 Created") (json_pair (codes "dump") (json_text (session_text session))) closes }
 {
-    json(b"201 Created", &named(b"dump", session_name(session).as_slice()), closes)
+    json(
+        b"201 Created",
+        &named(b"dump", session_name(session).as_slice()),
+        closes,
+    )
 }
 
 /// The response that gives a backup's number.
@@ -105,7 +108,9 @@ pub fn no_memory_text() -> Text
     ensures { result ≡ no_memory_response }
 {
     let mut text = Text::new();
-    text.push(b"HTTP/1.1 507 Insufficient Storage\r\nContent-Length: 0\r\nConnection: close\r\n\r\n");
+    text.push(
+        b"HTTP/1.1 507 Insufficient Storage\r\nContent-Length: 0\r\nConnection: close\r\n\r\n",
+    );
     text
 }
 
@@ -155,7 +160,7 @@ fn head(status: &[u8], kind: &[u8], size: usize, closes: bool) -> Text
 /// Puts the line that closes a connection, where it is wanted.
 #[tactic(auto, unfolding(crate::specs::Form::close_line))]
 fn push_close(text: &mut Text, closes: bool)
-    requires { length text.old + 19 ≤ 512 }
+    requires { length text.old + 19 ≤ ROOM }
     ensures value { text.new ≡ text.old ++ close_line closes }
     ensures len { length text.new ≤ length text.old + 19 }
 {
@@ -212,7 +217,7 @@ fn damaged(file: FileId) -> Text
 
 /// Puts the name that a file has in a folder.
 fn push_file(text: &mut Text, file: FileId)
-    requires { length text.old + 47 ≤ 512 }
+    requires { length text.old + 47 ≤ ROOM }
     ensures value { text.new ≡ text.old ++ real_name file }
     ensures len { length text.new ≤ length text.old + 47 }
 {

@@ -1,5 +1,4 @@
-use Rattle.std.proofs.Common.{◌≡◌, ◌∙◌}
-use Rattle.stream_traits.specs.Told.{IsShort}
+use Rattle.std.proofs.Common.{◌∙◌}
 use Rattle.admin_cli.proofs.TalkLemmas.{EndsUncalled-head, EndsUncalled-body}
 use Rattle.admin_cli.proofs.connection.read_request.Goals as goal
 
@@ -10,5 +9,5 @@ pub returns-in-Err-Ended-clause-ends : goal.returns-in-Err-Ended-clause-ends
 returns-in-Err-Ended-clause-ends g c =
     let whole = c.in-Whole.ensures.read in
     EndsUncalled-body _ _ _ _ c.in-Whole.head whole.0 whole.1
-      (rw (← c.body_length.ensures) (c.in-Err-Ended.ensures.ended c.in-Err-Ended.field-0-is))
-      (c.read_exactly.ensures.written ∙ c.read_head.ensures.written)
+    (rw (← c.body_length.ensures) (c.in-Err-Ended.ensures.ended c.in-Err-Ended.field-0-is))
+    (c.read_exactly.ensures.written ∙ c.read_head.ensures.written)

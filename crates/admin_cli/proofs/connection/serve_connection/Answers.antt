@@ -1,5 +1,5 @@
-use Rattle.std.proofs.Common.{rules, arith}
-use Rattle.admin_cli.proofs.TalkLemmas.{SoFar-none, SoFar-more, Converses-ends}
+use Rattle.std.proofs.Common.{arith}
+use Rattle.admin_cli.proofs.TalkLemmas.{SoFar-more, Converses-ends}
 use Rattle.admin_cli.proofs.connection.serve_connection.Goals as goal
 
 pub loop-place-preserved : goal.loop-place-preserved

@@ -1,4 +1,3 @@
-use Rattle.std.proofs.Common.{sym, subst, ◌≤◌, ℕ, List, length}
 use Rattle.admin_cli.proofs.NameLemmas.{length-host_name}
 use Rattle.admin_cli.proofs.texts.done_text.Goals as goal
 
