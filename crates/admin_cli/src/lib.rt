@@ -4,7 +4,11 @@
 mod connection;
 mod head;
 mod request;
+mod response;
+mod text;
+mod texts;
 
-pub use connection::End;
+pub use connection::{End, serve_connection};
 pub use head::{HeadRead, read_head};
 pub use request::{Ask, Head, SessionText};
+pub use response::{send_no_memory, send_not_built, send_response};
