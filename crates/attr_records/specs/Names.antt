@@ -3,11 +3,11 @@ use Rattle.std.specs.Prelude.{◌≡◌, ℕ, ◌==◌, nat_lt, nat_le, Bool, tr
 use Rattle.std.specs.List.{list_any, list_all}
 use Rattle.std.specs.Str.{is_utf8, IsAscii}
 use Rattle.std.specs.Cmp.{first_so, second_so}
-use Rattle.std.proofs.Common.{refl, sym, ap, ◌∙◌, ◌<◌, get_or, suc, zero, arith}
+use Rattle.std.proofs.Common.{refl, ap, ◌∙◌, ◌<◌, suc, zero, arith}
 use Rattle.std.proofs.lemmas.Bool.Decides.{nat_tests}
 use Rattle.std.proofs.lemmas.Str.{IsUtf8-from_ascii, is_utf8-from_IsUtf8}
 use Rattle.attr_records.specs.Paths.{components, joined}
-use Rattle.attr_records.specs.PathRules.{broken_path_rule, KeepsRules, no_rule_broken, has_nul, is_empty_component, is_dot_component, is_long_component}
+use Rattle.attr_records.specs.PathRules.{broken_path_rule, no_rule_broken, has_nul, is_empty_component, is_dot_component, is_long_component}
 
 -- a to z, 0 to 9
 abbrev pub is_letter_or_digit : ℕ → Bool
@@ -72,7 +72,7 @@ broken_path_rule-host text e =
     let short = first_so (nat_le (length text) 64) (list_all is_host_byte text) rest in
     let all = second_so (nat_le (length text) 64) (list_all is_host_byte text) rest in
     let one : (p : List ℕ → Bool) → p text ≡ false → list_any p (components text) ≡ false =
-        λ p h. ap (list_any p) (one_component text all) ∙ ap (λ b. b || false) h in
+    λ p h. ap (list_any p) (one_component text all) ∙ ap (λ b. b || false) h in
     no_rule_broken text (record {
       text = is_utf8-from_IsUtf8 text (IsUtf8-from_ascii text (ascii_text text all));
       some = not_empty text begins;
@@ -85,5 +85,6 @@ broken_path_rule-host text e =
   where
     within_4096 : (n : ℕ) → nat_le n 64 ≡ true → nat_lt 4096 n ≡ false
     within_4096 n h = grind (arith, nat_tests)
+
     within_255 : (n : ℕ) → nat_le n 64 ≡ true → nat_lt 255 n ≡ false
     within_255 n h = grind (arith, nat_tests)

@@ -110,7 +110,7 @@ pub broken_path_rule-directory : (directory name : List ℕ) → broken_path_rul
 broken_path_rule-directory directory name e =
     let kept = rules_kept (directory ++ 47 ∷ name) e in
     let parts : (p : List ℕ → Bool) → list_any p (components (directory ++ 47 ∷ name)) ≡ false → list_any p (components directory) ≡ false =
-        λ p h. none_in_front p (components directory) (components name) (sym (ap (list_any p) (components-joined directory name)) ∙ h) in
+    λ p h. none_in_front p (components directory) (components name) (sym (ap (list_any p) (components-joined directory name)) ∙ h) in
     no_rule_broken directory (record {
       text = text_in_front directory name kept.text;
       some = not_empty directory (parts is_empty_component kept.no_empty);

@@ -3,14 +3,13 @@
 --     components      what the slashes part
 --     parent      the directory that a path of several components lies in
 --     is_within      a path is the directory itself or lies below it
-use Rattle.std.specs.Prelude.{◌≡◌, ℕ, ◌+◌, ◌<◌, ◌==◌, Bool, true, false, ◌&&◌, List, [], ◌∷◌, ◌++◌, Option, Some, None, if◌then◌else◌, ◌⊎◌, not}
+use Rattle.std.specs.Prelude.{◌≡◌, ℕ, ◌+◌, ◌==◌, Bool, true, false, ◌&&◌, List, [], ◌∷◌, ◌++◌, Option, Some, None, if◌then◌else◌, ◌⊎◌}
 use Rattle.std.specs.declared.cmp.Ordering.{Ordering}
-use Rattle.std.specs.declared.cmp.Ordering.TheVariants.{Less, Equal, Greater}
 use Rattle.std.specs.Ordering.{nat_cmp, on}
 use Rattle.std.specs.Cmp.{IsTotalOrder, on_total, nat_cmp_total, first_so, second_so}
 use Rattle.std.specs.Cmp.Lexicographic.{slice_cmp, lists_total}
 use Rattle.std.specs.FinMap.{IsAntisymmetric, nat_cmp-IsAntisymmetric, slice_cmp-IsAntisymmetric}
-use Rattle.std.proofs.Common.{refl, sym, ap, ◌∙◌, subst, inl, inr, arith}
+use Rattle.std.proofs.Common.{refl, sym, ap, ◌∙◌, inl, inr, arith}
 use Rattle.std.proofs.lemmas.Bool.Decides.{nat_tests}
 use borrow.Author.Tests.{eqb-true, eq-eqb}
 
@@ -117,6 +116,7 @@ parent-parts (byte ∷ path) directory e = step (parent path) refl (parent-parts
         let none_before : [] ≡ directory = cc in
         (path, ap (λ b. b ∷ path) first ∙ ap (λ d. d ++ 47 ∷ path) none_before, none)
     here false is none found = cc
+
     step : (above : Option (List ℕ)) → parent path ≡ above → ((front : List ℕ) → parent path ≡ Some front → (name : List ℕ) × (path ≡ front ++ 47 ∷ name) × (parent name ≡ None)) → under byte above ≡ Some directory → (name : List ℕ) × (byte ∷ path ≡ directory ++ 47 ∷ name) × (parent name ≡ None)
     step None above rest found = here (byte == 47) refl above found
     step (Some front) above rest found =

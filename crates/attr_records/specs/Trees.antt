@@ -2,14 +2,13 @@
 --     node_at, with_node, without      look-up, put and removal of a path and of all below it
 --     IsTree is_dir tree      the paths are in order, and the parent of each is the root or a Dir of the tree
 --     broken_put is_dir is_large tree path node      the first rule that a put breaks
-use Rattle.std.specs.Prelude.{◌≡◌, ◌≢◌, ℕ, ◌+◌, ◌≤◌, nat_le, Bool, true, false, not, ◌&&◌, cond, List, [], ◌∷◌, ◌++◌, length, Option, Some, None, is_some, IsSome, if◌then◌else◌, ◌⊎◌}
+use Rattle.std.specs.Prelude.{◌≡◌, ◌≢◌, ℕ, ◌+◌, ◌≤◌, nat_le, Bool, true, false, not, ◌&&◌, cond, List, [], ◌∷◌, ◌++◌, length, Option, Some, None, is_some, if◌then◌else◌, ◌⊎◌}
 use Rattle.std.specs.Ordering.{eq_by_cmp, is_eq}
 use Rattle.std.specs.FinMap.Entries.{find, put, where_key, find-put, find-where_key, length-put}
 use Rattle.std.specs.Cmp.{Equal-is, tied_itself}
 use Rattle.std.specs.Map.{lookup}
 use Rattle.std.specs.BTreeMap.{insert_entry, is_at}
-use Rattle.std.specs.declared.cmp.Ordering.TheVariants.{Equal}
-use Rattle.std.proofs.Common.{refl, sym, ap, ◌∙◌, subst, inl, inr, arith}
+use Rattle.std.proofs.Common.{refl, sym, ap, ◌∙◌, inl, inr, arith}
 use Rattle.std.proofs.lemmas.Bool.{true≢false}
 use Rattle.std.proofs.lemmas.Bool.Decides.{nat_tests}
 use Rattle.attr_records.specs.declared.trees.PutRule.{PutRule}
@@ -157,6 +156,7 @@ module _ {X : Type 0} where
         is_dir_node : (b : Bool) → (true && not b) ≡ false → b ≡ true
         is_dir_node true e = refl
         is_dir_node false e = cc
+
         step : (b : Bool) → eq_by_cmp path_cmp directory path ≡ b → is_dir_found is_dir (cond b (Some node) (node_at tree directory)) ≡ true
         step true e =
             let at_path : is_dir_at is_dir tree path ≡ true = ap (is_dir_at is_dir tree) (sym (same_Equal directory path e)) ∙ there in
@@ -170,6 +170,7 @@ module _ {X : Type 0} where
         found : (node : Option X) → is_dir_found is_dir node ≡ true → is_some node ≡ true
         found None e = e
         found (Some node) e = refl
+
         step : ((parent (directory ++ 47 ∷ rest) ≡ Some directory) ⊎ ((more : List ℕ) × (parent (directory ++ 47 ∷ rest) ≡ Some (directory ++ 47 ∷ more)))) → is_dir_at is_dir tree directory ≡ true
         step (inl e) = ap (is_parent_in is_dir tree) (sym e) ∙ there
         step (inr w) = is_tree.parents directory w.0 (found (node_at tree (directory ++ 47 ∷ w.0)) (ap (is_parent_in is_dir tree) (sym w.1) ∙ there))
@@ -197,8 +198,10 @@ module _ {X : Type 0} where
             stayed : (b : Bool) → is_some (cond (not b) (node_at tree (directory ++ 47 ∷ rest)) None) ≡ true → (b ≡ false) × (is_some (node_at tree (directory ++ 47 ∷ rest)) ≡ true)
             stayed true h = cc
             stayed false h = (refl, h)
+
             here : (is_within path (directory ++ 47 ∷ rest) ≡ false) × (is_some (node_at tree (directory ++ 47 ∷ rest)) ≡ true)
             here = stayed (is_within path (directory ++ 47 ∷ rest)) (ap is_some (sym (node_at-without tree path (directory ++ 47 ∷ rest))) ∙ there)
+
             step : (b : Bool) → is_within path directory ≡ b → is_dir_at is_dir (without tree path) directory ≡ true
             step true within = absurd (true≢false (sym (within-further path directory rest within) ∙ here.0))
             step false within = ap (is_dir_found is_dir) (without-other tree path directory within) ∙ is_tree.parents directory rest here.1

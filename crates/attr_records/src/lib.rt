@@ -9,4 +9,4 @@ mod trees;
 pub use names::{BadHostName, BadTarget, HostName, LinkTarget};
 pub use nodes::{Attr, Item};
 pub use paths::{BadPath, PathName, compare, parent};
-pub use trees::{MOST_FILE_BYTES, MOST_PATHS, PutRule};
+pub use trees::{MOST_FILE_BYTES, MOST_PATHS, PutRule, broken_put, broken_put_file};

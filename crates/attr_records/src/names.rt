@@ -1,14 +1,14 @@
-use crate::paths::is_text;
-use std::alloc::{AllocError, Global};
-use std::cmp::Ordering;
-use std::marker::Model;
-
 ghost use Rattle.std.specs.Prelude.{◌≡◌, ◌≢◌, List, ℕ, IfOk, IfErr, true, false, bytes_eq, refl};
 ghost use Rattle.std.specs.List.{list_all};
 ghost use Rattle.std.specs.Cmp.{partial_equiv_from_equiv, eq_by_cmp_equiv, partial_order_from_total};
 ghost use Rattle.std.specs.Cmp.Lexicographic.{slice_cmp, nat_list_cmp_total, nat_list_eq_equiv};
 ghost use Rattle.std.specs.Ordering.{nat_cmp, eq_by_cmp, as_partial_cmp};
 ghost use Rattle.attr_records.specs.Names.{is_host_byte, is_letter_or_digit, begins_with_letter_or_digit, is_host_name, is_link_target};
+
+use crate::paths::is_text;
+use std::alloc::{AllocError, Global};
+use std::cmp::Ordering;
+use std::marker::Model;
 
 /// Why a text names no host, or want of memory.
 #[derive(Clone, Copy, Debug, PartialEq, Eq)]

@@ -1,9 +1,10 @@
+ghost use Rattle.std.specs.Prelude.{◌≡◌, ◌≤◌, IfOk, pos, ℕ, ℤ};
+
 use crate::names::LinkTarget;
+use crate::trees::MOST_FILE_BYTES;
 use disk_trait::Bytes;
 use std::alloc::{AllocError, Global};
 use std::marker::Model;
-
-ghost use Rattle.std.specs.Prelude.{◌≡◌, ◌≤◌, IfOk, pos, ℕ, ℤ};
 
 /// The attributes of a file, a directory or a link.
 #[derive(Clone, Copy, Debug, PartialEq, Eq)]
@@ -99,6 +100,24 @@ pub enum Item {
 }
 
 impl Item {
+    ghost use Rattle.attr_records.specs.Items.{is_dir, is_large};
+
+    pub fn is_dir(&self) -> bool
+        ensures { result ≡ is_dir self.now }
+    {
+        matches!(self, Item::Dir { .. })
+    }
+
+    /// Whether it is a File of more bytes than a tree takes.
+    pub fn is_large(&self) -> bool
+        ensures { result ≡ is_large self.now }
+    {
+        match self {
+            Item::File { bytes, .. } => bytes.len() as u64 > MOST_FILE_BYTES,
+            _ => false,
+        }
+    }
+
     /// An equal item, or want of memory.
     pub fn copy(&self, alloc: Global) -> Result<Item, AllocError>
         ensures { IfOk result (λ copy. copy ≡ self.now) }

@@ -1,7 +1,3 @@
-use std::alloc::{AllocError, Global};
-use std::cmp::Ordering;
-use std::marker::Model;
-
 ghost use Rattle.std.specs.Prelude.{◌≡◌, ◌≢◌, ◌+◌, ◌==◌, ◌≤◌, if◌then◌else◌, List, [], ◌∷◌, ℕ, length, IfOk, IfErr, MatchResult, Some, None};
 ghost use Rattle.std.specs.Prelude.{refl};
 ghost use Rattle.std.specs.Option.{option_copied};
@@ -12,6 +8,10 @@ ghost use Rattle.std.specs.List.{list_any};
 ghost use Rattle.attr_records.specs.Paths.{path_cmp, path_cmp_total, rank, components, parent};
 ghost use Rattle.attr_records.specs.PathRules.{broken_path_rule, broken_component_rule, is_dot_component};
 ghost use Rattle.attr_records.specs.Parts.{other_components, left_to_scan};
+
+use std::alloc::{AllocError, Global};
+use std::cmp::Ordering;
+use std::marker::Model;
 
 /// Why bytes are no path, or want of memory. The rules stand in the order in which they are judged.
 #[derive(Clone, Copy, Debug, PartialEq, Eq)]
@@ -142,11 +142,7 @@ impl Ord for PathName {
 fn rank(byte: u8) -> u16
     ensures { result ≡ rank byte }
 {
-    if byte == b'/' {
-        0
-    } else {
-        u16::from(byte) + 1
-    }
+    if byte == b'/' { 0 } else { u16::from(byte) + 1 }
 }
 
 /// Which of two paths comes first: component by component, each by its bytes.

@@ -1,5 +1,9 @@
+pub mod Nodes
 pub mod Session
 pub mod Office
 pub mod Rules
 pub mod Step
 pub mod History
+pub mod Places
+pub mod Lookups
+pub mod Soundness

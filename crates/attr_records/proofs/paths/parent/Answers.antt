@@ -1,7 +1,6 @@
 -- The bytes are what stands before the slash, the slash, and what holds no slash.
 use Rattle.std.proofs.Common.{◌≡◌, ℕ, ◌+◌, ◌<◌, List, length, take, drop, get_or, Some, None, ◌∷◌, ◌++◌, sym, ap, ◌∙◌, arith}
 use Rattle.std.proofs.lemmas.List.{take-append-drop, drop_more}
-use Rattle.std.proofs.lemmas.Bool.Decides.{nat_tests}
 use Rattle.attr_records.specs.Paths.{parent, parent-last}
 use Rattle.attr_records.proofs.paths.parent.Goals as goal
 

@@ -1,5 +1,5 @@
-use Rattle.attr_records.specs.Parts.{with_front-nil, front-more, front-ends, front-all}
-use Rattle.std.proofs.Common.{rules, sym, ap, ◌∙◌, get_or, arith}
+use Rattle.attr_records.specs.Parts.{with_front-nil, front-more}
+use Rattle.std.proofs.Common.{sym, arith}
 use Rattle.std.proofs.lemmas.Bool.Decides.{nat_tests}
 use Rattle.attr_records.proofs.paths.split_first.Goals as goal
 

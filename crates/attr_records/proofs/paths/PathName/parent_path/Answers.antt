@@ -1,5 +1,5 @@
 -- The parent of a path breaks no rule of paths.
-use Rattle.std.proofs.Common.{◌≡◌, None, Some, sym, ap, ◌∙◌}
+use Rattle.std.proofs.Common.{sym, ap, ◌∙◌}
 use Rattle.attr_records.specs.Paths.{parent}
 use Rattle.attr_records.specs.PathRules.{broken_path_rule, broken_path_rule-parent}
 use Rattle.attr_records.proofs.paths.PathName.parent_path.Goals as goal

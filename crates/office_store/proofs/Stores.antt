@@ -1,0 +1,82 @@
+-- What a store at work does, as its clauses say it.
+use Rattle.std.proofs.Common.{◌≡◌, ℕ, Bool, true, false, List, Option, None, Some, Result, Ok, Err, refl, sym, ap, ◌∙◌, subst, inl, inr, unwrap_or}
+use Rattle.fault_counts.specs.Counts.{Counted}
+use Rattle.disk_trait.specs.declared.ids.FileId.{FileId}
+use Rattle.disk_trait.specs.declared.ids.FileId.TheVariants.{Head}
+use Rattle.disk_trait.specs.declared.disk.Disk.{Ghosts}
+use Rattle.disk_trait.specs.Files.{Files, rewritten}
+use Rattle.office_model.specs.declared.session.SessionName.{SessionName}
+use Rattle.office_model.specs.declared.event.Event.{Event}
+use Rattle.office_model.specs.declared.event.Event.TheVariants.{AddHost, Commit}
+use Rattle.office_model.specs.declared.event.Answer.TheVariants.{Done, Committed}
+use Rattle.office_model.specs.declared.event.Refusal.TheVariants.{DiskFault}
+use Rattle.office_model.specs.Office.{Office, IsSound, durable, dump_place, dump_named}
+use Rattle.office_model.specs.Rules.{broken_rule}
+use Rattle.office_model.specs.Step.{Reply, State, Running, Stopped, IsOfficeStep, IsStep, IsSoundState, after, next_number}
+use Rattle.office_model.specs.History.{GoesOn}
+use Rattle.office_model.specs.Soundness.{IsSoundState-step}
+use Rattle.office_store.specs.Layout.{head_file}
+use Rattle.office_store.specs.Lives.{IsCommitFiles}
+use Rattle.office_store.specs.declared.store.Store.{Store}
+use Rattle.office_store.specs.Kept.{Tells, IsRunning, IsStopped, InState, IsAt, Works, Serves}
+use Rattle.office_store.proofs.Lives.{committing}
+use Rattle.office_store.proofs.Stands.{tells_added, tells_committed}
+
+
+pub works_added : {D : Type 0} {d : Ghosts D} (old new : Store D d) (name head : List ℕ) {failed : Type 0} → old.halted ≡ false → broken_rule old.office (AddHost name) ≡ None
+    → new.halted ≡ old.halted → new.office ≡ after old.office (AddHost name)
+    → head ≡ head_file old.office.epoch (after old.office (AddHost name)).hosts
+    → d.files new.disk ≡ rewritten (d.files old.disk) Head head → Counted (d.fault_count old.disk) (d.fault_count new.disk) failed
+    → Works old (AddHost name) (Ok Done) new
+works_added {d = d} old new name head ready rule halted office head_is written counted = record {
+  next = Running (after old.office (AddHost name));
+  step = (rule, refl, refl);
+  at = (halted ∙ ready, office);
+  keeps = λ now sound tells. subst (λ o. Tells d.files new.disk (durable o)) (sym office) (tells_added d.files old.disk new.disk old.office name head sound rule written head_is tells);
+  counted = record { later = counted.later; rose = λ e. cc };
+  stops = λ stopped. cc;
+}
+
+pub works_committed : {D : Type 0} {d : Ghosts D} (old new : Store D d) (session : SessionName) (now number : ℕ) (table : FileId) (table_bytes head_bytes : List ℕ) {failed : Type 0}
+    → old.halted ≡ false → broken_rule old.office (Commit session now) ≡ None
+    → new.halted ≡ old.halted → new.office ≡ after old.office (Commit session now) → number ≡ next_number old.office (dump_named old.office.dumps session)
+    → IsCommitFiles old.office.epoch old.office.hosts old.office.dumps (unwrap_or (dump_place old.office.dumps session) 0) now table table_bytes head_bytes
+    → d.files new.disk ≡ rewritten (rewritten (d.files old.disk) table table_bytes) Head head_bytes → Counted (d.fault_count old.disk) (d.fault_count new.disk) failed
+    → Works old (Commit session now) (Ok (Committed number)) new
+works_committed {d = d} old new session now number table table_bytes head_bytes ready rule halted office number_is files_are written counted = record {
+  next = Running (after old.office (Commit session now));
+  step = (rule, ap Committed number_is, refl);
+  at = (halted ∙ ready, office);
+  keeps = λ going sound tells. subst (λ o. Tells d.files new.disk (durable o)) (sym office)
+      (tells_committed d.files old.disk new.disk old.office session (unwrap_or (dump_place old.office.dumps session) 0) now table table_bytes head_bytes sound rule
+        (committing old.office old.office session now (unwrap_or (dump_place old.office.dumps session) 0) sound refl rule refl) files_are written tells);
+  counted = record { later = counted.later; rose = λ e. cc };
+  stops = λ stopped. cc;
+}
+
+in_state : {D : Type 0} {d : Ghosts D} (new : Store D d) (next : State) → IsAt new next → IsSoundState next
+    → (new.halted ≡ false → Tells d.files new.disk (durable new.office)) → InState new next
+in_state {d = d} new (Running office) at sound tells = record {
+  ready = at.0; office_is = at.1; sound = sound; tells = subst (λ o. Tells d.files new.disk (durable o)) at.1 (tells at.0) }
+in_state new (Stopped before next) at sound tells = record { halted = at; before_sound = sound.0; next_sound = sound.1 }
+
+-- a store at work serves
+pub serves : {D : Type 0} {d : Ghosts D} (old : Store D d) (event : Event) (reply : Reply) (new : Store D d) → old.halted ≡ false → Works old event reply new → Serves old event reply new
+serves {D} {d} old event reply new ready works = record {
+  steps = steps;
+  counted = works.counted;
+  halted = λ halted. cc;
+  works = λ working. (works.next, works.step, works.at);
+  stops = λ stopped. inr (works.counted.rose (works.stops stopped));
+}
+  where
+    steps : (state : State) → InState old state
+        → (next : State) × GoesOn state (d.fault_count old.disk) (record { event = event; reply = reply; state = next; faults = d.fault_count new.disk }) × InState new next
+    steps (Running office) at =
+        let step : IsStep (Running office) event reply works.next = subst (λ o. IsOfficeStep o event reply works.next) at.office_is works.step in
+        let sound : IsSoundState works.next = IsSoundState-step (Running office) event reply works.next at.sound step in
+        let sound_old : IsSound old.office = subst IsSound (sym at.office_is) at.sound in
+        let tells_old : Tells d.files old.disk (durable old.office) = subst (λ o. Tells d.files old.disk (durable o)) (sym at.office_is) at.tells in
+        (works.next, record { step = step; sound = sound; later = works.counted.later; cause = works.counted.rose },
+          in_state new works.next works.at sound (λ going. works.keeps going sound_old tells_old))
+    steps (Stopped before next) at = let h = at.halted in cc

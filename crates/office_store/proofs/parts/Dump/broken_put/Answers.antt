@@ -1,0 +1,6 @@
+use Rattle.std.proofs.Common.{◌≡◌}
+use Rattle.office_model.specs.Nodes.{file_default}
+use Rattle.office_store.proofs.parts.Dump.broken_put.Goals as goal
+
+pub returns-in-Ok : goal.returns-in-Ok
+returns-in-Ok c = λ bytes size. rw (← c.self.view_is) (c.in-Ok.ensures file_default bytes size)

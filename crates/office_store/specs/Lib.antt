@@ -1,0 +1,4 @@
+pub mod Layout
+pub mod Lives
+pub mod Kept
+pub mod Moves

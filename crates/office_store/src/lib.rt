@@ -1,0 +1,12 @@
+//! The store: an office on a disk, whose one promise is that each `apply` is a step of the model.
+//!
+//! It knows the model, the disk and the layouts of its own files; no HTTP and no time but the events'.
+#![tactic(auto)]
+
+#[tactic(auto, unfolding(crate::specs::Layout::host_line, crate::specs::Layout::head_start, crate::specs::Layout::file_line, crate::specs::Layout::table_start))]
+mod layout;
+mod live;
+mod parts;
+mod store;
+
+pub use store::Store;
