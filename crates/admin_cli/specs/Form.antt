@@ -10,6 +10,7 @@ use Rattle.office_model.specs.Session.{session_text}
 use Rattle.admin_cli.specs.declared.request.Ask.{Ask}
 use Rattle.admin_cli.specs.declared.request.Ask.TheVariants.{AddHost, OpenDump, Put, Commit, ReadFile}
 use Rattle.admin_cli.specs.declared.request.Head.{Head}
+use Rattle.admin_cli.specs.Texts.{is_session_text}
 
 abbrev pub line_end : List ℕ
 line_end = 13 ∷ 10 ∷ []
@@ -35,14 +36,6 @@ unfoldable pub head_bytes : Head → List ℕ
 head_bytes head =
     ask_text head.ask ++ codes " HTTP/1.1" ++ line_end ++ codes "Host: b" ++ line_end
     ++ length_line head.length ++ close_line head.closes ++ line_end
-
--- a digit or a dash
-abbrev pub is_session_byte : ℕ → Bool
-is_session_byte byte = (nat_le 48 byte && nat_le byte 57) || (byte == 45)
-
--- one or more of them
-abbrev pub is_session_text : List ℕ → Bool
-is_session_text text = nat_lt 0 (length text) && list_all is_session_byte text
 
 -- the texts of the request line are names, and the number fits
 abbrev pub IsAsk : Ask → Type 0

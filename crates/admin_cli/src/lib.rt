@@ -3,8 +3,11 @@
 
 mod connection;
 mod head;
+mod parse;
 mod request;
+mod scan;
 
 pub use connection::End;
 pub use head::{HeadRead, read_head};
+pub use parse::parse_head;
 pub use request::{Ask, Head, SessionText};
