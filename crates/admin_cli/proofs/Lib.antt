@@ -1,2 +1,3 @@
 pub mod HeadLaws
+pub mod ReadLaws
 pub mod ScanLaws
