@@ -1,16 +1,15 @@
 -- What is parsed is a head of the form, and each head of the form is parsed.
-use Rattle.std.specs.Prelude.{◌≡◌, ◌≢◌, ℕ, ◌+◌, ◌-◌, ◌<◌, ◌≤◌, ◌^◌, Bool, true, false, List, [], ◌∷◌, ◌++◌, Option, Some, None, codes, decimal, option_and_then, unwrap_or, if◌then◌else◌, is_some, IsSome, refl}
-use Rattle.std.specs.List.{list_all}
+use Rattle.std.specs.Prelude.{◌≡◌, ◌≢◌, ℕ, ◌-◌, ◌<◌, ◌^◌, Bool, true, false, List, [], ◌∷◌, ◌++◌, Option, Some, None, codes, decimal, if◌then◌else◌, refl}
 use Rattle.std.specs.Option.{option_map_or}
-use Rattle.std.specs.Cmp.{first_so, second_so}
+use Rattle.std.specs.Cmp.{second_so}
 use Rattle.std.proofs.Common.{sym, ap, ◌∙◌, subst, inl, inr, arith}
 use Rattle.std.proofs.lemmas.List.{append_assoc}
 use Rattle.attr_records.specs.Names.{is_host_name, is_host_byte}
 use Rattle.admin_cli.specs.declared.request.Ask.{Ask}
 use Rattle.admin_cli.specs.declared.request.Ask.TheVariants.{AddHost, OpenDump, Put, Commit, ReadFile}
 use Rattle.admin_cli.specs.declared.request.Head.{Head}
-use Rattle.admin_cli.specs.Form.{line_end, ask_text, length_line, close_line, head_bytes, IsAsk, NamesLength, body_limit, body_length, IsHead}
-use Rattle.admin_cli.specs.Texts.{is_session_byte, is_session_text, stripped, field, tested, number_of}
+use Rattle.admin_cli.specs.Form.{line_end, ask_text, length_line, close_line, head_bytes, IsAsk, NamesLength, IsHead}
+use Rattle.admin_cli.specs.Words.{is_session_byte, is_session_text, stripped, field, tested, number_of}
 use Rattle.admin_cli.specs.Scan.{fields_of, names_length, head_of, add_host_of, open_dump_of, put_of, commit_of, read_file_of, parsed}
 use Rattle.admin_cli.proofs.ScanLaws.{and_then_some, map_or_some, if_some, stripped-append, stripped_some, lacks, lacks_other, field-append, field_some, decimal_lacks, number_of-decimal, number_of_some, fields_text, fields_of_some, fields_of-text}
 
@@ -81,7 +80,8 @@ head_of_some ask bytes head e is_ask =
     let P : Head → Type 0 = λ h. IsHead h × (ask_text ask ++ 32 ∷ bytes ≡ head_bytes h) in
     subst P named.1 (
       record { ask = is_ask; names_length = names_its_length ask fields.0.0 named.0; length = text.1 },
-      ap (λ b. ask_text ask ++ 32 ∷ b) (front ∙ ap (λ l. codes "HTTP/1.1\r\nHost: b\r\n" ++ l) text.0) ∙ sym (head_bytes_parts made))
+      ap (λ b. ask_text ask ++ 32 ∷ b) (front ∙ ap (λ l. codes "HTTP/1.1\r\nHost: b\r\n" ++ l) text.0) ∙ sym (head_bytes_parts made),
+    )
 
 add_host_some : (bytes : List ℕ) (head : Head) → add_host_of bytes ≡ Some head → IsHead head × (codes "PUT /hosts/" ++ bytes ≡ head_bytes head)
 unfolding add_host_of
@@ -89,10 +89,11 @@ add_host_some bytes head e =
     let parts = and_then_some (field (codes " ") bytes) _ head e in
     let host = and_then_some (tested is_host_name parts.0.0) _ head parts.2 in
     let name = tested_some is_host_name parts.0.0 host.0 host.1 in
-    let made = head_of_some (AddHost host.0) parts.0.1 head host.2 name.0 in
-    (made.0,
+    let made = head_of_some (AddHost host.0) parts.0.1 head host.2 name.0 in (
+      made.0,
       ap (λ b. codes "PUT /hosts/" ++ b) (field_some (codes " ") bytes parts.0 parts.1 ∙ ap (λ t. t ++ 32 ∷ parts.0.1) name.1)
-      ∙ sym (add_host_target host.0 parts.0.1) ∙ made.1)
+          ∙ sym (add_host_target host.0 parts.0.1) ∙ made.1,
+    )
 
 open_dump_some : (bytes : List ℕ) (head : Head) → open_dump_of bytes ≡ Some head → IsHead head × (codes "POST /hosts/" ++ bytes ≡ head_bytes head)
 unfolding open_dump_of
@@ -100,10 +101,11 @@ open_dump_some bytes head e =
     let parts = and_then_some (field (codes "/dumps?kind=full ") bytes) _ head e in
     let host = and_then_some (tested is_host_name parts.0.0) _ head parts.2 in
     let name = tested_some is_host_name parts.0.0 host.0 host.1 in
-    let made = head_of_some (OpenDump host.0) parts.0.1 head host.2 name.0 in
-    (made.0,
+    let made = head_of_some (OpenDump host.0) parts.0.1 head host.2 name.0 in (
+      made.0,
       ap (λ b. codes "POST /hosts/" ++ b) (field_some (codes "/dumps?kind=full ") bytes parts.0 parts.1 ∙ ap (λ t. t ++ (codes "/dumps?kind=full " ++ parts.0.1)) name.1)
-      ∙ sym (open_dump_target host.0 parts.0.1) ∙ made.1)
+          ∙ sym (open_dump_target host.0 parts.0.1) ∙ made.1,
+    )
 
 put_some : (bytes : List ℕ) (head : Head) → put_of bytes ≡ Some head → IsHead head × (codes "PUT /dumps/" ++ bytes ≡ head_bytes head)
 unfolding put_of
@@ -114,14 +116,15 @@ put_some bytes head e =
     let path = and_then_some (tested is_host_name others.0.0) _ head dump.2 in
     let session = tested_some is_session_text parts.0.0 dump.0 dump.1 in
     let name = tested_some is_host_name others.0.0 path.0 path.1 in
-    let made = head_of_some (Put dump.0 path.0) others.0.1 head path.2 (session.0, name.0) in
-    (made.0,
+    let made = head_of_some (Put dump.0 path.0) others.0.1 head path.2 (session.0, name.0) in (
+      made.0,
       ap (λ b. codes "PUT /dumps/" ++ b) (
-        field_some (codes "/entry?path=") bytes parts.0 parts.1
-        ∙ ap (λ t. t ++ (codes "/entry?path=" ++ parts.0.1)) session.1
-        ∙ ap (λ b. dump.0 ++ (codes "/entry?path=" ++ b)) (
+          field_some (codes "/entry?path=") bytes parts.0 parts.1
+          ∙ ap (λ t. t ++ (codes "/entry?path=" ++ parts.0.1)) session.1
+          ∙ ap (λ b. dump.0 ++ (codes "/entry?path=" ++ b)) (
           field_some (codes "&kind=file ") parts.0.1 others.0 others.1 ∙ ap (λ t. t ++ (codes "&kind=file " ++ others.0.1)) name.1))
-      ∙ sym (put_target dump.0 path.0 others.0.1) ∙ made.1)
+          ∙ sym (put_target dump.0 path.0 others.0.1) ∙ made.1,
+    )
 
 commit_some : (bytes : List ℕ) (head : Head) → commit_of bytes ≡ Some head → IsHead head × (codes "POST /dumps/" ++ bytes ≡ head_bytes head)
 unfolding commit_of
@@ -129,10 +132,11 @@ commit_some bytes head e =
     let parts = and_then_some (field (codes "/commit ") bytes) _ head e in
     let dump = and_then_some (tested is_session_text parts.0.0) _ head parts.2 in
     let session = tested_some is_session_text parts.0.0 dump.0 dump.1 in
-    let made = head_of_some (Commit dump.0) parts.0.1 head dump.2 session.0 in
-    (made.0,
+    let made = head_of_some (Commit dump.0) parts.0.1 head dump.2 session.0 in (
+      made.0,
       ap (λ b. codes "POST /dumps/" ++ b) (field_some (codes "/commit ") bytes parts.0 parts.1 ∙ ap (λ t. t ++ (codes "/commit " ++ parts.0.1)) session.1)
-      ∙ sym (commit_target dump.0 parts.0.1) ∙ made.1)
+          ∙ sym (commit_target dump.0 parts.0.1) ∙ made.1,
+    )
 
 read_file_some : (bytes : List ℕ) (head : Head) → read_file_of bytes ≡ Some head → IsHead head × (codes "GET /hosts/" ++ bytes ≡ head_bytes head)
 unfolding read_file_of
@@ -146,17 +150,18 @@ read_file_some bytes head e =
     let text = number_of_some (2 ^ 32 - 1) others.0.0 number.0 number.1 in
     let owner = tested_some is_host_name parts.0.0 host.0 host.1 in
     let name = tested_some is_host_name last.0.0 path.0 path.1 in
-    let made = head_of_some (ReadFile host.0 number.0 path.0) last.0.1 head path.2 (owner.0, omega (arith, text.1), name.0) in
-    (made.0,
+    let made = head_of_some (ReadFile host.0 number.0 path.0) last.0.1 head path.2 (owner.0, omega (arith, text.1), name.0) in (
+      made.0,
       ap (λ b. codes "GET /hosts/" ++ b) (
-        field_some (codes "/backups/") bytes parts.0 parts.1
-        ∙ ap (λ t. t ++ (codes "/backups/" ++ parts.0.1)) owner.1
-        ∙ ap (λ b. host.0 ++ (codes "/backups/" ++ b)) (
+          field_some (codes "/backups/") bytes parts.0 parts.1
+          ∙ ap (λ t. t ++ (codes "/backups/" ++ parts.0.1)) owner.1
+          ∙ ap (λ b. host.0 ++ (codes "/backups/" ++ b)) (
           field_some (codes "/file?path=") parts.0.1 others.0 others.1
           ∙ ap (λ t. t ++ (codes "/file?path=" ++ others.0.1)) text.0
           ∙ ap (λ b. decimal number.0 ++ (codes "/file?path=" ++ b)) (
-            field_some (codes " ") others.0.1 last.0 last.1 ∙ ap (λ t. t ++ 32 ∷ last.0.1) name.1)))
-      ∙ sym (read_file_target host.0 number.0 path.0 last.0.1) ∙ made.1)
+          field_some (codes " ") others.0.1 last.0 last.1 ∙ ap (λ t. t ++ 32 ∷ last.0.1) name.1)))
+          ∙ sym (read_file_target host.0 number.0 path.0 last.0.1) ∙ made.1,
+    )
 
 -- one way of a choice: it found a head whose bytes begin with its front, or the others found it
 one_way : (front bytes : List ℕ) (way : List ℕ → Option Head) (others : Option Head) (head : Head)
@@ -165,8 +170,8 @@ one_way : (front bytes : List ℕ) (way : List ℕ → Option Head) (others : Op
     → option_map_or way (stripped front bytes) others ≡ Some head → IsHead head × (bytes ≡ head_bytes head)
 one_way front bytes way others head found other e =
     elim (map_or_some (stripped front bytes) way others head e) [
-      inl here ↦ let is = found here.0 here.2 in (is.0, stripped_some front bytes here.0 here.1 ∙ is.1)
-    | inr there ↦ other there
+      | inl here ↦ let is = found here.0 here.2 in (is.0, stripped_some front bytes here.0 here.1 ∙ is.1)
+      | inr there ↦ other there
     ]
 
 pub parsed_some : (bytes : List ℕ) (head : Head) → parsed bytes ≡ Some head → IsHead head × (bytes ≡ head_bytes head)
@@ -201,9 +206,11 @@ names_true (ReadFile host number path) length named = refl
 head_of-lines : (head : Head) → IsHead head → head_of head.ask (after_target head.length head.closes) ≡ Some head
 unfolding head_of
 head_of-lines head is =
-    rw (stripped-append (codes "HTTP/1.1\r\nHost: b\r\n") (fields_text head.length head.closes),
+    rw (
+      stripped-append (codes "HTTP/1.1\r\nHost: b\r\n") (fields_text head.length head.closes),
       fields_of-text head.length head.closes is.length,
-      names_true head.ask head.length is.names_length) refl
+      names_true head.ask head.length is.names_length,
+    ) refl
 
 add_host_found : (host x : List ℕ) → is_host_name host ≡ true → parsed (codes "PUT /hosts/" ++ (host ++ 32 ∷ x)) ≡ head_of (AddHost host) x
 unfolding parsed stripped add_host_of
@@ -217,9 +224,12 @@ put_found : (dump path x : List ℕ) → is_session_text dump ≡ true → is_ho
     → parsed (codes "PUT /dumps/" ++ (dump ++ (codes "/entry?path=" ++ (path ++ (codes "&kind=file " ++ x))))) ≡ head_of (Put dump path) x
 unfolding parsed stripped put_of
 put_found dump path x session name =
-    rw (field-append 47 (codes "entry?path=") dump (path ++ (codes "&kind=file " ++ x)) (session_lacks 47 dump refl session),
+    rw (
+      field-append 47 (codes "entry?path=") dump (path ++ (codes "&kind=file " ++ x)) (session_lacks 47 dump refl session),
       field-append 38 (codes "kind=file ") path x (host_lacks 38 path refl name),
-      passes is_session_text dump session, passes is_host_name path name) refl
+      passes is_session_text dump session,
+      passes is_host_name path name,
+    ) refl
 
 commit_found : (dump x : List ℕ) → is_session_text dump ≡ true → parsed (codes "POST /dumps/" ++ (dump ++ (codes "/commit " ++ x))) ≡ head_of (Commit dump) x
 unfolding parsed stripped commit_of
@@ -229,11 +239,14 @@ read_file_found : (host : List ℕ) (number : ℕ) (path x : List ℕ) → is_ho
     → parsed (codes "GET /hosts/" ++ (host ++ (codes "/backups/" ++ (decimal number ++ (codes "/file?path=" ++ (path ++ 32 ∷ x)))))) ≡ head_of (ReadFile host number path) x
 unfolding parsed stripped read_file_of
 read_file_found host number path x owner fits name =
-    rw (field-append 47 (codes "backups/") host (decimal number ++ (codes "/file?path=" ++ (path ++ 32 ∷ x))) (host_lacks 47 host refl owner),
+    rw (
+      field-append 47 (codes "backups/") host (decimal number ++ (codes "/file?path=" ++ (path ++ 32 ∷ x))) (host_lacks 47 host refl owner),
       field-append 47 (codes "file?path=") (decimal number) (path ++ 32 ∷ x) (decimal_lacks 47 number refl (omega arith)),
       field-append 32 [] path x (host_lacks 32 path refl name),
       number_of-decimal (2 ^ 32 - 1) number (omega arith) (omega arith),
-      passes is_host_name host owner, passes is_host_name path name) refl
+      passes is_host_name host owner,
+      passes is_host_name path name,
+    ) refl
 
 found_target : (ask : Ask) (x : List ℕ) → IsAsk ask → parsed (ask_text ask ++ 32 ∷ x) ≡ head_of ask x
 found_target (AddHost host) x is = ap parsed (add_host_target host x) ∙ add_host_found host x is

@@ -1,7 +1,7 @@
 -- What reading byte for byte leads to.
-use Rattle.std.proofs.Common.{◌≡◌, ◌≢◌, ℕ, ◌+◌, ◌<◌, ◌≤◌, Bool, true, false, List, [], ◌∷◌, ◌++◌, length, take, refl, sym, ap, ◌∙◌, subst, arith, length-append, zero, suc, inl, inr}
-use Rattle.std.specs.Prelude.{Option, Some, None, ◌⊎◌}
-use Rattle.std.proofs.lemmas.List.{take_all, take-append-le, append-nil, append_assoc}
+use Rattle.std.proofs.Common.{◌≡◌, ◌≢◌, ℕ, ◌+◌, ◌<◌, ◌≤◌, Bool, true, false, List, [], ◌∷◌, ◌++◌, length, refl, sym, ap, ◌∙◌, subst, arith, length-append, zero, suc, inl, inr}
+use Rattle.std.specs.Prelude.{Option, Some, None, ◌⊎◌, MatchOption}
+use Rattle.std.proofs.lemmas.List.{take_all, take-append-le, append-nil}
 use Rattle.stream_traits.specs.Told.{before, before_append, IsEnd}
 use Rattle.admin_cli.specs.declared.request.Head.{Head}
 use Rattle.admin_cli.specs.Form.{ends_head, HasNoEnd, head_limit, head_bytes, IsHead, EndsInHead, HasOtherHead, HasNoHead}
@@ -18,8 +18,8 @@ pub no_end_more : (bytes : List ℕ) (byte : ℕ) → HasNoEnd bytes (length byt
     → HasNoEnd (bytes ++ byte ∷ []) (length (bytes ++ byte ∷ []) + 1)
 no_end_more bytes byte before_it none n below =
     elim (within n (length bytes)) [
-      inl short ↦ ap ends_head (take-append-le n bytes (byte ∷ []) short) ∙ before_it n (omega arith)
-    | inr long ↦ ap ends_head (take_all n (bytes ++ byte ∷ []) (omega (arith, length-append bytes (byte ∷ [])))) ∙ none
+      | inl short ↦ ap ends_head (take-append-le n bytes (byte ∷ []) short) ∙ before_it n (omega arith)
+      | inr long ↦ ap ends_head (take_all n (bytes ++ byte ∷ []) (omega (arith, length-append bytes (byte ∷ [])))) ∙ none
     ]
 
 -- and any byte, for the fronts that are shorter
@@ -48,6 +48,19 @@ all_told : (left : Option (List ℕ)) (bytes input : List ℕ) → Some input �
 all_told None bytes input told end = cc (told)
 all_told (Some rest) bytes input told end =
     let same : input ≡ bytes ++ rest = cc (told) in same ∙ ap (λ r. bytes ++ r) end ∙ append-nil bytes
+
+-- what parsing gave, by which of both it was
+pub found_head : (found : Option Head) (head : Head) (bytes : List ℕ) → found ≡ Some head
+    → MatchOption found ((h : Head) → IsHead h → bytes ≢ head_bytes h) (λ h. IsHead h × (bytes ≡ head_bytes h))
+    → IsHead head × (bytes ≡ head_bytes head)
+found_head found head bytes is made =
+    let P : Option Head → Type 0 = λ f. MatchOption f ((h : Head) → IsHead h → bytes ≢ head_bytes h) (λ h. IsHead h × (bytes ≡ head_bytes h)) in subst P is made
+
+pub found_none : (found : Option Head) (bytes : List ℕ) → found ≡ None
+    → MatchOption found ((h : Head) → IsHead h → bytes ≢ head_bytes h) (λ h. IsHead h × (bytes ≡ head_bytes h))
+    → (head : Head) → IsHead head → bytes ≢ head_bytes head
+found_none found bytes is made =
+    let P : Option Head → Type 0 = λ f. MatchOption f ((h : Head) → IsHead h → bytes ≢ head_bytes h) (λ h. IsHead h × (bytes ≡ head_bytes h)) in subst P is made
 
 -- the input ends at its first byte
 pub ended : (first left : Option (List ℕ)) (bytes : List ℕ) → first ≡ before bytes left → IsEnd left → bytes ≡ [] → IsEnd first
@@ -91,6 +104,6 @@ no_head first left bytes told long no_end input is =
     subst P (sym parts.1) (record {
       long = omega (arith, length-append bytes parts.0);
       no_end = λ n below.
-        let short : n ≤ length bytes = omega arith in
-        ap ends_head (take-append-le n bytes parts.0 short) ∙ no_end n (omega arith);
+          let short : n ≤ length bytes = omega arith in
+          ap ends_head (take-append-le n bytes parts.0 short) ∙ no_end n (omega arith);
     })

@@ -1,5 +1,5 @@
 -- What the steps find is written so, and what is written so is found.
-use Rattle.std.specs.Prelude.{◌≡◌, ◌≢◌, ℕ, ◌+◌, ◌-◌, ◌<◌, ◌≤◌, ◌^◌, Bool, true, false, ◌||◌, ◌&&◌, not, nat_lt, nat_le, ◌==◌, List, [], ◌∷◌, ◌++◌, length, take, drop, Option, Some, None, Result, Ok, Err, codes, decimal, slice_index, option_and_then, unwrap_or, if◌then◌else◌, bytes_eq, ◌⊎◌, refl}
+use Rattle.std.specs.Prelude.{◌≡◌, ◌≢◌, ℕ, ◌+◌, ◌-◌, ◌<◌, ◌≤◌, ◌^◌, Bool, true, false, ◌&&◌, not, nat_le, ◌==◌, List, [], ◌∷◌, ◌++◌, length, take, drop, Option, Some, None, Ok, Err, codes, decimal, slice_index, option_and_then, unwrap_or, if◌then◌else◌, bytes_eq, ◌⊎◌, refl}
 use Rattle.std.specs.List.{list_all, position_or_len}
 use Rattle.std.specs.Option.{option_map, option_map_or}
 use Rattle.std.specs.Cmp.{first_so, second_so}
@@ -12,12 +12,12 @@ use Rattle.std.proofs.lemmas.List.Sums.{position_or_len_is}
 use Rattle.std.proofs.lemmas.Bool.Decides.{nat_tests, Decides-eqb}
 use Rattle.std.proofs.lemmas.Slice.Eq.{bytes_eq-Decides}
 use Rattle.std.proofs.lemmas.Str.{IsUtf8-from_ascii, is_utf8-from_IsUtf8}
-use Rattle.std.proofs.lemmas.Str.Parse.{IsNumeralModel, numerals_by_value, tells_digits, digit_from_value, digit_at, parse_plain}
+use Rattle.std.proofs.lemmas.Str.Parse.{IsNumeralModel, numerals_by_value, tells_digits, digit_from_value, parse_plain}
 use Rattle.std.proofs.lemmas.Fmt.{decimal_is_IsNumeral, parse-decimal, decimal_digit, first_decimal, decimal-digits_value, IsAscii-decimal, decimal_injective}
 use Rattle.office_model.specs.declared.session.SessionName.{SessionName}
 use Rattle.office_model.specs.Session.{session_text}
 use Rattle.admin_cli.specs.Form.{line_end, length_line, close_line, body_limit, Fits64}
-use Rattle.admin_cli.specs.Texts.{stripped, place_of, field, number_of, is_plain, session_of}
+use Rattle.admin_cli.specs.Words.{stripped, place_of, field, number_of, is_plain, session_of}
 use Rattle.admin_cli.specs.Scan.{close_of, fields_of, fields_without_length, fields_from_length}
 
 -- a step that found something: its first part did, and the rest of it
@@ -231,15 +231,19 @@ session_of_some text name e =
     let made : SessionName = record { epoch = epoch.0; sequence = sequence.0 } in
     let is : made ≡ name = cc (sequence.2) in
     let P : SessionName → Type 0 = λ n. Fits64 n × (session_text n ≡ text) in
-    subst P is ((omega (arith, first.1), omega (arith, second.1)),
-      sym (whole ∙ ap (λ t. t ++ 45 ∷ parts.0.1) first.0 ∙ ap (λ t. decimal epoch.0 ++ 45 ∷ t) second.0))
+    subst P is (
+      (omega (arith, first.1), omega (arith, second.1)),
+      sym (whole ∙ ap (λ t. t ++ 45 ∷ parts.0.1) first.0 ∙ ap (λ t. decimal epoch.0 ++ 45 ∷ t) second.0),
+    )
 
 pub session_of-text : (name : SessionName) → Fits64 name → session_of (session_text name) ≡ Some name
 unfolding session_of
 session_of-text name fits =
-    rw (field-append 45 [] (decimal name.epoch) (decimal name.sequence) (decimal_lacks 45 name.epoch refl fits.0),
+    rw (
+      field-append 45 [] (decimal name.epoch) (decimal name.sequence) (decimal_lacks 45 name.epoch refl fits.0),
       number_of-decimal (2 ^ 64 - 1) name.epoch (omega (arith, fits.0)) (omega arith),
-      number_of-decimal (2 ^ 64 - 1) name.sequence (omega (arith, fits.1)) (omega arith)) refl
+      number_of-decimal (2 ^ 64 - 1) name.sequence (omega (arith, fits.1)) (omega arith),
+    ) refl
 
 -- the lines of a head
 
@@ -269,30 +273,31 @@ pub fields_of_some : (bytes : List ℕ) (fields : Option ℕ × Bool) → fields
 unfolding fields_of fields_without_length fields_from_length length_line
 fields_of_some bytes fields e =
     elim (map_or_some (stripped (codes "Content-Length: ") bytes) fields_from_length (fields_without_length bytes) fields e) [
-      inl found ↦
-        let parts = and_then_some (field (codes "\r\n") found.0) _ fields found.2 in
-        let number = and_then_some (number_of body_limit parts.0.0) _ fields parts.2 in
-        let closes = and_then_some (close_of parts.0.1) _ fields number.2 in
-        let front = stripped_some (codes "Content-Length: ") bytes found.0 found.1 in
-        let whole = field_some (codes "\r\n") found.0 parts.0 parts.1 in
-        let text = number_of_some body_limit parts.0.0 number.0 number.1 in
-        let last = close_of_some parts.0.1 closes.0 closes.1 in
-        let made : Option ℕ × Bool = (Some number.0, closes.0) in
-        let is : made ≡ fields = cc (closes.2) in
-        let P : Option ℕ × Bool → Type 0 = λ f. (bytes ≡ fields_text f.0 f.1) × (unwrap_or f.0 0 ≤ body_limit) in
-        subst P is (
-          front ∙ ap (λ r. codes "Content-Length: " ++ r) (whole
-            ∙ ap (λ t. t ++ (line_end ++ parts.0.1)) text.0
-            ∙ ap (λ r. decimal number.0 ++ (line_end ++ r)) last
-            ∙ sym (append_assoc (decimal number.0) line_end (close_line closes.0 ++ line_end))),
-          text.1)
-    | inr other ↦
-        let closes = and_then_some (close_of bytes) _ fields other in
-        let last = close_of_some bytes closes.0 closes.1 in
-        let made : Option ℕ × Bool = (None, closes.0) in
-        let is : made ≡ fields = cc (closes.2) in
-        let P : Option ℕ × Bool → Type 0 = λ f. (bytes ≡ fields_text f.0 f.1) × (unwrap_or f.0 0 ≤ body_limit) in
-        subst P is (last, omega arith)
+      | inl found ↦
+          let parts = and_then_some (field (codes "\r\n") found.0) _ fields found.2 in
+          let number = and_then_some (number_of body_limit parts.0.0) _ fields parts.2 in
+          let closes = and_then_some (close_of parts.0.1) _ fields number.2 in
+          let front = stripped_some (codes "Content-Length: ") bytes found.0 found.1 in
+          let whole = field_some (codes "\r\n") found.0 parts.0 parts.1 in
+          let text = number_of_some body_limit parts.0.0 number.0 number.1 in
+          let last = close_of_some parts.0.1 closes.0 closes.1 in
+          let made : Option ℕ × Bool = (Some number.0, closes.0) in
+          let is : made ≡ fields = cc (closes.2) in
+          let P : Option ℕ × Bool → Type 0 = λ f. (bytes ≡ fields_text f.0 f.1) × (unwrap_or f.0 0 ≤ body_limit) in
+          subst P is (
+            front ∙ ap (λ r. codes "Content-Length: " ++ r) (whole
+                ∙ ap (λ t. t ++ (line_end ++ parts.0.1)) text.0
+                ∙ ap (λ r. decimal number.0 ++ (line_end ++ r)) last
+                ∙ sym (append_assoc (decimal number.0) line_end (close_line closes.0 ++ line_end))),
+            text.1,
+          )
+      | inr other ↦
+          let closes = and_then_some (close_of bytes) _ fields other in
+          let last = close_of_some bytes closes.0 closes.1 in
+          let made : Option ℕ × Bool = (None, closes.0) in
+          let is : made ≡ fields = cc (closes.2) in
+          let P : Option ℕ × Bool → Type 0 = λ f. (bytes ≡ fields_text f.0 f.1) × (unwrap_or f.0 0 ≤ body_limit) in
+          subst P is (last, omega arith)
     ]
 
 no_length : (closes : Bool) → stripped (codes "Content-Length: ") (close_line closes ++ line_end) ≡ None
@@ -304,7 +309,10 @@ pub fields_of-text : (length : Option ℕ) (closes : Bool) → unwrap_or length 
 unfolding fields_of fields_without_length fields_from_length length_line
 fields_of-text None closes small = rw (no_length closes, close_of-text closes) refl
 fields_of-text (Some n) closes small =
-    rw (append_assoc (decimal n) line_end (close_line closes ++ line_end),
+    rw (
+      append_assoc (decimal n) line_end (close_line closes ++ line_end),
       stripped-append (codes "Content-Length: ") (decimal n ++ (line_end ++ (close_line closes ++ line_end))),
       field-append 13 (10 ∷ []) (decimal n) (close_line closes ++ line_end) (decimal_lacks 13 n refl (omega arith)),
-      number_of-decimal body_limit n small (omega arith), close_of-text closes) refl
+      number_of-decimal body_limit n small (omega arith),
+      close_of-text closes,
+    ) refl

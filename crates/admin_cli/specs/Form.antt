@@ -1,6 +1,6 @@
 -- The one form of a request, and the event that it asks for.
-use Rattle.std.specs.Prelude.{◌≡◌, ◌≢◌, ℕ, ◌+◌, ◌<◌, ◌≤◌, ◌^◌, Bool, true, false, ◌||◌, ◌&&◌, nat_lt, nat_le, ◌==◌, List, [], ◌∷◌, ◌++◌, length, take, Option, Some, None, codes, decimal, IsSome, ◌⊎◌, unwrap_or, IsTrue}
-use Rattle.std.specs.List.{list_all, ends_with}
+use Rattle.std.specs.Prelude.{◌≡◌, ◌≢◌, ℕ, ◌+◌, ◌<◌, ◌≤◌, ◌^◌, Bool, true, false, ◌==◌, List, [], ◌∷◌, ◌++◌, length, take, Option, Some, None, codes, decimal, IsSome, ◌⊎◌, unwrap_or}
+use Rattle.std.specs.List.{ends_with}
 use Rattle.attr_records.specs.Names.{is_host_name}
 use Rattle.office_model.specs.declared.session.SessionName.{SessionName}
 use Rattle.office_model.specs.declared.event.Event.{Event}
@@ -10,7 +10,7 @@ use Rattle.office_model.specs.Session.{session_text}
 use Rattle.admin_cli.specs.declared.request.Ask.{Ask}
 use Rattle.admin_cli.specs.declared.request.Ask.TheVariants.{AddHost, OpenDump, Put, Commit, ReadFile}
 use Rattle.admin_cli.specs.declared.request.Head.{Head}
-use Rattle.admin_cli.specs.Texts.{is_session_text}
+use Rattle.admin_cli.specs.Words.{is_session_text}
 
 abbrev pub line_end : List ℕ
 line_end = 13 ∷ 10 ∷ []

@@ -3,4 +3,4 @@ pub mod Reading
 pub mod Response
 pub mod Scan
 pub mod Talk
-pub mod Texts
+pub mod Words

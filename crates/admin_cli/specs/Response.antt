@@ -1,5 +1,5 @@
 -- The responses, byte for byte.
-use Rattle.std.specs.Prelude.{◌≡◌, ℕ, Bool, true, false, ◌||◌, List, [], ◌∷◌, ◌++◌, length, Option, Some, None, Result, Ok, Err, codes, decimal, ◌==◌, if◌then◌else◌}
+use Rattle.std.specs.Prelude.{ℕ, Bool, true, false, List, ◌++◌, length, Ok, Err, codes, decimal}
 use Rattle.disk_trait.specs.declared.ids.FileId.{FileId}
 use Rattle.disk_trait.specs.declared.ids.FileId.TheVariants as F
 use Rattle.office_model.specs.declared.event.Event.{Event}
@@ -8,7 +8,6 @@ use Rattle.office_model.specs.declared.event.Answer.{Answer}
 use Rattle.office_model.specs.declared.event.Answer.TheVariants.{Done, Dump, Committed, Content}
 use Rattle.office_model.specs.declared.event.Rule.{Rule}
 use Rattle.office_model.specs.declared.event.Rule.TheVariants as R
-use Rattle.office_model.specs.declared.event.Refusal.{Refusal}
 use Rattle.office_model.specs.declared.event.Refusal.TheVariants.{Broken, Halted, DiskFault, Damaged, Memory}
 use Rattle.office_model.specs.Session.{session_text}
 use Rattle.office_model.specs.Step.{Reply}

@@ -1,12 +1,12 @@
 -- Reading a head step by step: each definition is what one step finds in the bytes before it.
-use Rattle.std.specs.Prelude.{◌≡◌, ℕ, ◌^◌, ◌-◌, Bool, true, false, List, [], ◌∷◌, Option, Some, None, codes, if◌then◌else◌, is_some, bytes_eq}
+use Rattle.std.specs.Prelude.{ℕ, ◌^◌, ◌-◌, Bool, true, false, List, [], ◌∷◌, Option, Some, None, codes, if◌then◌else◌, is_some, bytes_eq}
 use Rattle.std.specs.Option.{option_map_or}
 use Rattle.attr_records.specs.Names.{is_host_name}
 use Rattle.admin_cli.specs.declared.request.Ask.{Ask}
 use Rattle.admin_cli.specs.declared.request.Ask.TheVariants.{AddHost, OpenDump, Put, Commit, ReadFile}
 use Rattle.admin_cli.specs.declared.request.Head.{Head}
 use Rattle.admin_cli.specs.Form.{body_limit}
-use Rattle.admin_cli.specs.Texts.{◌>>=◌, is_session_text, stripped, field, tested, number_of}
+use Rattle.admin_cli.specs.Words.{◌>>=◌, is_session_text, stripped, field, tested, number_of}
 
 -- whether the last lines of a head wish to close
 unfoldable pub close_of : List ℕ → Option Bool

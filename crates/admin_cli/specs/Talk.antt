@@ -1,5 +1,5 @@
 -- What is said on one connection: the requests that were read, the calls that they made, the output, and the end.
-use Rattle.std.specs.Prelude.{◌≡◌, ◌≢◌, ℕ, ◌+◌, ◌<◌, ◌≤◌, Bool, true, false, ◌||◌, not, ◌==◌, List, [], ◌∷◌, ◌++◌, length, take, Option, Some, None, Result, Ok, Err, ◌⊎◌}
+use Rattle.std.specs.Prelude.{◌≡◌, ℕ, ◌+◌, Bool, true, false, ◌||◌, not, ◌==◌, List, [], ◌∷◌, ◌++◌, length, take, Option, Some, None, Err, ◌⊎◌}
 use Rattle.std.specs.Option.{ForSome}
 use Rattle.stream_traits.specs.Moments.{first_moment, after_reading}
 use Rattle.office_model.specs.declared.event.Event.{Event}

@@ -3,11 +3,10 @@ ghost use Rattle.fault_counts.specs.Counts.{Counted};
 ghost use Rattle.admin_cli.specs.Form.{ends_head};
 ghost use Rattle.admin_cli.specs.Reading.{ReadsHead};
 
-use std::alloc::Global;
-use stream_traits::{Failed, Faults, Link, Sink, Source, read_byte};
-
 use crate::parse::parse_head;
 use crate::request::Head;
+use std::alloc::Global;
+use stream_traits::{Failed, Faults, Link, Sink, Source, read_byte};
 
 /// What was read of a head.
 #[derive(Debug, Drop)]
@@ -66,4 +65,34 @@ fn ends_head(bytes: &[u8]) -> bool
     ensures { result ≡ ends_head bytes.now }
 {
     bytes.ends_with(b"\r\n\r\n")
+}
+
+#[cfg(test)]
+mod tests {
+    use super::*;
+    use std::test::Fail;
+    use stream_traits::MemoryLink;
+
+    const HEADS: [&[u8]; 5] = [
+        b"PUT /hosts/a.b HTTP/1.1\r\nHost: b\r\n\r\n",
+        b"POST /hosts/a/dumps?kind=full HTTP/1.1\r\nHost: b\r\nContent-Length: 0\r\n\r\n",
+        b"PUT /dumps/1-2/entry?path=x&kind=file HTTP/1.1\r\nHost: b\r\nContent-Length: 3\r\n\r\n",
+        b"POST /dumps/1-2/commit HTTP/1.1\r\nHost: b\r\nConnection: close\r\n\r\n",
+        b"GET /hosts/a/backups/0/file?path=x HTTP/1.1\r\nHost: b\r\n\r\n",
+    ];
+
+    #[test]
+    fn each_form_is_read(rt: HostRuntime) -> Result<(), Fail> {
+        for head in HEADS {
+            let mut link = MemoryLink::new(
+                rt.alloc(),
+                head.to_vec(rt.alloc())?,
+                0,
+                Vec::new(rt.alloc()),
+            )?;
+            assert!(rt; matches!(read_head(rt.alloc(), &mut link), HeadRead::Whole(_)));
+            assert!(rt; matches!(read_head(rt.alloc(), &mut link), HeadRead::Ended));
+        }
+        Ok(())
+    }
 }

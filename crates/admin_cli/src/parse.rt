@@ -2,7 +2,7 @@ ghost use Rattle.std.specs.Prelude.{◌≡◌, ◌≢◌, IfOk, MatchOption};
 ghost use Rattle.std.specs.Option.{option_copied, option_map};
 ghost use Rattle.attr_records.specs.Names.{is_host_name};
 ghost use Rattle.admin_cli.specs.Form.{head_bytes, IsHead};
-ghost use Rattle.admin_cli.specs.Texts.{tested};
+ghost use Rattle.admin_cli.specs.Words.{tested};
 ghost use Rattle.admin_cli.specs.Scan.{close_of, fields_of, fields_without_length, fields_from_length, names_length, head_of, add_host_of, open_dump_of, put_of, commit_of, read_file_of, parsed};
 
 use crate::request::{Ask, Head, SessionText};

@@ -1,6 +1,6 @@
 ghost use Rattle.std.specs.Prelude.{◌≡◌, ℕ, List, true, IfOk, Some, None};
 ghost use Rattle.std.specs.List.{list_all};
-ghost use Rattle.admin_cli.specs.Texts.{tested, session_of, is_session_byte, is_session_text};
+ghost use Rattle.admin_cli.specs.Words.{tested, session_of, is_session_byte, is_session_text};
 
 use crate::scan::{field, read_number};
 use attr_records::{HostName, PathName};
@@ -18,7 +18,7 @@ pub struct SessionText {
 
 impl Model for SessionText {
     ghost use Rattle.std.specs.Prelude.{◌≡◌, ℕ, List, true};
-    ghost use Rattle.admin_cli.specs.Texts.{is_session_text};
+    ghost use Rattle.admin_cli.specs.Words.{is_session_text};
 
     ghost Value = { List ℕ };
 
@@ -60,11 +60,24 @@ impl SessionText {
 /// What a request's line asks.
 #[derive(Debug, Drop)]
 pub enum Ask {
-    AddHost { host: HostName },
-    OpenDump { host: HostName },
-    Put { dump: SessionText, path: PathName },
-    Commit { dump: SessionText },
-    ReadFile { host: HostName, number: u32, path: PathName },
+    AddHost {
+        host: HostName,
+    },
+    OpenDump {
+        host: HostName,
+    },
+    Put {
+        dump: SessionText,
+        path: PathName,
+    },
+    Commit {
+        dump: SessionText,
+    },
+    ReadFile {
+        host: HostName,
+        number: u32,
+        path: PathName,
+    },
 }
 
 /// A request's head: what it asks, the length of its body where it names one, and whether it is the
@@ -138,7 +151,7 @@ fn has_session_bytes(text: &[u8]) -> bool
 }
 
 /// The session of a text.
-#[tactic(auto, unfolding(crate::specs::Texts::session_of))]
+#[tactic(auto, unfolding(crate::specs::Words::session_of))]
 fn session_of(text: &[u8]) -> Option<SessionName>
     ensures { result ≡ session_of text.now }
 {

@@ -1,6 +1,6 @@
 ghost use Rattle.std.specs.Prelude.{◌≡◌, ◌<◌, ◌≤◌, ◌^◌, length, take, drop, IfSome};
 ghost use Rattle.std.specs.Option.{option_copied, option_map};
-ghost use Rattle.admin_cli.specs.Texts.{stripped, place_of, field, number_of, is_plain};
+ghost use Rattle.admin_cli.specs.Words.{stripped, place_of, field, number_of, is_plain};
 
 /// What follows the front, where the bytes begin with it.
 pub fn strip<'a>(bytes: &'a [u8], front: &[u8]) -> Option<&'a [u8]>
@@ -23,7 +23,7 @@ fn place_of(bytes: &[u8], stop: u8) -> usize
 }
 
 /// The bytes before the first byte of a front, and those behind the front, where it stands there.
-#[tactic(auto, unfolding(crate::specs::Texts::field))]
+#[tactic(auto, unfolding(crate::specs::Words::field))]
 pub fn field<'a>(bytes: &'a [u8], front: &[u8]) -> Option<(&'a [u8], &'a [u8])>
     requires { 0 < length front.now }
     ensures { option_map (λ parts. (parts.0.now, parts.1.now)) result ≡ field front.now bytes.now }
@@ -58,13 +58,7 @@ pub fn read_number(text: &[u8], most: u64) -> Option<u64>
         return None;
     };
     match digits.parse::<u64>() {
-        Ok(number) => {
-            if number <= most {
-                Some(number)
-            } else {
-                None
-            }
-        }
+        Ok(number) => { if number <= most { Some(number) } else { None } }
         Err(_) => None,
     }
 }

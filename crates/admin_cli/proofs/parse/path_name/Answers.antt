@@ -10,6 +10,6 @@ no_rule fault e = cc
 pub unreachable-requires : goal.unreachable-requires
 unreachable-requires c =
     no_rule c.in-Err.fault (
-      sym (broken_path_rule-host _ c.as_slice.ensures.valid)
-      ∙ sym (ap broken_path_rule c.as_slice.ensures.value)
-      ∙ c.in-Err.ensures.rule c.in_default-fault.not-Memory)
+    sym (broken_path_rule-host _ c.as_slice.ensures.valid)
+    ∙ sym (ap broken_path_rule c.as_slice.ensures.value)
+    ∙ c.in-Err.ensures.rule c.in_default-fault.not-Memory)

@@ -2,7 +2,7 @@ use Rattle.std.proofs.Common.{◌≡◌, ℕ, ◌-◌, ◌^◌, List, Some, None
 use Rattle.std.specs.Prelude.{codes, refl}
 use Rattle.attr_records.specs.Names.{is_host_name}
 use Rattle.admin_cli.specs.declared.request.Ask.TheVariants.{ReadFile}
-use Rattle.admin_cli.specs.Texts.{field, tested, number_of}
+use Rattle.admin_cli.specs.Words.{field, tested, number_of}
 use Rattle.admin_cli.specs.Scan.{head_of, read_file_of}
 use Rattle.admin_cli.proofs.parse.read_file.Goals as goal
 
@@ -21,9 +21,9 @@ no_path bytes host rest text rest' path lines h n e1 e2 e3 e4 e5 e6 = rw (← e1
 pub returns-in-Ok-Some-path_name : goal.returns-in-Ok-Some-path_name
 returns-in-Ok-Some-path_name c =
     c.head_of.ensures ∙ found _ _ _ _ _ _ _ _ _ _ c.in-Some.ensures c.in-Some-field.ensures c.in-Some-field-2.ensures c.in-Some-read_number.ensures.value
-      (sym c.in-Ok-Some.field-0-is ∙ c.in-Ok-Some.ensures) (sym c.in-Ok-Some-path_name.field-0-is ∙ c.in-Ok-Some-path_name.ensures)
+    (sym c.in-Ok-Some.field-0-is ∙ c.in-Ok-Some.ensures) (sym c.in-Ok-Some-path_name.field-0-is ∙ c.in-Ok-Some-path_name.ensures)
 
 pub returns-in-Ok-None-path_name : goal.returns-in-Ok-None-path_name
 returns-in-Ok-None-path_name c =
     no_path _ _ _ _ _ _ _ _ _ c.in-Some.ensures c.in-Some-field.ensures c.in-Some-field-2.ensures c.in-Some-read_number.ensures.value
-      (sym c.in-Ok-Some.field-0-is ∙ c.in-Ok-Some.ensures) (sym c.in-Ok-None-path_name.field-0-is ∙ c.in-Ok-None-path_name.ensures)
+    (sym c.in-Ok-Some.field-0-is ∙ c.in-Ok-Some.ensures) (sym c.in-Ok-None-path_name.field-0-is ∙ c.in-Ok-None-path_name.ensures)

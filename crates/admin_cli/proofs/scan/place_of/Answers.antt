@@ -1,6 +1,5 @@
 use Rattle.std.proofs.Common.{arith}
 use Rattle.admin_cli.proofs.ScanLaws.{place_of_is}
-use Rattle.admin_cli.proofs.HeadLaws.{parsed_some}
 use Rattle.admin_cli.proofs.scan.place_of.Goals as goal
 
 pub returns-then-byte-stop-clause-value : goal.returns-then-byte-stop-clause-value

@@ -1,7 +1,5 @@
-use Rattle.std.proofs.Common.{◌≡◌, sym, ◌∙◌, subst, arith, List, ℕ, Ok, Err, true, false}
-use Rattle.std.specs.Str.Parse.{ParsesUnsigned}
+use Rattle.std.proofs.Common.{sym, ◌∙◌, arith}
 use Rattle.std.proofs.lemmas.Str.{IsUtf8-from_is_utf8}
-use Rattle.admin_cli.specs.Texts.{is_plain}
 use Rattle.admin_cli.proofs.ScanLaws.{number_of_not_plain, number_of_no_text, number_of_refused, number_of_read, number_of_too_large}
 use Rattle.admin_cli.proofs.scan.read_number.Goals as goal
 

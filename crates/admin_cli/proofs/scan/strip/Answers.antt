@@ -3,7 +3,7 @@ use Rattle.std.specs.Prelude.{Option}
 use Rattle.std.specs.Option.{option_copied, MatchOption}
 use Rattle.std.proofs.lemmas.Bool.Decides.{Decides-eqb}
 use Rattle.std.proofs.lemmas.Slice.Eq.{strip_prefix_is}
-use Rattle.admin_cli.specs.Texts.{stripped}
+use Rattle.admin_cli.specs.Words.{stripped}
 use Rattle.admin_cli.proofs.ScanLaws.{stripped-append, stripped_none}
 use Rattle.admin_cli.proofs.scan.strip.Goals as goal
 

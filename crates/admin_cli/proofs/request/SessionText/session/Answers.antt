@@ -1,7 +1,7 @@
 use Rattle.std.proofs.Common.{◌≡◌, ◌≢◌, ℕ, List, Some, None, refl, sym, ap, ◌∙◌, inl, inr}
 use Rattle.office_model.specs.declared.session.SessionName.{SessionName}
 use Rattle.office_model.specs.Session.{session_text}
-use Rattle.admin_cli.specs.Texts.{session_of}
+use Rattle.admin_cli.specs.Words.{session_of}
 use Rattle.admin_cli.specs.Form.{Fits64, IsSessionOf}
 use Rattle.admin_cli.proofs.ScanLaws.{session_of_some, session_of-text}
 use Rattle.admin_cli.proofs.request.SessionText.session.Goals as goal

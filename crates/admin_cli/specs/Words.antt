@@ -1,5 +1,5 @@
--- Texts of a head: what stands behind a front or before a byte, numbers, and names of sessions.
-use Rattle.std.specs.Prelude.{◌≡◌, ℕ, ◌^◌, ◌-◌, Bool, true, false, ◌||◌, ◌&&◌, nat_lt, nat_le, ◌==◌, List, [], ◌∷◌, length, take, drop, Option, Some, None, codes, decimal, slice_index, option_and_then, if◌then◌else◌, bytes_eq}
+-- Words of a head: what stands behind a front or before a byte, numbers, and names of sessions.
+use Rattle.std.specs.Prelude.{ℕ, ◌^◌, ◌-◌, Bool, false, ◌||◌, ◌&&◌, nat_lt, nat_le, ◌==◌, List, [], ◌∷◌, length, take, drop, Option, Some, None, codes, decimal, slice_index, option_and_then, if◌then◌else◌, bytes_eq}
 use Rattle.std.specs.List.{list_all, position_or_len}
 use Rattle.std.specs.Option.{option_map}
 use Rattle.std.specs.Str.Parse.{digits_value}
