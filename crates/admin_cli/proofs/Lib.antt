@@ -1,2 +1,5 @@
+pub mod HeadLaws
 pub mod NameLemmas
+pub mod ReadLaws
+pub mod ScanLaws
 pub mod TalkLemmas

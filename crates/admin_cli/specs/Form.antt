@@ -1,6 +1,6 @@
 -- The one form of a request, and the event that it asks for.
-use Rattle.std.specs.Prelude.{◌≡◌, ◌≢◌, ℕ, ◌+◌, ◌<◌, ◌≤◌, ◌^◌, Bool, true, false, ◌||◌, ◌&&◌, nat_lt, nat_le, ◌==◌, List, [], ◌∷◌, ◌++◌, length, take, Option, Some, None, codes, decimal, IsSome, ◌⊎◌, unwrap_or, IsTrue}
-use Rattle.std.specs.List.{list_all, ends_with}
+use Rattle.std.specs.Prelude.{◌≡◌, ◌≢◌, ℕ, ◌+◌, ◌<◌, ◌≤◌, ◌^◌, Bool, true, false, ◌==◌, List, [], ◌∷◌, ◌++◌, length, take, Option, Some, None, codes, decimal, IsSome, ◌⊎◌, unwrap_or}
+use Rattle.std.specs.List.{ends_with}
 use Rattle.attr_records.specs.Names.{is_host_name}
 use Rattle.office_model.specs.declared.session.SessionName.{SessionName}
 use Rattle.office_model.specs.declared.event.Event.{Event}
@@ -10,6 +10,7 @@ use Rattle.office_model.specs.Session.{session_text}
 use Rattle.admin_cli.specs.declared.request.Ask.{Ask}
 use Rattle.admin_cli.specs.declared.request.Ask.TheVariants.{AddHost, OpenDump, Put, Commit, ReadFile}
 use Rattle.admin_cli.specs.declared.request.Head.{Head}
+use Rattle.admin_cli.specs.Words.{is_session_text}
 
 abbrev pub line_end : List ℕ
 line_end = 13 ∷ 10 ∷ []
@@ -35,14 +36,6 @@ unfoldable pub head_bytes : Head → List ℕ
 head_bytes head =
     ask_text head.ask ++ codes " HTTP/1.1" ++ line_end ++ codes "Host: b" ++ line_end
     ++ length_line head.length ++ close_line head.closes ++ line_end
-
--- a digit or a dash
-abbrev pub is_session_byte : ℕ → Bool
-is_session_byte byte = (nat_le 48 byte && nat_le byte 57) || (byte == 45)
-
--- one or more of them
-abbrev pub is_session_text : List ℕ → Bool
-is_session_text text = nat_lt 0 (length text) && list_all is_session_byte text
 
 -- the texts of the request line are names, and the number fits
 abbrev pub IsAsk : Ask → Type 0
@@ -118,7 +111,9 @@ abbrev pub Fits64 : SessionName → Type 0
 Fits64 name = (name.epoch < 2 ^ 64) × (name.sequence < 2 ^ 64)
 
 abbrev pub IsSessionOf : List ℕ → SessionName → Type 0
-IsSessionOf text name = Unit {0}
+IsSessionOf text name =
+    (Fits64 name × (session_text name ≡ text))
+    ⊎ ((name.epoch ≡ 0) × (name.sequence ≡ 0) × ((other : SessionName) → Fits64 other → session_text other ≢ text))
 
 -- the event of a request with this body, at this moment
 abbrev pub IsEventOf : Ask → List ℕ → ℕ → Event → Type 0

@@ -1,5 +1,7 @@
 pub mod Form
 pub mod Reading
 pub mod Response
-pub mod Talk
+pub mod Scan
 pub mod Serving
+pub mod Talk
+pub mod Words

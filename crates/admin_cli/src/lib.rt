@@ -3,12 +3,15 @@
 
 mod connection;
 mod head;
+mod parse;
 mod request;
 mod response;
+mod scan;
 mod text;
 mod texts;
 
 pub use connection::{End, serve_connection};
 pub use head::{HeadRead, read_head};
+pub use parse::parse_head;
 pub use request::{Ask, Head, SessionText};
 pub use response::{send_no_memory, send_not_built, send_response};
