@@ -5,3 +5,4 @@ pub mod Scan
 pub mod Serving
 pub mod Talk
 pub mod Words
+pub mod Command

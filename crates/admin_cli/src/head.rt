@@ -3,7 +3,7 @@ ghost use Rattle.fault_counts.specs.Counts.{Counted};
 ghost use Rattle.admin_cli.specs.Form.{ends_head};
 ghost use Rattle.admin_cli.specs.Reading.{ReadsHead};
 
-use crate::parse::parse_head;
+use crate::grammar::parse_head;
 use crate::request::Head;
 use std::alloc::Global;
 use stream_traits::{Failed, Faults, Link, Sink, Source, read_byte};

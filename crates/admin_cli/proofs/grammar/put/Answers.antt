@@ -4,7 +4,7 @@ use Rattle.attr_records.specs.Names.{is_host_name}
 use Rattle.admin_cli.specs.declared.request.Ask.TheVariants.{Put}
 use Rattle.admin_cli.specs.Words.{field, tested, is_session_text}
 use Rattle.admin_cli.specs.Scan.{head_of, put_of}
-use Rattle.admin_cli.proofs.parse.put.Goals as goal
+use Rattle.admin_cli.proofs.grammar.put.Goals as goal
 
 found : (bytes dump rest path lines d p : List ℕ) → Some (dump, rest) ≡ field (codes "/entry?path=") bytes → Some (path, lines) ≡ field (codes "&kind=file ") rest
     → Some d ≡ tested is_session_text dump → Some p ≡ tested is_host_name path → head_of (Put d p) lines ≡ put_of bytes

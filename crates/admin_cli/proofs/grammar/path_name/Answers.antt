@@ -2,7 +2,7 @@ use Rattle.std.proofs.Common.{◌≡◌, ap, sym, ◌∙◌, Some, None}
 use Rattle.attr_records.specs.Names.{broken_path_rule-host}
 use Rattle.attr_records.specs.PathRules.{broken_path_rule}
 use Rattle.attr_records.specs.declared.paths.BadPath.{BadPath}
-use Rattle.admin_cli.proofs.parse.path_name.Goals as goal
+use Rattle.admin_cli.proofs.grammar.path_name.Goals as goal
 
 no_rule : (fault : BadPath) → None ≡ Some fault → ⊥
 no_rule fault e = cc

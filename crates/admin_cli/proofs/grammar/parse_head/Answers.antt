@@ -1,6 +1,6 @@
 use Rattle.std.proofs.Common.{sym, ◌∙◌}
 use Rattle.admin_cli.proofs.HeadLaws.{parsed_some, parsed_none}
-use Rattle.admin_cli.proofs.parse.parse_head.Goals as goal
+use Rattle.admin_cli.proofs.grammar.parse_head.Goals as goal
 
 pub returns-in-Ok-Some : goal.returns-in-Ok-Some
 returns-in-Ok-Some c = parsed_some c.args.bytes.now _ (sym c.in-Ok-Some.ensures ∙ c.in-Ok-Some.field-0-is)

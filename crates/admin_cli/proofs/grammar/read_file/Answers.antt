@@ -4,7 +4,7 @@ use Rattle.attr_records.specs.Names.{is_host_name}
 use Rattle.admin_cli.specs.declared.request.Ask.TheVariants.{ReadFile}
 use Rattle.admin_cli.specs.Words.{field, tested, number_of}
 use Rattle.admin_cli.specs.Scan.{head_of, read_file_of}
-use Rattle.admin_cli.proofs.parse.read_file.Goals as goal
+use Rattle.admin_cli.proofs.grammar.read_file.Goals as goal
 
 found : (bytes host rest text rest' path lines h p : List ℕ) (n : ℕ) → Some (host, rest) ≡ field (codes "/backups/") bytes → Some (text, rest') ≡ field (codes "/file?path=") rest
     → Some (path, lines) ≡ field (codes " ") rest' → Some n ≡ number_of (2 ^ 32 - 1) text → Some h ≡ tested is_host_name host → Some p ≡ tested is_host_name path
