@@ -3,3 +3,4 @@ pub mod NameLemmas
 pub mod ReadLaws
 pub mod ScanLaws
 pub mod TalkLemmas
+pub mod RunLaws

@@ -6,3 +6,4 @@ pub mod Serving
 pub mod Talk
 pub mod Words
 pub mod Command
+pub mod Run

@@ -2,8 +2,10 @@
 #![tactic(auto)]
 
 mod connection;
-mod head;
 mod grammar;
+mod head;
+mod note;
+mod pipe;
 mod request;
 mod response;
 mod scan;
@@ -12,8 +14,10 @@ mod texts;
 mod words;
 
 pub use connection::{End, serve_connection};
-pub use head::{HeadRead, read_head};
 pub use grammar::parse_head;
+pub use head::{HeadRead, read_head};
+pub use note::Note;
+pub use pipe::{Done, run};
 pub use request::{Ask, Head, SessionText};
-pub use words::{CommandLine, LineFault, USAGE, Work, has_parse, parse};
 pub use response::{send_no_memory, send_not_built, send_response};
+pub use words::{CommandLine, LineFault, USAGE, Work, has_parse, parse};

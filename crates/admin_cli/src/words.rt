@@ -73,7 +73,10 @@ pub fn parse(alloc: Global, words: &[String]) -> Result<CommandLine, LineFault>
 {
     match store_named(words) {
         Some(store) => match String::from_str(alloc, store) {
-            Ok(store) => Ok(CommandLine { store, work: Work::Pipe }),
+            Ok(store) => Ok(CommandLine {
+                store,
+                work: Work::Pipe,
+            }),
             Err(_) => Err(LineFault::Memory),
         },
         None => Err(LineFault::NoParse),
