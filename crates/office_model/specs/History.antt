@@ -1,5 +1,5 @@
 -- Legal histories: entries that go on from a state and a count of faults.
-use Rattle.std.specs.Prelude.{◌≡◌, ℕ, ◌≤◌, List, [], ◌∷◌, ◌++◌, map, Err, refl}
+use Rattle.std.specs.Prelude.{◌≡◌, ℕ, ◌≤◌, List, [], ◌∷◌, ◌++◌, Err, refl}
 use Rattle.std.proofs.Common.{sym, ap, ◌∙◌, subst}
 use Rattle.fault_counts.specs.Counts.{Rose}
 use Rattle.office_model.specs.declared.event.Event.{Event}

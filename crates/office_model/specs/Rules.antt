@@ -1,17 +1,17 @@
 -- The first rule that an event breaks in an office.
-use Rattle.std.specs.Prelude.{◌≡◌, ℕ, ◌-◌, ◌^◌, Bool, List, length, Option, Some, None, if◌then◌else◌, is_some, nat_le, slice_get}
+use Rattle.std.specs.Prelude.{ℕ, ◌-◌, ◌^◌, List, length, Option, Some, None, if◌then◌else◌, is_some, nat_le, slice_get}
 use Rattle.std.specs.Option.{option_map_or, option_map}
 use Rattle.attr_records.specs.declared.nodes.Item.{Item}
 use Rattle.attr_records.specs.declared.nodes.Item.TheVariants.{File, Dir, Link}
 use Rattle.attr_records.specs.declared.trees.PutRule.{PutRule}
 use Rattle.attr_records.specs.Trees.{node_at}
-use Rattle.attr_records.specs.Nodes.{Tree, broken_put, file_default}
+use Rattle.attr_records.specs.Nodes.{broken_put, file_default}
 use Rattle.office_model.specs.declared.event.Event.{Event}
 use Rattle.office_model.specs.declared.event.Event.TheVariants.{AddHost, OpenDump, Put, Commit, ReadFile}
 use Rattle.office_model.specs.declared.event.Rule.{Rule}
 use Rattle.office_model.specs.declared.event.Rule.TheVariants.{HostExists, HostsFull, NoHost, SessionOpen, NumbersSpent, NoSession, NoParent, IsDirectory, TooManyEntries, FileTooLarge, NoBackup, NoPath, NotAFile}
 use Rattle.attr_records.specs.declared.trees.PutRule.TheVariants.{NoParent as PutNoParent, IsDirectory as PutIsDirectory, TooManyEntries as PutTooManyEntries, FileTooLarge as PutFileTooLarge}
-use Rattle.office_model.specs.Office.{Office, Host, Backup, Dump, host_place, host_named, dump_named, dump_of_host, backup_of, number_limit, host_limit}
+use Rattle.office_model.specs.Office.{Office, Host, Dump, host_place, host_named, dump_named, dump_of_host, backup_of, number_limit, host_limit}
 
 -- a file with default attributes, as a put makes it
 abbrev pub plain_file : List ℕ → Item

@@ -1,11 +1,10 @@
 -- What an event does to the office, and which replies it may have.
-use Rattle.std.specs.Prelude.{◌≡◌, ℕ, ◌+◌, Bool, true, false, List, [], ◌∷◌, ◌++◌, length, Option, Some, None, Result, Ok, Err, slice_get, slice_set, unwrap_or, IsTrue, ◌⊎◌}
+use Rattle.std.specs.Prelude.{◌≡◌, ℕ, ◌+◌, Bool, true, false, List, [], ◌∷◌, ◌++◌, length, Option, Some, None, Result, Ok, Err, slice_get, slice_set, unwrap_or}
 use Rattle.std.specs.List.{remove}
 use Rattle.std.specs.Option.{option_map_or}
 use Rattle.attr_records.specs.declared.nodes.Item.{Item}
 use Rattle.attr_records.specs.declared.nodes.Item.TheVariants.{File, Dir, Link}
 use Rattle.attr_records.specs.Trees.{node_at, with_node}
-use Rattle.attr_records.specs.Nodes.{Tree}
 use Rattle.office_model.specs.declared.session.SessionName.{SessionName}
 use Rattle.office_model.specs.declared.event.Event.{Event}
 use Rattle.office_model.specs.declared.event.Event.TheVariants.{AddHost, OpenDump, Put, Commit, ReadFile}
@@ -13,7 +12,7 @@ use Rattle.office_model.specs.declared.event.Answer.{Answer}
 use Rattle.office_model.specs.declared.event.Answer.TheVariants.{Done, Dump as Opened, Committed, Content}
 use Rattle.office_model.specs.declared.event.Refusal.{Refusal}
 use Rattle.office_model.specs.declared.event.Refusal.TheVariants.{Broken, Halted, DiskFault, Damaged, Memory}
-use Rattle.office_model.specs.Office.{Office, Host, Backup, Dump, durable, host_place, host_named, dump_place, dump_named, backup_of, IsSound}
+use Rattle.office_model.specs.Office.{Office, Host, Dump, durable, host_place, host_named, dump_place, dump_named, backup_of, IsSound}
 use Rattle.office_model.specs.Rules.{broken_rule, plain_file}
 
 -- the session that an opening of this moment would have
@@ -40,8 +39,8 @@ with_backup host dump now = record host { backups = host.backups ++ (record { st
 abbrev pub with_dump_committed : Office → ℕ → ℕ → Office
 with_dump_committed office place now = option_map_or
     (λ dump. option_map_or
-      (λ host. record office { hosts = slice_set office.hosts dump.host (with_backup host dump now); dumps = remove office.dumps place })
-      (slice_get office.hosts dump.host) office)
+    (λ host. record office { hosts = slice_set office.hosts dump.host (with_backup host dump now); dumps = remove office.dumps place })
+    (slice_get office.hosts dump.host) office)
     (slice_get office.dumps place) office
 
 -- the office after an event that breaks no rule

@@ -1,10 +1,9 @@
+use crate::session::SessionName;
 use attr_records::{HostName, PathName, PutRule};
 use disk_trait::{Bytes, FileId};
-use stream_traits::Moment;
 use std::error::Error;
 use std::fmt;
-
-use crate::session::SessionName;
+use stream_traits::Moment;
 
 /// The kinds of a backup.
 #[derive(Clone, Copy, Debug, PartialEq, Eq)]
@@ -17,15 +16,32 @@ pub enum Kind {
 #[derive(Debug, Drop)]
 pub enum Event {
     /// A new host, which has no backups.
-    AddHost { host: HostName },
+    AddHost {
+        host: HostName,
+    },
     /// Opens a dump of a host.
-    OpenDump { host: HostName, kind: Kind, now: Moment },
+    OpenDump {
+        host: HostName,
+        kind: Kind,
+        now: Moment,
+    },
     /// Puts a file with default attributes into the tree of an open dump.
-    Put { dump: SessionName, path: PathName, bytes: Bytes },
+    Put {
+        dump: SessionName,
+        path: PathName,
+        bytes: Bytes,
+    },
     /// Makes the tree of an open dump the host's next backup.
-    Commit { dump: SessionName, now: Moment },
+    Commit {
+        dump: SessionName,
+        now: Moment,
+    },
     /// Asks for the bytes of a file of a backup.
-    ReadFile { host: HostName, number: u32, path: PathName },
+    ReadFile {
+        host: HostName,
+        number: u32,
+        path: PathName,
+    },
 }
 
 /// What an event that was carried out gives.

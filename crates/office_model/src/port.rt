@@ -1,9 +1,8 @@
 ghost use Rattle.std.specs.Prelude.{◌≡◌, List, [], ◌∷◌, ◌++◌, IfOk};
 ghost use Rattle.office_model.specs.Step.{Call, IsAnswerTo};
 
-use std::alloc::Global;
-
 use crate::event::{Answer, Event, Refusal};
+use std::alloc::Global;
 
 /// What carries out events: the office as its callers see it.
 ///
@@ -17,5 +16,6 @@ pub trait Port {
         ensures in_kind { IfOk result (IsAnswerTo event.now) };
 
     ghost none: { (p : Self) → moves p [] p };
+
     ghost joined: { (p q r : Self) (xs ys : List Call) → moves p xs q → moves q ys r → moves p (xs ++ ys) r };
 }
