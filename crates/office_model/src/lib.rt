@@ -6,6 +6,7 @@
 #![tactic(auto)]
 
 mod event;
+mod plain;
 mod port;
 mod session;
 
