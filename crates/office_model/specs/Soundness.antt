@@ -1,5 +1,5 @@
 -- The laws of soundness: the office without hosts is sound, and stays sound by each event that breaks no rule and by each reopening.
-use Rattle.std.specs.Prelude.{◌≡◌, ◌≢◌, ℕ, ◌+◌, ◌-◌, ◌<◌, ◌≤◌, ◌^◌, Bool, true, false, List, [], ◌∷◌, ◌++◌, length, get_or, Option, Some, None, Ok, Err, ◌⊎◌, is_some, nat_le, if◌then◌else◌, slice_get, slice_set, unwrap_or}
+use Rattle.std.specs.Prelude.{◌≡◌, ◌≢◌, ℕ, ◌+◌, ◌-◌, ◌<◌, ◌≤◌, ◌^◌, Bool, true, false, List, [], ◌∷◌, ◌++◌, length, get_or, Option, Some, None, Ok, Err, IfOk, ◌⊎◌, is_some, nat_le, if◌then◌else◌, slice_get, slice_set, unwrap_or}
 use Rattle.std.specs.List.{remove}
 use Rattle.std.specs.Option.{option_map, option_map_or, option_and_then}
 use Rattle.std.proofs.Common.{refl, sym, ap, ◌∙◌, subst, inl, inr, arith, length-append}
@@ -15,9 +15,9 @@ use Rattle.office_model.specs.declared.event.Event.TheVariants.{AddHost, OpenDum
 use Rattle.office_model.specs.declared.event.Rule.{Rule}
 use Rattle.office_model.specs.declared.event.Rule.TheVariants.{NoHost, NoSession}
 use Rattle.office_model.specs.declared.event.Refusal.TheVariants.{Broken, Halted, DiskFault, Damaged, Memory}
-use Rattle.office_model.specs.Office.{Office, Host, Backup, Dump, no_office, durable, reopened, host_place, dump_place, dump_of_host, number_limit, host_limit, IsSoundDump, IsSoundHost, IsSound}
+use Rattle.office_model.specs.Office.{Office, Host, Backup, Dump, no_office, durable, reopened, host_place, host_named, dump_place, dump_named, dump_of_host, number_limit, host_limit, IsSoundDump, IsSoundHost, IsSound}
 use Rattle.office_model.specs.Rules.{broken_rule, add_rule, open_rule, open_rule_at, put_rule, rule_of_put, plain_file}
-use Rattle.office_model.specs.Step.{with_dump, with_file_put, with_backup, with_dump_committed, after, next_session, Reply, State, Running, Stopped, IsSoundState, IsStep}
+use Rattle.office_model.specs.Step.{with_dump, with_file_put, with_backup, with_dump_committed, after, next_session, Reply, State, Running, Stopped, IsSoundState, IsStep, IsAnswerTo, answer_of, next_number, content_of}
 use Rattle.office_model.specs.Places.{AtEach-longer, AtEach-set, Differ-longer, Differ-set, Differ-remove, slice_get-set_other, slice_get-remove, place_before, place_before-other, in_longer}
 use Rattle.office_model.specs.Lookups.{host_place-found, host_place-none, dump_place-found, dump_named-none, dump_named-found, dump_of_host-none}
 
@@ -297,3 +297,17 @@ IsSoundState-step (Running old) event (Err DiskFault) next sound step =
 IsSoundState-step (Running old) event (Err (Damaged file found)) next sound step = absurd step
 IsSoundState-step (Running old) event (Err Memory) next sound step = subst IsSoundState (sym step) sound
 IsSoundState-step (Stopped before after) event reply next sound step = subst IsSoundState (sym step.1) sound
+
+-- an answer is of the event's kind
+IsAnswerTo-answer_of : (office : Office) (event : Event) → IsAnswerTo event (answer_of office event)
+IsAnswerTo-answer_of office (AddHost name) = refl
+IsAnswerTo-answer_of office (OpenDump name kind now) = (next_session office, refl)
+IsAnswerTo-answer_of office (Put session path bytes) = refl
+IsAnswerTo-answer_of office (Commit session now) = (next_number office (dump_named office.dumps session), refl)
+IsAnswerTo-answer_of office (ReadFile name number path) = (content_of (host_named office.hosts name) number path, refl)
+
+pub IsAnswerTo-step : (state : State) (event : Event) (reply : Reply) (next : State) → IsStep state event reply next → IfOk reply (IsAnswerTo event)
+IsAnswerTo-step (Running old) event (Ok answer) next step = subst (IsAnswerTo event) (sym step.1) (IsAnswerTo-answer_of old event)
+IsAnswerTo-step (Running old) event (Err refusal) next step = tt
+IsAnswerTo-step (Stopped before after) event (Ok answer) next step = absurd (cc step.0)
+IsAnswerTo-step (Stopped before after) event (Err refusal) next step = tt

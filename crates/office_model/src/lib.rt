@@ -11,5 +11,6 @@ mod port;
 mod session;
 
 pub use event::{Answer, Event, Kind, Refusal, Rule};
+pub use plain::PlainOffice;
 pub use port::Port;
 pub use session::SessionName;

@@ -14,6 +14,7 @@ use crate::event::{Answer, Event, Kind, Refusal, Rule};
 use crate::plain::parts::{
     PlainDump, PlainHost, commit, dump_of_host, dump_place, file_of, host_place,
 };
+use crate::port::Port;
 use crate::session::SessionName;
 
 mod parts;
@@ -251,6 +252,23 @@ impl PlainOffice {
             Err(_) => Err(Refusal::Memory),
         }
     }
+}
+
+/// A port whose moves are the legal histories of an office without faults.
+impl Port for PlainOffice {
+    ghost use Rattle.office_model.specs.History.{Leads, Leads-none, Leads-append};
+    ghost use Rattle.office_model.specs.Step.{Running};
+
+    ghost moves = { λ p calls q. Leads (Running p) 0 calls (Running q) 0 };
+
+    fn call(&mut self, alloc: Global, event: &Event) -> Result<Answer, Refusal> {
+        let _epoch = self.epoch;
+        self.step(alloc, event)
+    }
+
+    ghost none = { λ p. Leads-none (Running p) 0 };
+
+    ghost joined = { λ p q r xs ys a b. Leads-append (Running p) (Running q) (Running r) 0 0 0 xs ys a b };
 }
 
 /// The office's rule for a put that breaks a rule of trees.
