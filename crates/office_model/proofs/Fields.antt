@@ -21,14 +21,14 @@ module _ (epoch : ℕ) (hosts : List Host) (dumps : List Dump) (sequence : ℕ) 
   pub host_added : (name : List ℕ) (hosts' : List Host) → add_rule office name ≡ None → hosts' ≡ hosts ++ new_host name ∷ [] → IsSound (office_of epoch hosts' dumps sequence)
   host_added name hosts' rule made =
       subst (λ (hs : List Host). IsSound (office_of epoch hs dumps sequence)) (sym made)
-        (IsSound-host_added (office_of epoch hosts dumps sequence) name sound (subst (λ o. add_rule o name ≡ None) (sym is) rule))
+      (IsSound-host_added (office_of epoch hosts dumps sequence) name sound (subst (λ o. add_rule o name ≡ None) (sym is) rule))
 
   -- a further open dump
   pub dump_opened : (place now : ℕ) (dumps' : List Dump) → open_rule_at office (Some place) ≡ None → dumps' ≡ dumps ++ new_dump (office_of epoch hosts dumps sequence) place now ∷ []
       → IsSound (office_of epoch hosts dumps' (sequence + 1))
   dump_opened place now dumps' rule made =
       subst (λ (ds : List Dump). IsSound (office_of epoch hosts ds (sequence + 1))) (sym made)
-        (IsSound-dump_opened (office_of epoch hosts dumps sequence) place now sound (subst (λ o. open_rule_at o (Some place) ≡ None) (sym is) rule))
+      (IsSound-dump_opened (office_of epoch hosts dumps sequence) place now sound (subst (λ o. open_rule_at o (Some place) ≡ None) (sym is) rule))
 
   -- a file put into an open dump
   module _ (place : ℕ) (path bytes : List ℕ) (dump dump' : Dump) (read : dump ≡ get_or dumps place dump) (made : dump' ≡ dump_with_file dump path bytes)

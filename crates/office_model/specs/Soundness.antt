@@ -266,8 +266,8 @@ IsSound-dump_committed office place now sound = step (slice_get office.dumps pla
     step : (r : Option Dump) → slice_get office.dumps place ≡ r → IsSound (with_dump_committed office place now)
     step None at = subst IsSound (sym (ap (λ r. option_map_or
         (λ (dump : Dump). option_map_or
-          (λ host. record office { hosts = slice_set office.hosts dump.host (with_backup host dump now); dumps = remove office.dumps place })
-          (slice_get office.hosts dump.host) office)
+        (λ host. record office { hosts = slice_set office.hosts dump.host (with_backup host dump now); dumps = remove office.dumps place })
+        (slice_get office.hosts dump.host) office)
         r office) at)) sound
     step (Some dump) at = IsSound-with_dump_committed office place now dump sound at
 

@@ -9,6 +9,8 @@ mod event;
 mod plain;
 mod port;
 mod session;
+#[cfg(test)]
+mod tests;
 
 pub use event::{Answer, Event, Kind, Refusal, Rule};
 pub use plain::PlainOffice;

@@ -4,18 +4,17 @@ ghost use Rattle.office_model.specs.Office.{reopened, no_office, host_place, dum
 ghost use Rattle.office_model.specs.Rules.{rule_of_put, open_rule_at, put_rule};
 ghost use Rattle.office_model.specs.Step.{Running, IsStep, IsOfficeStep, IsAnswerTo, next_session, with_dump, with_file_put, with_dump_committed, next_number};
 
-use attr_records::{HostName, PathName, PutRule};
-use disk_trait::Bytes;
-use std::alloc::{AllocError, Global};
-use std::marker::Model;
-use stream_traits::Moment;
-
 use crate::event::{Answer, Event, Kind, Refusal, Rule};
 use crate::plain::parts::{
     PlainDump, PlainHost, commit, dump_of_host, dump_place, file_of, host_place,
 };
 use crate::port::Port;
 use crate::session::SessionName;
+use attr_records::{HostName, PathName, PutRule};
+use disk_trait::Bytes;
+use std::alloc::{AllocError, Global};
+use std::marker::Model;
+use stream_traits::Moment;
 
 mod parts;
 mod tree;
@@ -120,7 +119,12 @@ impl PlainOffice {
     }
 
     /// A further dump of the host at this place. Without memory the office stays as it was.
-    fn push_dump(&mut self, alloc: Global, place: usize, now: Moment) -> Result<SessionName, AllocError>
+    fn push_dump(
+        &mut self,
+        alloc: Global,
+        place: usize,
+        now: Moment,
+    ) -> Result<SessionName, AllocError>
         requires { open_rule_at self.old (Some place) ≡ None }
         ensures name { IfOk result (λ name. name ≡ next_session self.old) }
         ensures ok { OnOk result (self.new ≡ with_dump self.old place now) }

@@ -9,15 +9,14 @@ ghost use Rattle.office_model.specs.Rules.{plain_file, file_rule, read_rule};
 ghost use Rattle.office_model.specs.Step.{with_backup, bytes_of, content_of};
 ghost use Rattle.office_model.specs.Soundness.{dump_with_file, new_host};
 
+use crate::event::Rule;
+use crate::plain::tree::{Row, broken_put, node_at, put_file};
+use crate::session::SessionName;
 use attr_records::{HostName, Item, MOST_FILE_BYTES, PathName, PutRule};
 use disk_trait::Bytes;
 use std::alloc::{AllocError, Global};
 use std::marker::Model;
 use stream_traits::Moment;
-
-use crate::event::Rule;
-use crate::plain::tree::{Row, broken_put, node_at, put_file};
-use crate::session::SessionName;
 
 /// The bytes of a file, or the rule that reading anything else breaks.
 fn bytes_of(item: &Item) -> Result<&Bytes, Rule>

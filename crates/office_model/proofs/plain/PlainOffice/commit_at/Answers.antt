@@ -5,15 +5,15 @@ use Rattle.office_model.proofs.plain.PlainOffice.commit_at.Goals as goal
 pub invariant_of-self-2 : goal.invariant_of-self-2
 invariant_of-self-2 c =
     committed-sound _ _ _ _ _ c.self.view_is c.self.invariant c.args.place c.args.now c.requires c.index.result.now c.index.ensures
-      c.host-host.result c.host-host.ensures c.index_mut.result.now _ c.index_mut.ensures.value c.in_ok-commit.ensures.host _ c.in_ok-commit.ensures.dumps
+    c.host-host.result c.host-host.ensures c.index_mut.result.now _ c.index_mut.ensures.value c.in_ok-commit.ensures.host _ c.in_ok-commit.ensures.dumps
 
 pub returns-clause-number : goal.returns-clause-number
 returns-clause-number c =
     c.in_ok-commit.ensures.ok
     ∙ committed-number _ _ _ _ _ c.self.view_is c.self.invariant c.args.place c.args.now c.requires c.index.result.now c.index.ensures
-      c.host-host.result c.host-host.ensures c.index_mut.result.now _ c.index_mut.ensures.value c.in_ok-commit.ensures.host _ c.in_ok-commit.ensures.dumps
+    c.host-host.result c.host-host.ensures c.index_mut.result.now _ c.index_mut.ensures.value c.in_ok-commit.ensures.host _ c.in_ok-commit.ensures.dumps
 
 pub returns-clause-ok : goal.returns-clause-ok
 returns-clause-ok c =
     committed-is _ _ _ _ _ c.self.view_is c.self.invariant c.args.place c.args.now c.requires c.index.result.now c.index.ensures
-      c.host-host.result c.host-host.ensures c.index_mut.result.now _ c.index_mut.ensures.value c.in_ok-commit.ensures.host _ c.in_ok-commit.ensures.dumps
+    c.host-host.result c.host-host.ensures c.index_mut.result.now _ c.index_mut.ensures.value c.in_ok-commit.ensures.host _ c.in_ok-commit.ensures.dumps
