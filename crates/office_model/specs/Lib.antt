@@ -7,3 +7,4 @@ pub mod History
 pub mod Places
 pub mod Lookups
 pub mod Soundness
+pub mod PlainTrees

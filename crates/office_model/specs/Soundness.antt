@@ -1,24 +1,24 @@
 -- The laws of soundness: the office without hosts is sound, and stays sound by each event that breaks no rule and by each reopening.
-use Rattle.std.specs.Prelude.{◌≡◌, ◌≢◌, ℕ, ◌+◌, ◌-◌, ◌<◌, ◌≤◌, ◌^◌, Bool, true, false, List, [], ◌∷◌, ◌++◌, length, get_or, Option, Some, None, Ok, Err, ◌⊎◌, is_some, nat_le, if◌then◌else◌, slice_get, slice_set, unwrap_or}
+use Rattle.std.specs.Prelude.{◌≡◌, ◌≢◌, ℕ, ◌+◌, ◌-◌, ◌<◌, ◌≤◌, ◌^◌, Bool, true, false, List, [], ◌∷◌, ◌++◌, length, get_or, Option, Some, None, Ok, Err, IfOk, ◌⊎◌, is_some, nat_le, if◌then◌else◌, slice_get, slice_set, unwrap_or}
 use Rattle.std.specs.List.{remove}
-use Rattle.std.specs.Option.{option_map, option_map_or}
+use Rattle.std.specs.Option.{option_map, option_map_or, option_and_then}
 use Rattle.std.proofs.Common.{refl, sym, ap, ◌∙◌, subst, inl, inr, arith, length-append}
 use Rattle.std.proofs.Math.ListN.{length-set}
 use Rattle.std.proofs.lemmas.Bool.Decides.{nat_tests}
 use Rattle.std.proofs.lemmas.Option.{slice_get_within, slice_get_cases}
 use Rattle.attr_records.specs.declared.trees.PutRule.{PutRule}
 use Rattle.attr_records.specs.Trees as Trees
-use Rattle.office_model.specs.Nodes.{IsTree, IsTree-nil, IsTree-with_file, broken_put}
 use Rattle.attr_records.specs.Items.{is_dir, is_large}
+use Rattle.office_model.specs.Nodes.{IsTree, IsTree-nil, IsTree-with_file, broken_put}
 use Rattle.office_model.specs.declared.session.SessionName.{SessionName}
 use Rattle.office_model.specs.declared.event.Event.{Event}
 use Rattle.office_model.specs.declared.event.Event.TheVariants.{AddHost, OpenDump, Put, Commit, ReadFile}
 use Rattle.office_model.specs.declared.event.Rule.{Rule}
 use Rattle.office_model.specs.declared.event.Rule.TheVariants.{NoHost, NoSession}
 use Rattle.office_model.specs.declared.event.Refusal.TheVariants.{Broken, Halted, DiskFault, Damaged, Memory}
-use Rattle.office_model.specs.Office.{Office, Host, Backup, Dump, no_office, durable, reopened, host_place, dump_place, dump_of_host, number_limit, host_limit, IsSoundDump, IsSoundHost, IsSound}
-use Rattle.office_model.specs.Rules.{broken_rule, open_rule, open_rule_at, put_rule, rule_of_put, plain_file}
-use Rattle.office_model.specs.Step.{with_dump, with_file_put, with_backup, with_dump_committed, after, next_session, Reply, State, Running, Stopped, IsSoundState, IsStep}
+use Rattle.office_model.specs.Office.{Office, Host, Backup, Dump, no_office, durable, reopened, host_place, host_named, dump_place, dump_named, dump_of_host, number_limit, host_limit, IsSoundDump, IsSoundHost, IsSound}
+use Rattle.office_model.specs.Rules.{broken_rule, add_rule, open_rule, open_rule_at, put_rule, rule_of_put, plain_file}
+use Rattle.office_model.specs.Step.{with_dump, with_file_put, with_backup, with_dump_committed, after, next_session, Reply, State, Running, Stopped, IsSoundState, IsStep, IsAnswerTo, answer_of, next_number, content_of}
 use Rattle.office_model.specs.Places.{AtEach-longer, AtEach-set, Differ-longer, Differ-set, Differ-remove, slice_get-set_other, slice_get-remove, place_before, place_before-other, in_longer}
 use Rattle.office_model.specs.Lookups.{host_place-found, host_place-none, dump_place-found, dump_named-none, dump_named-found, dump_of_host-none}
 
@@ -239,41 +239,53 @@ IsSound-durable office sound = record {
   sessions_differ = λ i j a b e f same. absurd (cc);
 }
 
--- an event that breaks no rule keeps a sound office sound
-pub IsSound-after : (office : Office) (event : Event) → IsSound office → broken_rule office event ≡ None → IsSound (after office event)
-IsSound-after office (AddHost name) sound e =
+-- each event by itself
+
+pub IsSound-host_added : (office : Office) (name : List ℕ) → IsSound office → add_rule office name ≡ None → IsSound (record office { hosts = office.hosts ++ new_host name ∷ [] })
+IsSound-host_added office name sound e =
     let a : (is_some (host_place office.hosts name) ≡ false) × (_ ≡ None) = rule_passed _ _ _ e in
     let b : (nat_le host_limit (length office.hosts) ≡ false) × (_ ≡ None) = rule_passed _ _ _ a.1 in
     IsSound-with_host office name sound (is_none _ a.0) (below host_limit (length office.hosts) b.0)
-IsSound-after office (OpenDump name kind now) sound e = step (host_place office.hosts name) refl e
+
+pub IsSound-dump_opened : (office : Office) (place now : ℕ) → IsSound office → open_rule_at office (Some place) ≡ None → IsSound (with_dump office place now)
+IsSound-dump_opened office place now sound e = step (slice_get office.hosts place) refl e
   where
-    step : (r : Option ℕ) → host_place office.hosts name ≡ r → open_rule_at office r ≡ None → IsSound (with_dump office (unwrap_or r 0) now)
-    step None none f = absurd (cc)
-    step (Some place) found f = at (host_place-found office.hosts name place found)
-      where
-        at : (host : Host) × (slice_get office.hosts place ≡ Some host) × (host.name ≡ name) → IsSound (with_dump office place now)
-        at w =
-            let rule : open_rule office place w.0 ≡ None = ap (λ r. option_map_or (open_rule office place) r (Some NoHost)) (sym w.1) ∙ f in
-            let may : MayOpen office place w.0 = may_open office place w.0 rule in
-            IsSound-with_dump office place now w.0 sound w.1 may.has_number may.no_dump
-IsSound-after office (Put session path bytes) sound e = step (dump_place office.dumps session) refl
+    step : (r : Option Host) → slice_get office.hosts place ≡ r → option_map_or (open_rule office place) r (Some NoHost) ≡ None → IsSound (with_dump office place now)
+    step None at f = absurd (cc)
+    step (Some host) at f = let may : MayOpen office place host = may_open office place host f in IsSound-with_dump office place now host sound at may.has_number may.no_dump
+
+pub IsSound-file_put : (office : Office) (place : ℕ) (path bytes : List ℕ) → IsSound office → put_rule (slice_get office.dumps place) path bytes ≡ None → IsSound (with_file_put office place path bytes)
+IsSound-file_put office place path bytes sound e = step (slice_get office.dumps place) refl e
   where
-    step : (r : Option ℕ) → dump_place office.dumps session ≡ r → IsSound (with_file_put office (unwrap_or r 0) path bytes)
-    step None none = let f : put_rule None path bytes ≡ None = ap (λ r. put_rule r path bytes) (sym (dump_named-none office.dumps session none)) ∙ e in absurd (cc)
-    step (Some place) found = at (dump_place-found office.dumps session place found)
-      where
-        at : (dump : Dump) × (slice_get office.dumps place ≡ Some dump) × (dump.name ≡ session) → IsSound (with_file_put office place path bytes)
-        at w =
-            let f : put_rule (Some w.0) path bytes ≡ None = ap (λ r. put_rule r path bytes) (sym (dump_named-found office.dumps session place w.0 found w.1)) ∙ e in
-            IsSound-with_file_put office place path bytes w.0 sound w.1 (no_rule_of_put _ f)
-IsSound-after office (Commit session now) sound e = step (dump_place office.dumps session) refl
+    step : (r : Option Dump) → slice_get office.dumps place ≡ r → put_rule r path bytes ≡ None → IsSound (with_file_put office place path bytes)
+    step None at f = absurd (cc)
+    step (Some dump) at f = IsSound-with_file_put office place path bytes dump sound at (no_rule_of_put _ f)
+
+pub IsSound-dump_committed : (office : Office) (place now : ℕ) → IsSound office → IsSound (with_dump_committed office place now)
+IsSound-dump_committed office place now sound = step (slice_get office.dumps place) refl
   where
-    step : (r : Option ℕ) → dump_place office.dumps session ≡ r → IsSound (with_dump_committed office (unwrap_or r 0) now)
-    step None none = let f : (if is_some {T = Dump} None then None else Some NoSession) ≡ None = ap (λ r. if is_some r then None else Some NoSession) (sym (dump_named-none office.dumps session none)) ∙ e in absurd (cc)
-    step (Some place) found = at (dump_place-found office.dumps session place found)
-      where
-        at : (dump : Dump) × (slice_get office.dumps place ≡ Some dump) × (dump.name ≡ session) → IsSound (with_dump_committed office place now)
-        at w = IsSound-with_dump_committed office place now w.0 sound w.1
+    step : (r : Option Dump) → slice_get office.dumps place ≡ r → IsSound (with_dump_committed office place now)
+    step None at = subst IsSound (sym (ap (λ r. option_map_or
+        (λ (dump : Dump). option_map_or
+        (λ host. record office { hosts = slice_set office.hosts dump.host (with_backup host dump now); dumps = remove office.dumps place })
+        (slice_get office.hosts dump.host) office)
+        r office) at)) sound
+    step (Some dump) at = IsSound-with_dump_committed office place now dump sound at
+
+-- an event that breaks no rule keeps a sound office sound
+pub IsSound-after : (office : Office) (event : Event) → IsSound office → broken_rule office event ≡ None → IsSound (after office event)
+IsSound-after office (AddHost name) sound e = IsSound-host_added office name sound e
+IsSound-after office (OpenDump name kind now) sound e = step (host_place office.hosts name) e
+  where
+    step : (r : Option ℕ) → open_rule_at office r ≡ None → IsSound (with_dump office (unwrap_or r 0) now)
+    step None f = absurd (cc)
+    step (Some place) f = IsSound-dump_opened office place now sound f
+IsSound-after office (Put session path bytes) sound e = step (dump_place office.dumps session) e
+  where
+    step : (r : Option ℕ) → put_rule (option_and_then (slice_get office.dumps) r) path bytes ≡ None → IsSound (with_file_put office (unwrap_or r 0) path bytes)
+    step None f = absurd (cc)
+    step (Some place) f = IsSound-file_put office place path bytes sound f
+IsSound-after office (Commit session now) sound e = IsSound-dump_committed office (unwrap_or (dump_place office.dumps session) 0) now sound
 IsSound-after office (ReadFile name number path) sound e = sound
 
 -- a step leads from a sound state to a sound one
@@ -286,3 +298,17 @@ IsSoundState-step (Running old) event (Err DiskFault) next sound step =
 IsSoundState-step (Running old) event (Err (Damaged file found)) next sound step = absurd step
 IsSoundState-step (Running old) event (Err Memory) next sound step = subst IsSoundState (sym step) sound
 IsSoundState-step (Stopped before after) event reply next sound step = subst IsSoundState (sym step.1) sound
+
+-- an answer is of the event's kind
+IsAnswerTo-answer_of : (office : Office) (event : Event) → IsAnswerTo event (answer_of office event)
+IsAnswerTo-answer_of office (AddHost name) = refl
+IsAnswerTo-answer_of office (OpenDump name kind now) = (next_session office, refl)
+IsAnswerTo-answer_of office (Put session path bytes) = refl
+IsAnswerTo-answer_of office (Commit session now) = (next_number office (dump_named office.dumps session), refl)
+IsAnswerTo-answer_of office (ReadFile name number path) = (content_of (host_named office.hosts name) number path, refl)
+
+pub IsAnswerTo-step : (state : State) (event : Event) (reply : Reply) (next : State) → IsStep state event reply next → IfOk reply (IsAnswerTo event)
+IsAnswerTo-step (Running old) event (Ok answer) next step = subst (IsAnswerTo event) (sym step.1) (IsAnswerTo-answer_of old event)
+IsAnswerTo-step (Running old) event (Err refusal) next step = tt
+IsAnswerTo-step (Stopped before after) event (Ok answer) next step = absurd (cc step.0)
+IsAnswerTo-step (Stopped before after) event (Err refusal) next step = tt

@@ -6,9 +6,13 @@
 #![tactic(auto)]
 
 mod event;
+mod plain;
 mod port;
 mod session;
+#[cfg(test)]
+mod tests;
 
 pub use event::{Answer, Event, Kind, Refusal, Rule};
+pub use plain::PlainOffice;
 pub use port::Port;
 pub use session::SessionName;

@@ -1,0 +1,3 @@
+mod Fields
+mod Moves
+pub mod Committed
