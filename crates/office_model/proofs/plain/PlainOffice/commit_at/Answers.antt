@@ -1,5 +1,6 @@
 use Rattle.office_model.proofs.Fields.{committed-is, committed-sound, committed-number}
-use Rattle.std.proofs.Common.{◌∙◌}
+use Rattle.std.proofs.Common.{◌∙◌, ◌<◌, length, arith}
+use Rattle.std.proofs.lemmas.Grind.{common_steps}
 use Rattle.office_model.proofs.Committed.{host_within, host_has_number}
 use Rattle.office_model.proofs.plain.PlainOffice.commit_at.Goals as goal
 
@@ -20,7 +21,9 @@ returns-clause-ok c =
     c.host-host.result c.host-host.ensures c.index_mut.result.now _ c.index_mut.ensures.value c.in_ok-commit.ensures.host _ c.in_ok-commit.ensures.dumps
 
 pub index_mut-requires : goal.index_mut-requires
-index_mut-requires c = host_within _ _ _ _ _ c.self.view_is c.self.invariant c.requires c.index.ensures c.host-host.ensures
+index_mut-requires c =
+    let within : c.host-host.result < length c.self.inside.hosts.items = host_within _ _ _ _ _ c.self.view_is c.self.invariant c.requires c.index.ensures c.host-host.ensures in
+    grind (arith, common_steps)
 
 pub commit-requires-clause-room : goal.commit-requires-clause-room
 commit-requires-clause-room c = host_has_number _ _ _ _ _ _ c.self.view_is c.self.invariant c.requires c.index.ensures c.host-host.ensures c.index_mut.ensures.value
