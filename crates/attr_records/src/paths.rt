@@ -1,0 +1,155 @@
+use std::alloc::{AllocError, Global};
+use std::cmp::Ordering;
+use std::marker::Model;
+
+ghost use Rattle.std.specs.Prelude.{◌≡◌, ◌≢◌, ◌+◌, ◌==◌, ◌≤◌, if◌then◌else◌, List, [], ◌∷◌, ℕ, length, IfOk, IfErr, MatchResult, Some, None};
+ghost use Rattle.std.specs.Option.{option_copied};
+ghost use Rattle.std.specs.Str.{is_utf8};
+ghost use Rattle.std.specs.List.{list_any};
+ghost use Rattle.attr_records.specs.Paths.{path_cmp, path_cmp_total, rank, components, parent};
+ghost use Rattle.attr_records.specs.PathRules.{broken_path_rule, broken_component_rule, is_dot_component};
+ghost use Rattle.attr_records.specs.Parts.{other_components, left_to_scan};
+
+/// Why bytes are no path, or want of memory. The rules stand in the order in which they are judged.
+#[derive(Clone, Copy, Debug, PartialEq, Eq)]
+pub enum BadPath {
+    /// The bytes are no UTF-8.
+    NotUtf8,
+    /// There are no bytes.
+    Empty,
+    /// There are more than 4,096 bytes.
+    TooLong,
+    /// A byte is 0.
+    Nul,
+    /// A component is empty: there is a leading, a trailing or a double slash.
+    EmptyComponent,
+    /// A component is `.` or `..`.
+    Dot,
+    /// A component has more than 255 bytes.
+    LongComponent,
+    /// There was no memory for the path.
+    Memory,
+}
+
+/// The place of a byte in the order of paths: the slash comes before every other byte.
+fn rank(byte: u8) -> u16
+    ensures { result ≡ rank byte }
+{
+    if byte == b'/' {
+        0
+    } else {
+        u16::from(byte) + 1
+    }
+}
+
+/// Which of two paths comes first: component by component, each by its bytes.
+pub fn compare(a: &[u8], b: &[u8]) -> Ordering
+    ensures { result ≡ path_cmp a.now b.now }
+{
+    for (i, byte) in a.iter().enumerate() {
+        if i >= b.len() {
+            return Ordering::Greater;
+        }
+        if *byte != b[i] {
+            return rank(*byte).cmp(&rank(b[i]));
+        }
+    }
+    if a.len() < b.len() {
+        Ordering::Less
+    } else {
+        Ordering::Equal
+    }
+}
+
+/// The first component of a path, and what follows its slash.
+fn split_first(path: &[u8]) -> (&[u8], Option<&[u8]>)
+    ensures parts { components path.now ≡ result.0.now ∷ other_components (option_copied result.1) }
+    ensures shorter { left_to_scan (option_copied result.1) ≤ length path.now }
+{
+    for (i, byte) in path.iter().enumerate() {
+        if *byte == b'/' {
+            return (&path[..i], Some(&path[i + 1..]));
+        }
+    }
+    (path, None)
+}
+
+/// Whether a component is `.` or `..`.
+fn is_dot(component: &[u8]) -> bool
+    ensures { result ≡ is_dot_component component.now }
+{
+    match component {
+        [a] => *a == b'.',
+        [a, b] => *a == b'.' && *b == b'.',
+        _ => false,
+    }
+}
+
+/// The first rule that the components of a path break.
+fn broken_component(path: &[u8]) -> Option<BadPath>
+    ensures { result ≡ broken_component_rule (components path.now) }
+{
+    let mut has_dot = false;
+    let mut has_long = false;
+    let mut rest = Some(path);
+    while let Some(left) = rest {
+        let (component, others) = split_first(left);
+        if component.is_empty() {
+            return Some(BadPath::EmptyComponent);
+        }
+        has_dot |= is_dot(component);
+        has_long |= component.len() > 255;
+        rest = others;
+    }
+    if has_dot {
+        return Some(BadPath::Dot);
+    }
+    if has_long {
+        return Some(BadPath::LongComponent);
+    }
+    None
+}
+
+/// Whether bytes are UTF-8.
+pub(crate) fn is_text(bytes: &[u8]) -> bool
+    ensures { result ≡ is_utf8 bytes.now }
+{
+    match str::from_utf8(bytes) {
+        Ok(_) => true,
+        Err(_) => false,
+    }
+}
+
+/// The first rule of paths that the bytes break.
+#[tactic(auto, unfolding(crate::specs::PathRules::broken_path_rule))]
+fn broken_rule(bytes: &[u8]) -> Option<BadPath>
+    ensures { result ≡ broken_path_rule bytes.now }
+{
+    if !is_text(bytes) {
+        return Some(BadPath::NotUtf8);
+    }
+    if bytes.is_empty() {
+        return Some(BadPath::Empty);
+    }
+    if bytes.len() > 4096 {
+        return Some(BadPath::TooLong);
+    }
+    if bytes.contains(&0) {
+        return Some(BadPath::Nul);
+    }
+    broken_component(bytes)
+}
+
+/// What stands before the last slash of a path, None where there is none.
+pub fn parent(path: &[u8]) -> Option<&[u8]>
+    ensures { option_copied result ≡ parent path.now }
+{
+    let mut at = path.len();
+    while at > 0 {
+        at -= 1;
+        if path[at] == b'/' {
+            return Some(&path[..at]);
+        }
+    }
+    None
+}
