@@ -1,3 +1,8 @@
-pub mod Paths
-pub mod PathRules
+pub mod Attributes
+pub mod Items
+pub mod Names
+pub mod Order
 pub mod Parts
+pub mod PathRules
+pub mod Paths
+pub mod Trees

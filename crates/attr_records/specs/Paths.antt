@@ -3,15 +3,15 @@
 --     components      what the slashes part
 --     parent      the directory that a path of several components lies in
 --     is_within      a path is the directory itself or lies below it
-use Rattle.std.specs.Prelude.{◌≡◌, ℕ, ◌+◌, ◌<◌, ◌==◌, Bool, true, false, ◌&&◌, List, [], ◌∷◌, ◌++◌, Option, Some, None, if◌then◌else◌, ◌⊎◌, not}
+use Rattle.std.specs.Prelude.{◌≡◌, ℕ, ◌+◌, ◌==◌, Bool, true, false, ◌&&◌, List, [], ◌∷◌, ◌++◌, Option, Some, None, if◌then◌else◌, ◌⊎◌}
 use Rattle.std.specs.declared.cmp.Ordering.{Ordering}
-use Rattle.std.specs.declared.cmp.Ordering.TheVariants.{Less, Equal, Greater}
 use Rattle.std.specs.Ordering.{nat_cmp, on}
-use Rattle.std.specs.Cmp.{IsTotalOrder, on_total, nat_cmp_total}
+use Rattle.std.specs.Cmp.{IsTotalOrder, on_total, nat_cmp_total, first_so, second_so}
 use Rattle.std.specs.Cmp.Lexicographic.{slice_cmp, lists_total}
 use Rattle.std.specs.FinMap.{IsAntisymmetric, nat_cmp-IsAntisymmetric, slice_cmp-IsAntisymmetric}
-use Rattle.std.proofs.Common.{refl, sym, ap, ◌∙◌, subst, inl, inr, arith}
+use Rattle.std.proofs.Common.{refl, sym, ap, ◌∙◌, inl, inr, arith}
 use Rattle.std.proofs.lemmas.Bool.Decides.{nat_tests}
+use borrow.Author.Tests.{eqb-true, eq-eqb}
 
 -- a slash comes before every other byte
 abbrev pub rank : ℕ → ℕ
@@ -108,11 +108,31 @@ parent-below (byte ∷ directory) rest = step (parent-below directory rest)
 -- a path with a parent is the parent, a slash and a name without one
 pub parent-parts : (path directory : List ℕ) → parent path ≡ Some directory → (name : List ℕ) × (path ≡ directory ++ 47 ∷ name) × (parent name ≡ None)
 parent-parts [] directory e = cc
-parent-parts (byte ∷ path) directory e = step (parent path) refl e
+parent-parts (byte ∷ path) directory e = step (parent path) refl (parent-parts path) e
   where
     here : (slash : Bool) → (byte == 47) ≡ slash → parent path ≡ None → (if slash then Some [] else None) ≡ Some directory → (name : List ℕ) × (byte ∷ path ≡ directory ++ 47 ∷ name) × (parent name ≡ None)
-    here true is none is_some = ?
-    here false is none is_some = cc
-    step : (above : Option (List ℕ)) → parent path ≡ above → under byte above ≡ Some directory → (name : List ℕ) × (byte ∷ path ≡ directory ++ 47 ∷ name) × (parent name ≡ None)
-    step None above is_some = here (byte == 47) refl above is_some
-    step (Some front) above is_some = ?
+    here true is none found =
+        let first : byte ≡ 47 = eqb-true byte 47 is in
+        let none_before : [] ≡ directory = cc in
+        (path, ap (λ b. b ∷ path) first ∙ ap (λ d. d ++ 47 ∷ path) none_before, none)
+    here false is none found = cc
+
+    step : (above : Option (List ℕ)) → parent path ≡ above → ((front : List ℕ) → parent path ≡ Some front → (name : List ℕ) × (path ≡ front ++ 47 ∷ name) × (parent name ≡ None)) → under byte above ≡ Some directory → (name : List ℕ) × (byte ∷ path ≡ directory ++ 47 ∷ name) × (parent name ≡ None)
+    step None above rest found = here (byte == 47) refl above found
+    step (Some front) above rest found =
+        let w : (name : List ℕ) × (path ≡ front ++ 47 ∷ name) × (parent name ≡ None) = rest front above in
+        let same : byte ∷ front ≡ directory = cc in
+        (w.0, ap (λ p. byte ∷ p) w.1 ∙ ap (λ d. d ++ 47 ∷ w.0) same, w.2)
+
+-- what lies below a path within a directory lies within the directory
+pub within-further : (path directory rest : List ℕ) → is_within path directory ≡ true → is_within path (directory ++ 47 ∷ rest) ≡ true
+within-further [] [] rest h = refl
+within-further [] (byte ∷ directory) rest h = h
+within-further (a ∷ path) [] rest h = cc
+within-further (a ∷ path) (byte ∷ directory) rest h =
+    ap (λ b. b && is_within path (directory ++ 47 ∷ rest)) (first_so _ _ h) ∙ within-further path directory rest (second_so _ _ h)
+
+-- a path lies within itself
+pub within-itself : (path : List ℕ) → is_within path path ≡ true
+within-itself [] = refl
+within-itself (byte ∷ path) = ap (λ b. b && is_within path path) (eq-eqb byte byte refl) ∙ within-itself path

@@ -1,4 +1,12 @@
 //! Paths, the names of hosts, the targets of links, and trees of files.
 #![tactic(auto)]
 
-pub mod paths;
+mod names;
+mod nodes;
+mod paths;
+mod trees;
+
+pub use names::{BadHostName, BadTarget, HostName, LinkTarget};
+pub use nodes::{Attr, Item};
+pub use paths::{BadPath, PathName, compare, parent};
+pub use trees::{MOST_FILE_BYTES, MOST_PATHS, PutRule, broken_put, broken_put_file};

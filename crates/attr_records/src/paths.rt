@@ -1,14 +1,17 @@
-use std::alloc::{AllocError, Global};
-use std::cmp::Ordering;
-use std::marker::Model;
-
 ghost use Rattle.std.specs.Prelude.{◌≡◌, ◌≢◌, ◌+◌, ◌==◌, ◌≤◌, if◌then◌else◌, List, [], ◌∷◌, ℕ, length, IfOk, IfErr, MatchResult, Some, None};
+ghost use Rattle.std.specs.Prelude.{refl};
 ghost use Rattle.std.specs.Option.{option_copied};
+ghost use Rattle.std.specs.Ordering.{eq_by_cmp, as_partial_cmp};
+ghost use Rattle.std.specs.Cmp.{partial_equiv_from_equiv, eq_by_cmp_equiv, partial_order_from_total};
 ghost use Rattle.std.specs.Str.{is_utf8};
 ghost use Rattle.std.specs.List.{list_any};
 ghost use Rattle.attr_records.specs.Paths.{path_cmp, path_cmp_total, rank, components, parent};
 ghost use Rattle.attr_records.specs.PathRules.{broken_path_rule, broken_component_rule, is_dot_component};
 ghost use Rattle.attr_records.specs.Parts.{other_components, left_to_scan};
+
+use std::alloc::{AllocError, Global};
+use std::cmp::Ordering;
+use std::marker::Model;
 
 /// Why bytes are no path, or want of memory. The rules stand in the order in which they are judged.
 #[derive(Clone, Copy, Debug, PartialEq, Eq)]
@@ -31,15 +34,115 @@ pub enum BadPath {
     Memory,
 }
 
+/// A path: 1 to 4,096 bytes of UTF-8, components of 1 to 255 bytes joined by slashes, without a byte
+/// 0, and no component `.` or `..`. Paths are ordered component by component, each by its bytes.
+#[derive(Debug, Drop)]
+pub struct PathName {
+    bytes: Vec<u8>,
+}
+
+impl Model for PathName {
+    ghost Value = { List ℕ };
+
+    ghost view = { λ p. p.bytes.items };
+
+    ghost invariant = { λ p. broken_path_rule p.bytes.items ≡ None };
+}
+
+impl PathName {
+    /// The path of these bytes, the first rule that they break, or want of memory.
+    pub fn read(alloc: Global, bytes: &[u8]) -> Result<PathName, BadPath>
+        ensures ok { IfOk result (λ path. (path ≡ bytes.now) × (broken_path_rule bytes.now ≡ None)) }
+        ensures rule { IfErr result (λ fault. fault ≢ BadPath.Memory → broken_path_rule bytes.now ≡ Some fault) }
+    {
+        match broken_rule(bytes) {
+            Some(rule) => Err(rule),
+            None => match Vec::from_slice(alloc, bytes) {
+                Ok(bytes) => Ok(PathName { bytes }),
+                Err(_) => Err(BadPath::Memory),
+            },
+        }
+    }
+
+    pub fn as_slice(&self) -> &[u8]
+        ensures value { result.now ≡ self.now }
+        ensures valid { broken_path_rule self.now ≡ None }
+    {
+        self.bytes.as_slice()
+    }
+
+    /// An equal path, or want of memory.
+    pub fn copy(&self, alloc: Global) -> Result<PathName, AllocError>
+        ensures { IfOk result (λ copy. copy ≡ self.now) }
+    {
+        let bytes = Vec::from_slice(alloc, self.bytes.as_slice())?;
+        Ok(PathName { bytes })
+    }
+
+    /// The directory that the path lies in, None where it has one component.
+    pub fn parent(&self) -> Option<&[u8]>
+        ensures { option_copied result ≡ parent self.now }
+    {
+        parent(self.bytes.as_slice())
+    }
+
+    /// The same as a path of its own, or want of memory.
+    pub fn parent_path(&self, alloc: Global) -> Result<Option<PathName>, AllocError>
+        ensures { IfOk result (λ found. found ≡ parent self.now) }
+    {
+        match parent(self.bytes.as_slice()) {
+            None => Ok(None),
+            Some(directory) => {
+                let bytes = Vec::from_slice(alloc, directory)?;
+                Ok(Some(PathName { bytes }))
+            }
+        }
+    }
+}
+
+impl PartialEq for PathName {
+    ghost eq = { eq_by_cmp path_cmp };
+
+    ghost laws = { partial_equiv_from_equiv (eq_by_cmp_equiv path_cmp_total) };
+
+    fn eq(&self, other: &PathName) -> bool {
+        self.cmp(other).is_eq()
+    }
+}
+
+impl Eq for PathName {
+    ghost laws = { eq_by_cmp_equiv path_cmp_total };
+}
+
+impl PartialOrd for PathName {
+    ghost partial_cmp = { as_partial_cmp path_cmp };
+
+    ghost laws = { partial_order_from_total path_cmp_total };
+
+    fn partial_cmp(&self, other: &PathName) -> Option<Ordering> {
+        Some(self.cmp(other))
+    }
+}
+
+impl Ord for PathName {
+    ghost cmp = { path_cmp };
+
+    ghost total = { path_cmp_total };
+
+    ghost matches_partial_cmp = { λ x y. refl };
+
+    ghost matches_eq = { λ x y. refl };
+
+    fn cmp(&self, other: &PathName) -> Ordering {
+        compare(self.as_slice(), other.as_slice())
+    }
+}
+
 /// The place of a byte in the order of paths: the slash comes before every other byte.
 fn rank(byte: u8) -> u16
     ensures { result ≡ rank byte }
 {
-    if byte == b'/' {
-        0
-    } else {
-        u16::from(byte) + 1
-    }
+    if byte == b'/' { 0 } else { u16::from(byte) + 1 }
 }
 
 /// Which of two paths comes first: component by component, each by its bytes.
