@@ -1,0 +1,10 @@
+//! Tables: what is stored of a tree, a record for each path, in the order of the paths.
+#![tactic(auto)]
+
+mod records;
+mod rows;
+mod table;
+
+pub use records::Record;
+pub use rows::Row;
+pub use table::{PushFault, Table, find, is_behind};
