@@ -4,9 +4,11 @@
 mod names;
 mod nodes;
 mod paths;
+#[cfg(test)]
+mod tests;
 mod trees;
 
 pub use names::{BadHostName, BadTarget, HostName, LinkTarget};
 pub use nodes::{Attr, Item};
-pub use paths::{BadPath, PathName, compare, parent};
-pub use trees::{MOST_FILE_BYTES, MOST_PATHS, PutRule, broken_put, broken_put_file};
+pub use paths::{BadPath, PathName, compare, is_within, parent};
+pub use trees::{MOST_FILE_BYTES, MOST_PATHS, PutRule, broken_put, broken_put_file, remove};

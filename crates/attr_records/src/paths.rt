@@ -5,7 +5,8 @@ ghost use Rattle.std.specs.Ordering.{eq_by_cmp, as_partial_cmp};
 ghost use Rattle.std.specs.Cmp.{partial_equiv_from_equiv, eq_by_cmp_equiv, partial_order_from_total};
 ghost use Rattle.std.specs.Str.{is_utf8};
 ghost use Rattle.std.specs.List.{list_any};
-ghost use Rattle.attr_records.specs.Paths.{path_cmp, path_cmp_total, rank, components, parent};
+ghost use Rattle.attr_records.specs.Paths.{path_cmp, path_cmp_total, rank, components, parent, is_within};
+ghost use Rattle.attr_records.specs.PathLaws.{components_cmp};
 ghost use Rattle.attr_records.specs.PathRules.{broken_path_rule, broken_component_rule, is_dot_component};
 ghost use Rattle.attr_records.specs.Parts.{other_components, left_to_scan};
 
@@ -146,7 +147,16 @@ fn rank(byte: u8) -> u16
 }
 
 /// Which of two paths comes first: component by component, each by its bytes.
+#[tactic(auto, using(crate::specs::PathLaws::by_components))]
 pub fn compare(a: &[u8], b: &[u8]) -> Ordering
+    ensures order { result ≡ path_cmp a.now b.now }
+    ensures components { result ≡ components_cmp (components a.now) (components b.now) }
+{
+    compare_bytes(a, b)
+}
+
+/// Which of two paths comes first: by their bytes, with the slash before every other.
+fn compare_bytes(a: &[u8], b: &[u8]) -> Ordering
     ensures { result ≡ path_cmp a.now b.now }
 {
     for (i, byte) in a.iter().enumerate() {
@@ -255,4 +265,22 @@ pub fn parent(path: &[u8]) -> Option<&[u8]>
         }
     }
     None
+}
+
+/// Whether a path is a directory itself, or lies below it.
+pub fn is_within(directory: &[u8], path: &[u8]) -> bool
+    ensures { result ≡ is_within directory.now path.now }
+{
+    for (i, byte) in directory.iter().enumerate() {
+        if i >= path.len() {
+            return false;
+        }
+        if *byte != path[i] {
+            return false;
+        }
+    }
+    if path.len() == directory.len() {
+        return true;
+    }
+    path[directory.len()] == b'/'
 }
