@@ -10,5 +10,5 @@ mod trees;
 
 pub use names::{BadHostName, BadTarget, HostName, LinkTarget};
 pub use nodes::{Attr, Item};
-pub use paths::{BadPath, PathName, compare, is_within, parent};
+pub use paths::{BadPath, PathName, compare, compare_components, is_within, parent};
 pub use trees::{MOST_FILE_BYTES, MOST_PATHS, PutRule, broken_put, broken_put_file, remove};

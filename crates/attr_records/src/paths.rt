@@ -147,16 +147,7 @@ fn rank(byte: u8) -> u16
 }
 
 /// Which of two paths comes first: component by component, each by its bytes.
-#[tactic(auto, using(crate::specs::PathLaws::by_components))]
 pub fn compare(a: &[u8], b: &[u8]) -> Ordering
-    ensures order { result ≡ path_cmp a.now b.now }
-    ensures components { result ≡ components_cmp (components a.now) (components b.now) }
-{
-    compare_bytes(a, b)
-}
-
-/// Which of two paths comes first: by their bytes, with the slash before every other.
-fn compare_bytes(a: &[u8], b: &[u8]) -> Ordering
     ensures { result ≡ path_cmp a.now b.now }
 {
     for (i, byte) in a.iter().enumerate() {
@@ -172,6 +163,14 @@ fn compare_bytes(a: &[u8], b: &[u8]) -> Ordering
     } else {
         Ordering::Equal
     }
+}
+
+/// The same order, said of the components: the first that differ decide, each by its bytes.
+#[tactic(auto, using(crate::specs::PathLaws::by_components))]
+pub fn compare_components(a: &[u8], b: &[u8]) -> Ordering
+    ensures { result ≡ components_cmp (components a.now) (components b.now) }
+{
+    compare(a, b)
 }
 
 /// The first component of a path, and what follows its slash.
