@@ -56,13 +56,22 @@ impl PathName {
         ensures ok { IfOk result (λ path. (path ≡ bytes.now) × (broken_path_rule bytes.now ≡ None)) }
         ensures rule { IfErr result (λ fault. fault ≢ BadPath.Memory → broken_path_rule bytes.now ≡ Some fault) }
     {
-        match broken_rule(bytes) {
+        match broken_path_rule(bytes) {
             Some(rule) => Err(rule),
             None => match Vec::from_slice(alloc, bytes) {
                 Ok(bytes) => Ok(PathName { bytes }),
                 Err(_) => Err(BadPath::Memory),
             },
         }
+    }
+
+    /// The path of bytes that break no rule, or want of memory.
+    pub fn from_valid(alloc: Global, bytes: &[u8]) -> Result<PathName, AllocError>
+        requires { broken_path_rule bytes.now ≡ None }
+        ensures { IfOk result (λ path. path ≡ bytes.now) }
+    {
+        let bytes = Vec::from_slice(alloc, bytes)?;
+        Ok(PathName { bytes })
     }
 
     pub fn as_slice(&self) -> &[u8]
@@ -232,9 +241,9 @@ pub(crate) fn is_text(bytes: &[u8]) -> bool
     }
 }
 
-/// The first rule of paths that the bytes break.
+/// The first rule of paths that the bytes break; never `Memory`.
 #[tactic(auto, unfolding(crate::specs::PathRules::broken_path_rule))]
-fn broken_rule(bytes: &[u8]) -> Option<BadPath>
+pub fn broken_path_rule(bytes: &[u8]) -> Option<BadPath>
     ensures { result ≡ broken_path_rule bytes.now }
 {
     if !is_text(bytes) {

@@ -1,2 +1,5 @@
+pub mod Layout
+pub mod RawRows
 pub mod Records
 pub mod Rows
+pub mod Steps

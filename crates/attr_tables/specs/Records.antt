@@ -2,7 +2,7 @@
 --     IsSound      a File has a content exactly where its size isn't 0
 --     is_same_record      whether two records are one;  same_record and record_itself say that it decides this
 --     is_dir, is_large      as of a tree's nodes
-use Rattle.std.specs.Prelude.{◌≡◌, ◌<◌, ◌==◌, nat_lt, Bool, true, false, ◌&&◌, Option, Some, None, bytes_eq}
+use Rattle.std.specs.Prelude.{◌≡◌, ℕ, ◌<◌, ◌==◌, nat_lt, Bool, true, false, ◌&&◌, Option, Some, None, bytes_eq}
 use Rattle.std.specs.Ordering.{int_eq}
 use Rattle.std.specs.Option.{option_eq}
 use Rattle.std.specs.Cmp.{first_so, second_so}
@@ -16,10 +16,14 @@ use Rattle.attr_records.specs.declared.trees.TheConstants.{MOST_FILE_BYTES}
 use Rattle.attr_tables.specs.declared.records.Record.{Record}
 use Rattle.attr_tables.specs.declared.records.Record.TheVariants.{File, Dir, Link, Deleted}
 
+-- a content exactly where the size isn't 0
+abbrev pub IsContentOf : ℕ → Option PoolId → Type 0
+IsContentOf size None = size ≡ 0
+IsContentOf size (Some id) = 0 < size
+
 -- a File has a content exactly where its size isn't 0
 abbrev pub IsSound : Record → Type 0
-IsSound (File attr size None) = size ≡ 0
-IsSound (File attr size (Some id)) = 0 < size
+IsSound (File attr size content) = IsContentOf size content
 IsSound (Dir attr) = Unit {0}
 IsSound (Link attr target) = Unit {0}
 IsSound Deleted = Unit {0}
