@@ -2,7 +2,7 @@
 --     row_bytes      kind u8, path t16, then by kind; rows_bytes joins them
 --     table_body, table_file      `RTB1`, the number of rows, the rows;  the same with its seal
 --     IsRow, IsTable      the numbers are in their ranges, the texts keep their rules, the paths strictly rise
-use Rattle.std.specs.Prelude.{◌≡◌, ℕ, ◌<◌, ◌≤◌, ℤ, Bool, true, List, [], ◌∷◌, ◌++◌, length, Option, Some, None, FitsSigned}
+use Rattle.std.specs.Prelude.{◌≡◌, ℕ, ◌<◌, ◌≤◌, true, List, [], ◌∷◌, ◌++◌, length, Option, Some, None, FitsSigned}
 use Rattle.std.specs.Int.{w8, w16, w32, w64}
 use Rattle.std.specs.List.{AllByRecursion}
 use Rattle.std.proofs.Common.{refl, sym, ap, ◌∙◌, append_assoc, arith}
@@ -35,14 +35,6 @@ kind_of (File attr size content) = 1
 kind_of (Dir attr) = 2
 kind_of (Link attr target) = 3
 kind_of Deleted = 0
-
--- attributes, size, content
-abbrev pub file_bytes : Attributes × ℕ × Option PoolId → List ℕ
-file_bytes file = attr_bytes file.0 ++ (number_bytes w64 file.1 ++ content_bytes file.2)
-
--- attributes and target
-abbrev pub link_bytes : Attributes × List ℕ → List ℕ
-link_bytes link = attr_bytes link.0 ++ text_bytes w16 link.1
 
 -- what stands behind the path
 abbrev pub node_bytes : Record → List ℕ
@@ -84,9 +76,6 @@ abbrev pub IsContent : ℕ → Option PoolId → Type 0
 IsContent size None = size ≡ 0
 IsContent size (Some id) = (0 < size) × IsId id
 
-abbrev pub IsFile : Attributes × ℕ × Option PoolId → Type 0
-IsFile file = IsAttr file.0 × IsNumber w64 file.1 × IsContent file.1 file.2
-
 -- the path breaks no rule
 abbrev pub IsPath : List ℕ → Type 0
 IsPath path = broken_path_rule path ≡ None
@@ -94,13 +83,10 @@ IsPath path = broken_path_rule path ≡ None
 abbrev pub IsTarget : List ℕ → Type 0
 IsTarget target = is_link_target target ≡ true
 
-abbrev pub IsLink : Attributes × List ℕ → Type 0
-IsLink link = IsAttr link.0 × IsTarget link.1
-
 abbrev pub IsNode : Record → Type 0
-IsNode (File attr size content) = IsFile (attr, size, content)
+IsNode (File attr size content) = IsAttr attr × IsNumber w64 size × IsContent size content
 IsNode (Dir attr) = IsAttr attr
-IsNode (Link attr target) = IsLink (attr, target)
+IsNode (Link attr target) = IsAttr attr × IsTarget target
 IsNode Deleted = Unit {0}
 
 pub record IsRow (row : List ℕ × Record) : Type 0 where

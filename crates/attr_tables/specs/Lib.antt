@@ -1,3 +1,4 @@
+pub mod Breaks
 pub mod Layout
 pub mod RawRows
 pub mod Records

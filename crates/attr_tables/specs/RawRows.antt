@@ -1,17 +1,16 @@
 -- Rows as they stand in a file, and the rows that they are.
-use Rattle.std.specs.Prelude.{◌≡◌, ℕ, ◌<◌, ◌≤◌, List, Option, Some, None}
+use Rattle.std.specs.Prelude.{◌≡◌, ℕ, ◌<◌, List, Option, Some, None}
 use Rattle.std.specs.Int.{w8}
-use Rattle.std.proofs.Common.{refl, arith}
+use Rattle.std.proofs.Common.{arith}
 use Rattle.wire_bytes.specs.Layout.{IsNumber}
 use Rattle.disk_trait.specs.declared.ids.PoolId.{PoolId}
-use Rattle.attr_records.specs.Attributes.{Attributes}
 use Rattle.attr_tables.specs.declared.records.Record.{Record}
 use Rattle.attr_tables.specs.declared.records.Record.TheVariants.{File, Dir, Link, Deleted}
 use Rattle.attr_tables.specs.declared.reading.RawNode.{RawNode}
 use Rattle.attr_tables.specs.declared.reading.RawNode.TheVariants.{File as RawFile, Dir as RawDir, Link as RawLink, Deleted as RawDeleted}
 use Rattle.attr_tables.specs.declared.reading.RawRow.{RawRow}
 use Rattle.attr_tables.specs.Records.{IsContentOf, IsSound}
-use Rattle.attr_tables.specs.Layout.{kind_of, IsAttr, IsContent, IsFile, IsLink, IsNode}
+use Rattle.attr_tables.specs.Layout.{kind_of, IsContent, IsNode}
 
 -- what is said of the path
 abbrev pub node_of : RawNode → Record
@@ -43,31 +42,6 @@ sound_node (File attr size content) h = step content h.2
 sound_node (Dir attr) h = tt
 sound_node (Link attr target) h = tt
 sound_node Deleted h = tt
-
--- the only records of each kind
-pub only_deleted : (node : Record) → IsNodeOf 0 node → Deleted ≡ node
-only_deleted (File attr size content) h = absurd (omega arith)
-only_deleted (Dir attr) h = absurd (omega arith)
-only_deleted (Link attr target) h = absurd (omega arith)
-only_deleted Deleted h = refl
-
-pub only_file : (node : Record) → IsNodeOf 1 node → (file : Attributes × ℕ × Option PoolId) × IsFile file × (File file.0 file.1 file.2 ≡ node)
-only_file (File attr size content) h = ((attr, size, content), h.0, refl)
-only_file (Dir attr) h = absurd (omega arith)
-only_file (Link attr target) h = absurd (omega arith)
-only_file Deleted h = absurd (omega arith)
-
-pub only_dir : (node : Record) → IsNodeOf 2 node → (attr : Attributes) × IsAttr attr × (Dir attr ≡ node)
-only_dir (File attr size content) h = absurd (omega arith)
-only_dir (Dir attr) h = (attr, h.0, refl)
-only_dir (Link attr target) h = absurd (omega arith)
-only_dir Deleted h = absurd (omega arith)
-
-pub only_link : (node : Record) → IsNodeOf 3 node → (link : Attributes × List ℕ) × IsLink link × (Link link.0 link.1 ≡ node)
-only_link (File attr size content) h = absurd (omega arith)
-only_link (Dir attr) h = absurd (omega arith)
-only_link (Link attr target) h = ((attr, target), h.0, refl)
-only_link Deleted h = absurd (omega arith)
 
 pub no_other_kind : (kind : ℕ) (node : Record) → 3 < kind → IsNodeOf kind node → ⊥
 no_other_kind kind (File attr size content) big h = omega arith

@@ -1,18 +1,18 @@
 //! Reads the rows of a table, without taking memory: what is read lends from the file.
 
+ghost use Rattle.std.specs.Prelude.{◌≡◌, IfOk};
+ghost use Rattle.std.specs.Int.{w16};
+ghost use Rattle.wire_bytes.specs.Kind.{Reads};
+ghost use Rattle.wire_bytes.specs.Layout.{text_bytes};
+ghost use Rattle.attr_tables.specs.RawRows.{node_of, row_of, IsNodeOf};
+ghost use Rattle.attr_tables.specs.Layout.{attr_bytes, id_bytes, content_bytes, node_bytes, row_bytes, IsAttr, IsId, IsContent, IsPath, IsTarget, IsNode, IsRow};
+
 use crate::records::Record;
 use crate::rows::Row;
 use attr_records::{Attr, LinkTarget, PathName, broken_path_rule, is_link_target};
 use disk_trait::PoolId;
 use std::alloc::{AllocError, Global};
 use wire_bytes::{FieldFault, Reader};
-
-ghost use Rattle.std.specs.Prelude.{◌≡◌, IfOk};
-ghost use Rattle.std.specs.Int.{w16};
-ghost use Rattle.wire_bytes.specs.Kind.{Reads};
-ghost use Rattle.wire_bytes.specs.Layout.{text_bytes};
-ghost use Rattle.attr_tables.specs.RawRows.{node_of, row_of, IsNodeOf};
-ghost use Rattle.attr_tables.specs.Layout.{attr_bytes, id_bytes, content_bytes, node_bytes, row_bytes, file_bytes, IsAttr, IsId, IsContent, IsFile, IsPath, IsTarget, IsNode, IsRow};
 
 /// Reads attributes: mode, uid, gid, mtime.
 #[tactic(auto, unfolding(crate::specs::Layout::attr_bytes))]
@@ -51,10 +51,20 @@ fn read_content(reader: &mut Reader, size: u64) -> Result<Option<PoolId>, FieldF
 }
 
 /// What stands behind the path of a row, with a link's target as it stands in the file.
+#[derive(Drop)]
 pub enum RawNode<'a> {
-    File { attr: Attr, size: u64, content: Option<PoolId> },
-    Dir { attr: Attr },
-    Link { attr: Attr, target: &'a [u8] },
+    File {
+        attr: Attr,
+        size: u64,
+        content: Option<PoolId>,
+    },
+    Dir {
+        attr: Attr,
+    },
+    Link {
+        attr: Attr,
+        target: &'a [u8],
+    },
     Deleted,
 }
 
@@ -84,16 +94,6 @@ fn read_path<'a>(reader: &mut Reader<'a>) -> Result<&'a [u8], FieldFault>
     Ok(path)
 }
 
-/// Reads a file: attributes, size and content.
-fn read_file(reader: &mut Reader) -> Result<(Attr, u64, Option<PoolId>), FieldFault>
-    ensures { Reads (λ file. file) IsFile file_bytes reader.old result reader.new }
-{
-    let attr = read_attr(reader)?;
-    let size = reader.read_u64()?;
-    let content = read_content(reader, size)?;
-    Ok((attr, size, content))
-}
-
 /// Reads what stands behind the path of a row of a kind.
 fn read_node<'a>(reader: &mut Reader<'a>, kind: u8) -> Result<RawNode<'a>, FieldFault>
     ensures { Reads node_of (IsNodeOf kind) node_bytes reader.old result reader.new }
@@ -101,8 +101,14 @@ fn read_node<'a>(reader: &mut Reader<'a>, kind: u8) -> Result<RawNode<'a>, Field
     match kind {
         0 => Ok(RawNode::Deleted),
         1 => {
-            let (attr, size, content) = read_file(reader)?;
-            Ok(RawNode::File { attr, size, content })
+            let attr = read_attr(reader)?;
+            let size = reader.read_u64()?;
+            let content = read_content(reader, size)?;
+            Ok(RawNode::File {
+                attr,
+                size,
+                content,
+            })
         }
         2 => {
             let attr = read_attr(reader)?;
@@ -118,6 +124,7 @@ fn read_node<'a>(reader: &mut Reader<'a>, kind: u8) -> Result<RawNode<'a>, Field
 }
 
 /// A row as it stands in the file.
+#[derive(Drop)]
 pub struct RawRow<'a> {
     path: &'a [u8],
     node: RawNode<'a>,
@@ -142,7 +149,11 @@ fn own_node(alloc: Global, raw: &RawNode) -> Result<Record, AllocError>
     ensures { IfOk result (λ node. node ≡ node_of raw.now) }
 {
     match raw {
-        RawNode::File { attr, size, content } => Ok(Record::File {
+        RawNode::File {
+            attr,
+            size,
+            content,
+        } => Ok(Record::File {
             attr: *attr,
             size: *size,
             content: *content,

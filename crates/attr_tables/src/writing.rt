@@ -1,5 +1,10 @@
 //! Writes the file of a table.
 
+ghost use Rattle.std.specs.Prelude.{◌≡◌, ◌≤◌, ◌++◌, OnOk, IfOk};
+ghost use Rattle.std.specs.List.{AllByRecursion};
+ghost use Rattle.attr_tables.specs.Records.{IsSound, IsContentOf};
+ghost use Rattle.attr_tables.specs.Layout.{attr_bytes, id_bytes, content_bytes, kind_of, node_bytes, row_bytes, rows_bytes, table_body, table_file, IsAttr, IsId, IsContent, IsNode, IsRow, IsTable};
+
 use crate::records::Record;
 use crate::rows::Row;
 use crate::table::Table;
@@ -7,11 +12,6 @@ use attr_records::Attr;
 use disk_trait::{Bytes, PoolId};
 use std::alloc::{AllocError, Global};
 use wire_bytes::{put_bytes, put_i64, put_text16, put_u8, put_u16, put_u32, put_u64, seal};
-
-ghost use Rattle.std.specs.Prelude.{◌≡◌, ◌≤◌, ◌++◌, OnOk, IfOk};
-ghost use Rattle.std.specs.List.{AllByRecursion};
-ghost use Rattle.attr_tables.specs.Records.{IsSound, IsContentOf};
-ghost use Rattle.attr_tables.specs.Layout.{attr_bytes, id_bytes, content_bytes, kind_of, node_bytes, row_bytes, rows_bytes, table_body, table_file, IsAttr, IsId, IsContent, IsNode, IsRow, IsTable};
 
 /// Writes attributes: mode, uid, gid, mtime.
 #[tactic(auto, unfolding(crate::specs::Layout::attr_bytes))]
@@ -71,7 +71,11 @@ fn put_node(out: &mut Vec<u8>, node: &Record) -> Result<(), AllocError>
     ensures fits { OnOk result (IsNode node.now) }
 {
     match node {
-        Record::File { attr, size, content } => {
+        Record::File {
+            attr,
+            size,
+            content,
+        } => {
             put_attr(out, attr)?;
             put_u64(out, *size)?;
             put_content(out, *size, content)?;

@@ -1,5 +1,5 @@
 -- Four fields, one after the other, are the attributes.
-use Rattle.std.proofs.Common.{◌≡◌, ℕ, ℤ, ◌<◌, ◌≤◌, List, ◌++◌, Ok, FitsSigned, refl, sym, ap, ◌∙◌, subst, arith, append_assoc}
+use Rattle.std.proofs.Common.{◌≡◌, ℕ, ℤ, ◌≤◌, List, ◌++◌, Ok, FitsSigned, sym, ap, ◌∙◌, subst, arith, append_assoc}
 use Rattle.std.specs.Int.{w32, w64}
 use Rattle.std.proofs.lemmas.Int.{to_z-of_z}
 use Rattle.wire_bytes.specs.Reading.{Reading, left, Passes}
@@ -39,10 +39,10 @@ module _ (old a b c new : Reading) (mode uid gid : ℕ) (mtime : ℤ)
   unfolding made
   read few given is =
       let whole : Reads {E = FieldFault} (λ attr. attr) IsAttr attr_bytes old (Ok made) new =
-          record { found = (record { mode = few; uid = uids.found.0; gid = gids.found.0; mtime = mtimes.found.0 }, passed); back = back } in
+      record { found = (record { mode = few; uid = uids.found.0; gid = gids.found.0; mtime = mtimes.found.0 }, passed); back = back } in
       subst (λ attr. Reads {E = FieldFault} (λ attr. attr) IsAttr attr_bytes old (Ok attr) new) (sym is) whole
 
 pub returns : goal.returns
 returns c =
     read _ _ _ _ _ _ _ _ _ c.in_ok-mode.ensures.field.reads c.in_ok-uid.ensures.field.reads c.in_ok-gid.ensures.field.reads c.in_ok-mtime.ensures.field.reads c.if-mode-gt4095.false _
-        (c.new.ensures ∙ ap (λ z. record { mode = c.in_ok-mode.mode; uid = c.in_ok-uid.uid; gid = c.in_ok-gid.gid; mtime = z }) (to_z-of_z w64 c.in_ok-mtime.mtime c.in_ok-mtime.ensures.field.reads.found.0))
+    (c.new.ensures ∙ ap (λ z. record { mode = c.in_ok-mode.mode; uid = c.in_ok-uid.uid; gid = c.in_ok-gid.gid; mtime = z }) (to_z-of_z w64 c.in_ok-mtime.mtime c.in_ok-mtime.ensures.field.reads.found.0))

@@ -1,5 +1,5 @@
 -- A link's target is short enough to be counted in two bytes.
-use Rattle.std.proofs.Common.{◌≡◌, ℕ, ◌<◌, ◌≤◌, List, length, true, sym, ap, ◌∙◌, arith}
+use Rattle.std.proofs.Common.{◌≡◌, ℕ, ◌<◌, ◌≤◌, List, length, true, ap, ◌∙◌, arith}
 use Rattle.attr_records.specs.Names.{is_link_target, short_target}
 use Rattle.attr_tables.proofs.writing.put_node.Goals as goal
 

@@ -1,5 +1,5 @@
 -- A path is short enough to be counted in two bytes.
-use Rattle.std.proofs.Common.{◌≡◌, ℕ, ◌<◌, ◌≤◌, List, length, None, sym, ap, ◌∙◌, arith}
+use Rattle.std.proofs.Common.{◌≡◌, ℕ, ◌<◌, ◌≤◌, List, length, None, ap, ◌∙◌, arith}
 use Rattle.attr_records.specs.PathRules.{broken_path_rule, short_path}
 use Rattle.attr_tables.proofs.writing.put_row.Goals as goal
 
