@@ -3,6 +3,7 @@ pub mod Items
 pub mod Names
 pub mod Order
 pub mod Parts
+pub mod PathLaws
 pub mod PathRules
 pub mod Paths
 pub mod Trees

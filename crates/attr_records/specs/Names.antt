@@ -3,7 +3,7 @@ use Rattle.std.specs.Prelude.{◌≡◌, ℕ, ◌==◌, nat_lt, nat_le, Bool, tr
 use Rattle.std.specs.List.{list_any, list_all}
 use Rattle.std.specs.Str.{is_utf8, IsAscii}
 use Rattle.std.specs.Cmp.{first_so, second_so}
-use Rattle.std.proofs.Common.{refl, ap, ◌∙◌, ◌<◌, suc, zero, arith}
+use Rattle.std.proofs.Common.{refl, ap, ◌∙◌, ◌<◌, ◌≤◌, suc, zero, arith}
 use Rattle.std.proofs.lemmas.Bool.Decides.{nat_tests}
 use Rattle.std.proofs.lemmas.Str.{IsUtf8-from_ascii, is_utf8-from_IsUtf8}
 use Rattle.attr_records.specs.Paths.{components, joined}
@@ -88,3 +88,12 @@ broken_path_rule-host text e =
 
     within_255 : (n : ℕ) → nat_le n 64 ≡ true → nat_lt 255 n ≡ false
     within_255 n h = grind (arith, nat_tests)
+
+-- the target of a link has at most 4,096 bytes
+pub short_target : (text : List ℕ) → is_link_target text ≡ true → length text ≤ 4096
+unfolding is_link_target
+short_target text e =
+    step (length text) (first_so (nat_le (length text) 4096) (is_utf8 text && not (has_nul text)) (second_so (not (is_empty_component text)) (nat_le (length text) 4096 && (is_utf8 text && not (has_nul text))) e))
+  where
+    step : (n : ℕ) → nat_le n 4096 ≡ true → n ≤ 4096
+    step n short = grind (arith, nat_tests)

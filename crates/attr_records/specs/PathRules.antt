@@ -130,3 +130,10 @@ pub broken_path_rule-parent : (path directory : List ℕ) → broken_path_rule p
 broken_path_rule-parent path directory kept e =
     let w : (name : List ℕ) × (path ≡ directory ++ 47 ∷ name) × (parent name ≡ None) = parent-parts path directory e in
     broken_path_rule-directory directory w.0 (ap broken_path_rule (sym w.1) ∙ kept)
+
+-- a path has at most 4,096 bytes
+pub short_path : (path : List ℕ) → broken_path_rule path ≡ None → length path ≤ 4096
+short_path path e = let kept : KeepsRules path = rules_kept path e in step (length path) kept.short
+  where
+    step : (n : ℕ) → nat_lt 4096 n ≡ false → n ≤ 4096
+    step n short = grind (arith, nat_tests)

@@ -30,7 +30,7 @@ byte_cmp_total = on_total rank nat_cmp_total
 pub path_cmp_total : IsTotalOrder path_cmp
 path_cmp_total = lists_total byte_cmp_total
 
-same_rank : (a b : ℕ) → rank a ≡ rank b → a ≡ b
+pub same_rank : (a b : ℕ) → rank a ≡ rank b → a ≡ b
 same_rank a b e = grind (arith, nat_tests)
 
 -- compared Equal, they are the same bytes

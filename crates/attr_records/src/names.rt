@@ -117,6 +117,15 @@ impl LinkTarget {
         }
     }
 
+    /// The target that a text without a fault is, or want of memory.
+    pub fn from_valid(alloc: Global, text: &[u8]) -> Result<LinkTarget, AllocError>
+        requires { is_link_target text.now ≡ true }
+        ensures { IfOk result (λ target. target ≡ text.now) }
+    {
+        let bytes = Vec::from_slice(alloc, text)?;
+        Ok(LinkTarget { bytes })
+    }
+
     pub fn as_slice(&self) -> &[u8]
         ensures value { result.now ≡ self.now }
         ensures valid { is_link_target self.now ≡ true }
@@ -185,7 +194,7 @@ fn has_host_bytes(text: &[u8]) -> bool
 
 /// Whether a text is the name of a host.
 #[tactic(auto, unfolding(crate::specs::Names::is_host_name))]
-fn is_host_name(text: &[u8]) -> bool
+pub fn is_host_name(text: &[u8]) -> bool
     ensures { result ≡ is_host_name text.now }
 {
     begins_with_letter_or_digit(text) && text.len() <= 64 && has_host_bytes(text)
@@ -193,7 +202,7 @@ fn is_host_name(text: &[u8]) -> bool
 
 /// Whether a text is the target of a link.
 #[tactic(auto, unfolding(crate::specs::Names::is_link_target))]
-fn is_link_target(text: &[u8]) -> bool
+pub fn is_link_target(text: &[u8]) -> bool
     ensures { result ≡ is_link_target text.now }
 {
     !text.is_empty() && text.len() <= 4096 && is_text(text) && !text.contains(&0)

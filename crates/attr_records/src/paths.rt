@@ -5,7 +5,8 @@ ghost use Rattle.std.specs.Ordering.{eq_by_cmp, as_partial_cmp};
 ghost use Rattle.std.specs.Cmp.{partial_equiv_from_equiv, eq_by_cmp_equiv, partial_order_from_total};
 ghost use Rattle.std.specs.Str.{is_utf8};
 ghost use Rattle.std.specs.List.{list_any};
-ghost use Rattle.attr_records.specs.Paths.{path_cmp, path_cmp_total, rank, components, parent};
+ghost use Rattle.attr_records.specs.Paths.{path_cmp, path_cmp_total, rank, components, parent, is_within};
+ghost use Rattle.attr_records.specs.PathLaws.{components_cmp};
 ghost use Rattle.attr_records.specs.PathRules.{broken_path_rule, broken_component_rule, is_dot_component};
 ghost use Rattle.attr_records.specs.Parts.{other_components, left_to_scan};
 
@@ -55,13 +56,22 @@ impl PathName {
         ensures ok { IfOk result (λ path. (path ≡ bytes.now) × (broken_path_rule bytes.now ≡ None)) }
         ensures rule { IfErr result (λ fault. fault ≢ BadPath.Memory → broken_path_rule bytes.now ≡ Some fault) }
     {
-        match broken_rule(bytes) {
+        match broken_path_rule(bytes) {
             Some(rule) => Err(rule),
             None => match Vec::from_slice(alloc, bytes) {
                 Ok(bytes) => Ok(PathName { bytes }),
                 Err(_) => Err(BadPath::Memory),
             },
         }
+    }
+
+    /// The path of bytes that break no rule, or want of memory.
+    pub fn from_valid(alloc: Global, bytes: &[u8]) -> Result<PathName, AllocError>
+        requires { broken_path_rule bytes.now ≡ None }
+        ensures { IfOk result (λ path. path ≡ bytes.now) }
+    {
+        let bytes = Vec::from_slice(alloc, bytes)?;
+        Ok(PathName { bytes })
     }
 
     pub fn as_slice(&self) -> &[u8]
@@ -164,6 +174,14 @@ pub fn compare(a: &[u8], b: &[u8]) -> Ordering
     }
 }
 
+/// The same order, said of the components: the first that differ decide, each by its bytes.
+#[tactic(auto, using(crate::specs::PathLaws::by_components))]
+pub fn compare_components(a: &[u8], b: &[u8]) -> Ordering
+    ensures { result ≡ components_cmp (components a.now) (components b.now) }
+{
+    compare(a, b)
+}
+
 /// The first component of a path, and what follows its slash.
 fn split_first(path: &[u8]) -> (&[u8], Option<&[u8]>)
     ensures parts { components path.now ≡ result.0.now ∷ other_components (option_copied result.1) }
@@ -223,9 +241,9 @@ pub(crate) fn is_text(bytes: &[u8]) -> bool
     }
 }
 
-/// The first rule of paths that the bytes break.
+/// The first rule of paths that the bytes break; never `Memory`.
 #[tactic(auto, unfolding(crate::specs::PathRules::broken_path_rule))]
-fn broken_rule(bytes: &[u8]) -> Option<BadPath>
+pub fn broken_path_rule(bytes: &[u8]) -> Option<BadPath>
     ensures { result ≡ broken_path_rule bytes.now }
 {
     if !is_text(bytes) {
@@ -255,4 +273,22 @@ pub fn parent(path: &[u8]) -> Option<&[u8]>
         }
     }
     None
+}
+
+/// Whether a path is a directory itself, or lies below it.
+pub fn is_within(directory: &[u8], path: &[u8]) -> bool
+    ensures { result ≡ is_within directory.now path.now }
+{
+    for (i, byte) in directory.iter().enumerate() {
+        if i >= path.len() {
+            return false;
+        }
+        if *byte != path[i] {
+            return false;
+        }
+    }
+    if path.len() == directory.len() {
+        return true;
+    }
+    path[directory.len()] == b'/'
 }

@@ -1,11 +1,11 @@
 ghost use Rattle.std.specs.Prelude.{◌≡◌, ℕ, List, length, IfOk};
 ghost use Rattle.attr_records.specs.Paths.{parent};
 ghost use Rattle.attr_records.specs.Items.{is_dir, is_large};
-ghost use Rattle.attr_records.specs.Trees.{is_dir_at, is_parent_in, broken_rule, broken_put};
+ghost use Rattle.attr_records.specs.Trees.{without, is_dir_at, is_parent_in, broken_rule, broken_put};
 ghost use Rattle.attr_records.specs.Attributes.{Attributes};
 
 use crate::nodes::Item;
-use crate::paths::PathName;
+use crate::paths::{PathName, is_within};
 use std::alloc::{AllocError, Global};
 use std::collections::BTreeMap;
 
@@ -101,4 +101,11 @@ pub fn broken_put_file(
         → rule ≡ broken_put is_dir is_large tree.now.entries path.now (Item.File attr bytes)) }
 {
     Ok(broken_rule(alloc, tree, path, false, size > MOST_FILE_BYTES)?)
+}
+
+/// Takes a path and all below it out of a tree.
+pub fn remove(tree: &mut BTreeMap<PathName, Item>, path: &PathName)
+    ensures { tree.new.entries ≡ without tree.old.entries path.now }
+{
+    tree.retain(|other, _| !is_within(path.as_slice(), other.as_slice()));
 }

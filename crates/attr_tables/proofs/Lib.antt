@@ -1,0 +1,2 @@
+mod BodySteps
+mod RowSteps

@@ -1,0 +1,154 @@
+ghost use Rattle.std.specs.Prelude.{◌≡◌, ◌↔◌, [], ◌∷◌, ◌++◌, true, false, length, IsTrue, OnOk, OnErr, IfOk, IfErr, Some};
+ghost use Rattle.std.specs.Option.{option_copied};
+ghost use Rattle.attr_records.specs.Paths.{path_cmp};
+ghost use Rattle.attr_records.specs.Order.{IsInOrder};
+ghost use Rattle.attr_records.specs.Trees.{node_at};
+ghost use Rattle.attr_tables.specs.Rows.{is_behind};
+
+use crate::records::Record;
+use crate::rows::Row;
+use attr_records::{PathName, compare};
+use std::alloc::{AllocError, Global};
+use std::cmp::Ordering;
+use std::marker::Model;
+
+/// What rows in order say of a path, by halving them.
+pub fn find<'a>(rows: &'a [Row], path: &[u8]) -> Option<&'a Record>
+    requires { IsInOrder path_cmp rows.now }
+    ensures { option_copied result ≡ node_at rows.now path.now }
+{
+    let mut low = 0;
+    let mut high = rows.len();
+    while low < high {
+        let middle = low + (high - low) / 2;
+        let row = &rows[middle];
+        match compare(row.path().as_slice(), path) {
+            Ordering::Less => low = middle + 1,
+            Ordering::Greater => high = middle,
+            Ordering::Equal => return Some(row.node()),
+        }
+    }
+    None
+}
+
+/// Whether a path comes behind that of the last row, if there is one.
+pub fn is_behind(rows: &[Row], path: &PathName) -> bool
+    ensures { result ≡ is_behind path_cmp rows.now path.now }
+{
+    match rows {
+        [] => true,
+        [.., last] => compare(last.path().as_slice(), path.as_slice()).is_lt(),
+    }
+}
+
+/// Why a row was not put behind the others.
+#[derive(Clone, Copy, Debug, PartialEq, Eq)]
+pub enum PushFault {
+    /// Its path doesn't come behind that of the last row.
+    NotRising,
+    /// There was no memory for it.
+    Memory,
+}
+
+/// Rows in the order of their paths, one for each path.
+#[derive(Debug, Drop)]
+pub struct Table {
+    rows: Vec<Row>,
+}
+
+impl Model for Table {
+    ghost use Rattle.std.specs.Prelude.{List, ℕ};
+    ghost use Rattle.attr_records.specs.Paths.{path_cmp};
+    ghost use Rattle.attr_records.specs.Order.{IsInOrder};
+    ghost use Rattle.attr_tables.specs.declared.records.Record.{Record};
+
+    ghost Value = { List (List ℕ × Record) };
+
+    ghost view = { λ t. t.rows.items };
+
+    ghost invariant = { λ t. IsInOrder path_cmp t.rows.items };
+}
+
+impl Table {
+    /// No rows; takes no memory.
+    pub fn new(alloc: Global) -> Table
+        ensures { result ≡ [] }
+    {
+        Table {
+            rows: Vec::new(alloc),
+        }
+    }
+
+    /// The table of rows in order, which takes no memory.
+    pub fn from_rows(rows: Vec<Row>) -> Table
+        requires { IsInOrder path_cmp rows.items }
+        ensures { result ≡ rows.items }
+    {
+        Table { rows }
+    }
+
+    /// The rows, which takes no memory.
+    pub fn into_rows(self) -> Vec<Row>
+        ensures rows { result.items ≡ self }
+        ensures in_order { IsInOrder path_cmp result.items }
+    {
+        self.rows
+    }
+
+    pub fn rows(&self) -> &[Row]
+        ensures rows { result.now ≡ self.now }
+        ensures in_order { IsInOrder path_cmp self.now }
+    {
+        self.rows.as_slice()
+    }
+
+    pub fn len(&self) -> usize
+        ensures { result ≡ length self.now }
+    {
+        self.rows.len()
+    }
+
+    pub fn is_empty(&self) -> bool
+        ensures { IsTrue result ↔ (self.now ≡ []) }
+    {
+        self.rows.is_empty()
+    }
+
+    /// What the table says of a path.
+    pub fn find(&self, path: &PathName) -> Option<&Record>
+        ensures { option_copied result ≡ node_at self.now path.now }
+    {
+        find(self.rows.as_slice(), path.as_slice())
+    }
+
+    /// Puts a row behind the others; refused exactly where its path doesn't come behind theirs, or for want
+    /// of memory.
+    pub fn push(&mut self, row: Row) -> Result<(), PushFault>
+        ensures ok { OnOk result (self.new ≡ self.old ++ row ∷ []) }
+        ensures rising { OnOk result (is_behind path_cmp self.old row.0 ≡ true) }
+        ensures err { OnErr result (self.new ≡ self.old) }
+        ensures not_rising { IfErr result (λ fault. fault ≡ PushFault.NotRising → is_behind path_cmp self.old row.0 ≡ false) }
+    {
+        if !is_behind(self.rows.as_slice(), row.path()) {
+            return Err(PushFault::NotRising);
+        }
+        if self.rows.reserve(1).is_err() {
+            return Err(PushFault::Memory);
+        }
+        match self.rows.push(row) {
+            Ok(()) => Ok(()),
+            Err(_) => unreachable!(),
+        }
+    }
+
+    /// An equal table, or want of memory.
+    pub fn copy(&self, alloc: Global) -> Result<Table, AllocError>
+        ensures { IfOk result (λ copy. copy ≡ self.now) }
+    {
+        let mut rows = Vec::new(alloc);
+        for row in self.rows.as_slice() {
+            rows.push(row.copy(alloc)?)?;
+        }
+        Ok(Table { rows })
+    }
+}

@@ -1,0 +1,5 @@
+pub mod Reading
+pub mod Layout
+pub mod Kind
+pub mod Fields
+pub mod Seal
