@@ -61,7 +61,7 @@ unfolding flag_at number_bytes
 flag_again from false rest e = rw ((number_field w8 tt).reads.again from 0 rest (omega arith) e) refl
 flag_again from true rest e = rw ((number_field w8 tt).reads.again from 1 rest (omega arith) e) refl
 
-length-flag_bytes : (flag : Bool) → length (flag_bytes flag) ≡ 1
+pub length-flag_bytes : (flag : Bool) → length (flag_bytes flag) ≡ 1
 length-flag_bytes false = refl
 length-flag_bytes true = refl
 

@@ -67,6 +67,10 @@ wide w32 is = wide32
 wide w64 is = wide64
 wide w128 is = absurd is
 
+-- how long the layout of a number is
+pub length-number_bytes : (w : Width) → IsFieldWidth w → (n : ℕ) → length (number_bytes w n) ≡ byte_len w
+length-number_bytes w is n = (wide w is).len n
+
 -- ---- the field
 
 abbrev read : Width → List ℕ × Reading → Result (ℕ × Reading) FieldFault

@@ -1,6 +1,6 @@
 -- Counted texts, over the width of their length.
 use Rattle.std.proofs.Common.{◌≡◌, ℕ, ◌+◌, ◌-◌, ◌<◌, ◌≤◌, ltb, false, cond, List, ◌++◌, length, take, drop, replicate, Result, Ok, Err, refl, sym, ap, subst, ◌∙◌, append_assoc, arith, inl, inr}
-use Rattle.std.specs.Int.{Width}
+use Rattle.std.specs.Int.{Width, byte_len}
 use Rattle.std.proofs.lemmas.Bool.{ltb-false, ltb-true, le-ltb}
 use Rattle.std.proofs.lemmas.List.{take_at, take-append-drop, length-append, length-take, length-replicate}
 use Rattle.wire_bytes.specs.declared.fault.FieldFault.{FieldFault}
@@ -11,7 +11,11 @@ use Rattle.wire_bytes.specs.Kind.{IsCut}
 use Rattle.wire_bytes.specs.Fields.{number_at, text_at}
 use Rattle.wire_bytes.proofs.Steps.{further-left, further-passes, Passes-append, bind_ok, bind_err, guard_ok, guard_err}
 use Rattle.wire_bytes.proofs.Field.{IsField, from_ended}
-use Rattle.wire_bytes.proofs.Numbers.{number_field, number_ended}
+use Rattle.wire_bytes.proofs.Numbers.{length-number_bytes, number_field, number_ended}
+
+-- how long the layout of a text is
+pub length-text_bytes : (w : Width) → IsFieldWidth w → (text : List ℕ) → length (text_bytes w text) ≡ byte_len w + length text
+length-text_bytes w is text = omega (arith, length-append (number_bytes w (length text)) text, length-number_bytes w is (length text))
 
 -- a length was read, and the text behind it is next
 abbrev read : Reading → ℕ × Reading → Result (List ℕ × Reading) FieldFault

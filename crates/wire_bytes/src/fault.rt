@@ -1,5 +1,8 @@
 //! What is wrong with bytes that were to be read.
 
+use std::error::Error;
+use std::fmt;
+
 /// Why a field isn't there. The offset is that of the field's first byte, from the front of all that is read.
 #[derive(Clone, Copy, Debug, PartialEq, Eq)]
 pub enum FieldFault {
@@ -9,6 +12,26 @@ pub enum FieldFault {
     Foreign(usize),
 }
 
+impl fmt::Display for FieldFault {
+    fn fmt<W: fmt::Write>(&self, f: &mut fmt::Formatter<W>) -> fmt::Result {
+        match self {
+            FieldFault::Ended(offset) => write!(f, "the field at {offset} is cut off"),
+            FieldFault::Foreign(offset) => write!(f, "no such field stands at {offset}"),
+        }
+    }
+}
+
+impl Error for FieldFault {}
+
 /// The seal is wrong or missing. The offset is that of the seal's first byte, or 0 in a file too short for one.
 #[derive(Clone, Copy, Debug, PartialEq, Eq)]
 pub struct BadSeal(pub usize);
+
+impl fmt::Display for BadSeal {
+    fn fmt<W: fmt::Write>(&self, f: &mut fmt::Formatter<W>) -> fmt::Result {
+        let offset = self.0;
+        write!(f, "the seal at {offset} is wrong or missing")
+    }
+}
+
+impl Error for BadSeal {}
