@@ -1,7 +1,6 @@
-ghost use Rattle.std.specs.Prelude.{◌≡◌, ℕ, ◌-◌, ◌<◌, ◌≤◌, List, [], ◌∷◌, ◌++◌, ◌||◌, Option, Some, None, length, take, drop, min, vec_len, IfOk, OnOk, OnErr, IsErr, IsTrue, is_err};
+ghost use Rattle.std.specs.Prelude.{◌≡◌, ◌≤◌, [], ◌++◌, ◌||◌, Some, length, take, min, vec_len, IfOk, OnErr, IsErr, IsTrue, is_err};
 ghost use Rattle.std.specs.Vec.{vec_capacity};
 ghost use Rattle.fault_counts.specs.Counts.{Counted};
-ghost use Rattle.stream_traits.specs.Told.{before, behind, IsEnd};
 
 use crate::link::{Failed, Faults, Link, Sink, Source};
 use std::alloc::{AllocError, Global};
