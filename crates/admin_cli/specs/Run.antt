@@ -1,5 +1,5 @@
 -- What the program promises for its command `pipe`.
-use Rattle.std.specs.Prelude.{◌≡◌, ◌≢◌, ℕ, ◌<◌, ◌≤◌, Bool, true, false, nat_lt, List, [], ◌∷◌, ◌++◌, Option, None, Some, IsSome, ◌⊎◌, if◌then◌else◌}
+use Rattle.std.specs.Prelude.{◌≡◌, ℕ, ◌-◌, ◌^◌, ◌<◌, ◌≤◌, Bool, true, false, nat_lt, List, [], ◌∷◌, ◌++◌, Option, None, Some, IsSome, ◌⊎◌, if◌then◌else◌}
 use Rattle.std.specs.Option.{ForSome}
 use Rattle.fault_counts.specs.Counts.{Rose}
 use Rattle.disk_trait.specs.declared.ids.FileId.TheVariants.{Head}
@@ -89,3 +89,11 @@ abbrev pub EndsUnopened : {D : Type 0} → D → OpenFault → D → ℕ → Not
 EndsUnopened disk (O.Foreign file found) disk' status note = (disk' ≡ disk) × (status ≡ 5) × (note ≡ Foreign file)
 EndsUnopened disk O.Disk disk' status note = (disk' ≡ disk) × (status ≡ 4) × (note ≡ DiskFailed)
 EndsUnopened disk O.Memory disk' status note = (disk' ≡ disk) × (status ≡ 6) × (note ≡ NoMemory)
+
+-- Where the words have a parse, the disk has no Head, and neither count rose (nor stands at its type's end), the run ended with 0,
+-- with 1, or for want of memory.
+abbrev pub IsComplete : {D : Type 0} → (D → Option Files) → (D → ℕ) → D → D → Option (List ℕ) → (linked linked' status : ℕ) → Type 0
+IsComplete files faults disk disk' store linked linked' status =
+    (all : Files) → files disk ≡ Some all → all Head ≡ None → IsSome store
+    → faults disk < 2 ^ 64 - 1 → faults disk' ≡ faults disk → linked < 2 ^ 64 - 1 → linked' ≡ linked
+    → (status ≡ 0) ⊎ ((status ≡ 1) ⊎ (status ≡ 6))

@@ -1,7 +1,7 @@
 ghost use Rattle.std.specs.Prelude.{◌≡◌, ◌⊎◌, map};
 ghost use Rattle.std.specs.String.{string_bytes};
 ghost use Rattle.admin_cli.specs.Command.{store_named};
-ghost use Rattle.admin_cli.specs.Run.{status_of, note_of, Serves, Refuses, EndsUnopened};
+ghost use Rattle.admin_cli.specs.Run.{status_of, note_of, Serves, Refuses, EndsUnopened, IsComplete};
 
 use crate::connection::{End, serve_connection};
 use crate::note::Note;
@@ -59,6 +59,25 @@ pub fn run<D: Disk, C: Clock, L: Link>(
     link: &mut L,
 ) -> Done<D>
     ensures headline { Serves D.files D.fault_count disk result.disk (L.left link.old) (L.written link.old) (L.written link.new)
+        (C.moments clock.old) (C.moments clock.new) (L.faults link.old) (L.faults link.new) result.status result.note
+        ⊎ Refuses D.files D.fault_count disk result.disk (store_named (map string_bytes words.now))
+        (L.left link.old) (L.left link.new) (L.written link.old) (L.written link.new) (C.moments clock.old) (C.moments clock.new)
+        result.status result.note }
+    ensures complete { IsComplete D.files D.fault_count disk result.disk (store_named (map string_bytes words.now))
+        (L.faults link.old) (L.faults link.new) result.status }
+{
+    serve_pipe(alloc, words, disk, clock, link)
+}
+
+/// Serves one connection over the link from the store on the disk, where the words ask for it.
+fn serve_pipe<D: Disk, C: Clock, L: Link>(
+    alloc: Global,
+    words: &[String],
+    disk: D,
+    clock: &mut C,
+    link: &mut L,
+) -> Done<D>
+    ensures { Serves D.files D.fault_count disk result.disk (L.left link.old) (L.written link.old) (L.written link.new)
         (C.moments clock.old) (C.moments clock.new) (L.faults link.old) (L.faults link.new) result.status result.note
         ⊎ Refuses D.files D.fault_count disk result.disk (store_named (map string_bytes words.now))
         (L.left link.old) (L.left link.new) (L.written link.old) (L.written link.new) (C.moments clock.old) (C.moments clock.new)
