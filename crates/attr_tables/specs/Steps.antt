@@ -1,8 +1,7 @@
 -- Reading one thing after another.
-use Rattle.std.specs.Prelude.{◌≡◌, ℕ, ◌+◌, List, [], ◌++◌, length, Result, Ok, Err, IfOk, IsOkAnd}
-use Rattle.std.proofs.Common.{refl, sym, ap, ◌∙◌, subst, append_assoc, length-append, arith}
+use Rattle.std.specs.Prelude.{◌≡◌, ℕ, ◌+◌, List, ◌++◌, length}
+use Rattle.std.proofs.Common.{sym, ap, ◌∙◌, append_assoc, length-append, arith}
 use Rattle.wire_bytes.specs.Reading.{Reading, left, Passes}
-use Rattle.wire_bytes.specs.Kind.{Reads}
 
 -- past one list of bytes, and then past another
 pub passes_both : (old middle new : Reading) (a b : List ℕ) → Passes old middle a → Passes middle new b → Passes old new (a ++ b)
