@@ -2,12 +2,11 @@
 use Rattle.std.proofs.lemmas.Bool.Decides.{nat_tests}
 use Rattle.std.specs.Prelude.{IsSome}
 use Rattle.disk_trait.specs.declared.ids.FileId.TheVariants.{Head}
-use Rattle.std.proofs.Common.{◌≡◌, ℕ, ◌-◌, ◌^◌, ◌<◌, ◌≤◌, Bool, true, false, nat_lt, List, Option, None, Some, refl, sym, ap, ◌∙◌, subst, inl, inr, ◌⊎◌, arith}
-use Rattle.std.specs.Option.{ForSome}
+use Rattle.std.proofs.Common.{◌≡◌, ℕ, ◌-◌, ◌^◌, ◌<◌, Bool, true, false, nat_lt, List, Option, None, Some, refl, sym, ap, ◌∙◌, subst, inl, inr, ◌⊎◌, arith}
 use Rattle.fault_counts.specs.Counts.{Rose, Counted}
 use Rattle.disk_trait.specs.declared.disk.Disk.{Ghosts}
 use Rattle.disk_trait.specs.Files.{Files}
-use Rattle.office_model.specs.Office.{Office, durable, reopened}
+use Rattle.office_model.specs.Office.{Office, reopened}
 use Rattle.office_model.specs.Step.{Call, State, Running, Stopped}
 use Rattle.office_store.specs.declared.store.Store.{Store}
 use Rattle.office_store.specs.declared.port.DirectPort.{DirectPort}

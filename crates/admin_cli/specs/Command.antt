@@ -1,5 +1,5 @@
 -- Command lines.
-use Rattle.std.specs.Prelude.{Bool, List, [], ◌∷◌, Option, None, Some, ◌&&◌, if◌then◌else◌, codes, bytes_eq, ℕ}
+use Rattle.std.specs.Prelude.{List, [], ◌∷◌, Option, None, Some, ◌&&◌, if◌then◌else◌, codes, bytes_eq, ℕ}
 
 -- the folder that the words name: they are the program's name, pipe, --store and one word
 abbrev pub store_named : List (List ℕ) → Option (List ℕ)

@@ -1,5 +1,5 @@
 -- What the program promises for its command `pipe`.
-use Rattle.std.specs.Prelude.{◌≡◌, ℕ, ◌-◌, ◌^◌, ◌<◌, ◌≤◌, Bool, true, false, nat_lt, List, [], ◌∷◌, ◌++◌, Option, None, Some, IsSome, ◌⊎◌, if◌then◌else◌}
+use Rattle.std.specs.Prelude.{◌≡◌, ℕ, ◌-◌, ◌^◌, ◌<◌, ◌≤◌, Bool, true, false, nat_lt, List, ◌++◌, Option, None, Some, IsSome, ◌⊎◌, if◌then◌else◌}
 use Rattle.std.specs.Option.{ForSome}
 use Rattle.fault_counts.specs.Counts.{Rose}
 use Rattle.disk_trait.specs.declared.ids.FileId.TheVariants.{Head}
@@ -15,7 +15,6 @@ use Rattle.admin_cli.specs.declared.connection.End.TheVariants.{Ended, Truncated
 use Rattle.admin_cli.specs.declared.note.Note.{Note}
 use Rattle.admin_cli.specs.declared.note.Note.TheVariants.{Nothing, InputEnded, NotUnderstood, Usage, LinkFailed, DiskFailed, Foreign, NoMemory}
 use Rattle.admin_cli.specs.Talk.{Exchange, AreExchanges, calls_of, moments_of, Gave, Talk}
-use Rattle.admin_cli.specs.Command.{store_named}
 
 -- how a run that served its connection ended: want of memory first, then the link's faults, a halted store, and the connection's end
 abbrev pub status_of : End → (link_failed halted : Bool) → ℕ

@@ -1,10 +1,10 @@
 -- An office by its fields, and what they are after a change of some.
-use Rattle.std.proofs.Common.{◌≡◌, ℕ, ◌<◌, ◌+◌, List, [], ◌∷◌, ◌++◌, Option, Some, None, length, get_or, set, remove, slice_get, refl, sym, ap, ◌∙◌, subst, ◌≤◌, ◌⊎◌, inl, inr}
+use Rattle.std.proofs.Common.{◌≡◌, ℕ, ◌<◌, ◌+◌, List, [], ◌∷◌, ◌++◌, Some, None, length, get_or, set, remove, slice_get, refl, sym, ap, ◌∙◌, subst, ◌≤◌, ◌⊎◌, inl, inr}
 use Rattle.std.specs.Option.{option_map_or}
-use Rattle.std.proofs.lemmas.Option.{slice_get_read, slice_get_cases, slice_get_within}
+use Rattle.std.proofs.lemmas.Option.{slice_get_read, slice_get_cases, slice_get_within, same_Some}
 use Rattle.office_model.specs.Office.{Office, Host, Dump, IsSound, number_limit}
 use Rattle.office_model.specs.Rules.{add_rule, open_rule_at, put_rule}
-use Rattle.office_model.specs.Step.{with_dump, with_file_put, with_backup, with_dump_committed, next_number}
+use Rattle.office_model.specs.Step.{with_file_put, with_backup, with_dump_committed, next_number}
 use Rattle.office_model.specs.Soundness.{host_of_dump, new_host, new_dump, dump_with_file, with_file_put-at, with_dump_committed-at, IsSound-host_added, IsSound-dump_opened, IsSound-file_put, IsSound-dump_committed}
 
 abbrev pub office_of : ℕ → List Host → List Dump → ℕ → Office
@@ -52,31 +52,38 @@ module _ (epoch : ℕ) (hosts : List Host) (dumps : List Dump) (sequence : ℕ) 
     pub file_put-sound : IsSound (office_of epoch hosts (set dumps place dump') sequence)
     file_put-sound = subst IsSound (sym file_put-is) (IsSound-file_put office place path bytes here rule)
 
-  -- an open dump committed
-  module _ (place now : ℕ) (within : place < length office.dumps) (dump : Dump) (read : dump ≡ get_or dumps place dump)
-      (host_place : ℕ) (host_is : host_place ≡ dump.host) (host host' : Host) (read_host : host ≡ get_or hosts host_place host)
-      (made : (d : Dump) → slice_get dumps place ≡ Some d → host' ≡ with_backup host d now) (dumps' : List Dump) (left : dumps' ≡ remove dumps place) where
+  -- the host of an open dump
+  module _ (place : ℕ) (within : place < length office.dumps) (dump : Dump) (read : dump ≡ get_or dumps place dump) (host_place : ℕ) (host_is : host_place ≡ dump.host) where
     committed : slice_get dumps place ≡ Some dump
     committed = found_at dumps place dump (subst (λ (o : Office). place < length o.dumps) (sym is) within) read
 
-    host_found : slice_get hosts dump.host ≡ Some host
-    host_found = step (host_of_dump (office_of epoch hosts dumps sequence) place dump sound committed)
-      where
-        step : (h : Host) × (slice_get hosts dump.host ≡ Some h) × (length h.backups < number_limit) → slice_get hosts dump.host ≡ Some host
-        step w = found_at hosts dump.host host (slice_get_within hosts dump.host w.0 w.1) (read_host ∙ ap (λ p. get_or hosts p host) host_is)
+    host_there : (h : Host) × (slice_get hosts dump.host ≡ Some h) × (length h.backups < number_limit)
+    host_there = host_of_dump (office_of epoch hosts dumps sequence) place dump sound committed
 
-    pub committed-is : office_of epoch (set hosts host_place host') dumps' sequence ≡ with_dump_committed office place now
-    committed-is =
-        ap (λ p. office_of epoch (set hosts p host') dumps' sequence) host_is
-        ∙ ap (λ (h : Host). office_of epoch (set hosts dump.host h) dumps' sequence) (made dump committed)
-        ∙ ap (λ (ds : List Dump). office_of epoch (set hosts dump.host (with_backup host dump now)) ds sequence) left
-        ∙ sym (with_dump_committed-at (office_of epoch hosts dumps sequence) place now dump host committed host_found)
-        ∙ ap (λ o. with_dump_committed o place now) is
+    pub host_within : host_place < length hosts
+    host_within = subst (λ p. p < length hosts) (sym host_is) (slice_get_within hosts dump.host host_there.0 host_there.1)
 
-    pub committed-sound : IsSound (office_of epoch (set hosts host_place host') dumps' sequence)
-    committed-sound = subst IsSound (sym committed-is) (IsSound-dump_committed office place now here)
+    module _ (host : Host) (read_host : host ≡ get_or hosts host_place host) where
+      host_found : slice_get hosts dump.host ≡ Some host
+      host_found = ap (slice_get hosts) (sym host_is) ∙ found_at hosts host_place host host_within read_host
 
-    pub committed-number : length host.backups ≡ next_number office (slice_get office.dumps place)
-    committed-number =
-        sym (ap (λ r. next_number (office_of epoch hosts dumps sequence) r) committed ∙ ap (λ r. option_map_or (λ (h : Host). length h.backups) r 0) host_found)
-        ∙ ap (λ (o : Office). next_number o (slice_get o.dumps place)) is
+      pub host_room : length host.backups < number_limit
+      host_room = let same : host_there.0 ≡ host = same_Some host_there.0 host (sym host_there.1 ∙ host_found) in subst (λ (h : Host). length h.backups < number_limit) same host_there.2
+
+      -- the dump committed
+      module _ (now : ℕ) (host' : Host) (made : (d : Dump) → slice_get dumps place ≡ Some d → host' ≡ with_backup host d now) (dumps' : List Dump) (left : dumps' ≡ remove dumps place) where
+        pub committed-is : office_of epoch (set hosts host_place host') dumps' sequence ≡ with_dump_committed office place now
+        committed-is =
+            ap (λ p. office_of epoch (set hosts p host') dumps' sequence) host_is
+            ∙ ap (λ (h : Host). office_of epoch (set hosts dump.host h) dumps' sequence) (made dump committed)
+            ∙ ap (λ (ds : List Dump). office_of epoch (set hosts dump.host (with_backup host dump now)) ds sequence) left
+            ∙ sym (with_dump_committed-at (office_of epoch hosts dumps sequence) place now dump host committed host_found)
+            ∙ ap (λ o. with_dump_committed o place now) is
+
+        pub committed-sound : IsSound (office_of epoch (set hosts host_place host') dumps' sequence)
+        committed-sound = subst IsSound (sym committed-is) (IsSound-dump_committed office place now here)
+
+      pub committed-number : length host.backups ≡ next_number office (slice_get office.dumps place)
+      committed-number =
+          sym (ap (λ r. next_number (office_of epoch hosts dumps sequence) r) committed ∙ ap (λ r. option_map_or (λ (h : Host). length h.backups) r 0) host_found)
+          ∙ ap (λ (o : Office). next_number o (slice_get o.dumps place)) is

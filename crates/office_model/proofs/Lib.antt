@@ -1,3 +1,2 @@
 mod Fields
 mod Moves
-pub mod Committed

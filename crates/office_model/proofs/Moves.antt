@@ -1,11 +1,11 @@
 -- A step of an office that doesn't stop is a legal history of one call.
-use Rattle.std.proofs.Common.{◌≡◌, ℕ, ◌≤◌, [], ◌∷◌, Err, subst, arith}
+use Rattle.std.proofs.Common.{◌≡◌, [], ◌∷◌, Err, subst, arith}
 use Rattle.fault_counts.specs.Counts.{Rose}
 use Rattle.office_model.specs.declared.event.Event.{Event}
 use Rattle.office_model.specs.declared.event.Refusal.TheVariants.{DiskFault}
 use Rattle.office_model.specs.Office.{Office, IsSound}
-use Rattle.office_model.specs.Step.{Reply, State, Running, Stopped, IsStep}
-use Rattle.office_model.specs.History.{GoesOn, Leads, Leads-one}
+use Rattle.office_model.specs.Step.{Reply, Running, IsStep}
+use Rattle.office_model.specs.History.{Leads, Leads-one}
 use Rattle.office_model.specs.Soundness.{IsSoundState-step}
 
 no_fault : (old new : Office) (event : Event) (reply : Reply) → IsStep (Running old) event reply (Running new) → reply ≡ Err DiskFault → Rose 0 0

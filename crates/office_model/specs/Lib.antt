@@ -2,6 +2,7 @@ pub mod Nodes
 pub mod Session
 pub mod Office
 pub mod Rules
+pub mod RuleNames
 pub mod Step
 pub mod History
 pub mod Places

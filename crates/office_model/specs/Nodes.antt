@@ -10,7 +10,7 @@ use Rattle.attr_records.specs.declared.nodes.Item.{Item}
 use Rattle.attr_records.specs.declared.nodes.Item.TheVariants.{File}
 use Rattle.attr_records.specs.declared.trees.PutRule.{PutRule}
 use Rattle.attr_records.specs.Attributes.{Attributes}
-pub use Rattle.attr_records.specs.Items.{is_dir, is_large}
+use Rattle.attr_records.specs.Items.{is_dir, is_large}
 use Rattle.attr_records.specs.Items as Items
 use Rattle.attr_records.specs.Trees as Trees
 

@@ -1,5 +1,5 @@
 -- Trees as lists of rows that are searched from the front.
-use Rattle.std.specs.Prelude.{◌≡◌, ℕ, zero, suc, ◌+◌, ◌<◌, ◌≤◌, List, [], ◌∷◌, ◌++◌, length, Option, Some, None, Result, Ok, Err, slice_set, slice_get, get_or}
+use Rattle.std.specs.Prelude.{◌≡◌, ℕ, suc, ◌+◌, ◌<◌, List, [], ◌∷◌, length, Some, Result, Ok, Err, slice_set, slice_get, get_or}
 use Rattle.std.specs.List.{insert}
 use Rattle.std.specs.Ordering.{match_ordering}
 use Rattle.std.specs.FinMap.Entries.{by_order}

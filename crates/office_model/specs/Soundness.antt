@@ -8,19 +8,18 @@ use Rattle.std.proofs.lemmas.Bool.Decides.{nat_tests}
 use Rattle.std.proofs.lemmas.Option.{slice_get_within, slice_get_cases}
 use Rattle.attr_records.specs.declared.trees.PutRule.{PutRule}
 use Rattle.attr_records.specs.Trees as Trees
-use Rattle.attr_records.specs.Items.{is_dir, is_large}
 use Rattle.office_model.specs.Nodes.{IsTree, IsTree-nil, IsTree-with_file, broken_put}
 use Rattle.office_model.specs.declared.session.SessionName.{SessionName}
 use Rattle.office_model.specs.declared.event.Event.{Event}
 use Rattle.office_model.specs.declared.event.Event.TheVariants.{AddHost, OpenDump, Put, Commit, ReadFile}
 use Rattle.office_model.specs.declared.event.Rule.{Rule}
-use Rattle.office_model.specs.declared.event.Rule.TheVariants.{NoHost, NoSession}
+use Rattle.office_model.specs.declared.event.Rule.TheVariants.{NoHost}
 use Rattle.office_model.specs.declared.event.Refusal.TheVariants.{Broken, Halted, DiskFault, Damaged, Memory}
 use Rattle.office_model.specs.Office.{Office, Host, Backup, Dump, no_office, durable, reopened, host_place, host_named, dump_place, dump_named, dump_of_host, number_limit, host_limit, IsSoundDump, IsSoundHost, IsSound}
 use Rattle.office_model.specs.Rules.{broken_rule, add_rule, open_rule, open_rule_at, put_rule, rule_of_put, plain_file}
 use Rattle.office_model.specs.Step.{with_dump, with_file_put, with_backup, with_dump_committed, after, next_session, Reply, State, Running, Stopped, IsSoundState, IsStep, IsAnswerTo, answer_of, next_number, content_of}
 use Rattle.office_model.specs.Places.{AtEach-longer, AtEach-set, Differ-longer, Differ-set, Differ-remove, slice_get-set_other, slice_get-remove, place_before, place_before-other, in_longer}
-use Rattle.office_model.specs.Lookups.{host_place-found, host_place-none, dump_place-found, dump_named-none, dump_named-found, dump_of_host-none}
+use Rattle.office_model.specs.Lookups.{host_place-none, dump_of_host-none}
 
 -- the host of an open dump is there
 pub host_of_dump : (office : Office) (place : ℕ) (dump : Dump) → IsSound office → slice_get office.dumps place ≡ Some dump → (host : Host) × (slice_get office.hosts dump.host ≡ Some host) × (length host.backups < number_limit)

@@ -102,9 +102,15 @@ pub enum Refusal {
     Memory,
 }
 
+#[tactic(auto, unfolding(crate::specs::RuleNames::rule_name))]
 impl Rule {
+    ghost use Rattle.std.specs.Prelude.{◌≡◌};
+    ghost use Rattle.office_model.specs.RuleNames.{rule_name};
+
     /// The rule's name, as a response says it.
-    pub fn name(self) -> &'static str {
+    pub fn name(self) -> &'static str
+        ensures { result.now ≡ rule_name self }
+    {
         match self {
             Rule::HostExists => "HostExists",
             Rule::HostsFull => "HostsFull",
@@ -124,12 +130,23 @@ impl Rule {
 }
 
 impl fmt::Display for Rule {
+    ghost use Rattle.std.specs.Prelude.{Some};
+    ghost use Rattle.office_model.specs.RuleNames.{rule_name};
+
+    ghost output = { λ rule. Some (rule_name rule) };
+
     fn fmt<W: fmt::Write>(&self, f: &mut fmt::Formatter<W>) -> fmt::Result {
         write!(f, "{}", self.name())
     }
 }
 
+#[tactic(auto, unfolding(crate::specs::RuleNames::refusal_name))]
 impl fmt::Display for Refusal {
+    ghost use Rattle.std.specs.Prelude.{Some};
+    ghost use Rattle.office_model.specs.RuleNames.{refusal_name};
+
+    ghost output = { λ refusal. Some (refusal_name refusal) };
+
     fn fmt<W: fmt::Write>(&self, f: &mut fmt::Formatter<W>) -> fmt::Result {
         match self {
             Refusal::Broken(rule) => write!(f, "{rule}"),

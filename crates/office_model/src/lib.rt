@@ -2,7 +2,8 @@
 //!
 //! The definitions in `specs/` are the whole of it: the office and its states, the first rule that
 //! an event breaks, the step, the legal history. Everything above speaks to a `Port`, whose calls
-//! are events. The crate knows values alone: no disk, no bytes of a file, no HTTP.
+//! are events. The crate knows values alone: no disk, no bytes of a file, no HTTP. `PlainOffice` is
+//! the plainest port: whole trees in memory, searched from the front.
 #![tactic(auto)]
 
 mod event;

@@ -1,5 +1,5 @@
 -- Head in parts.
-use Rattle.std.proofs.Common.{◌≡◌, ℕ, ◌+◌, List, [], ◌∷◌, ◌++◌, length, refl, sym, ap, ◌∙◌, append_assoc, arith, length-append}
+use Rattle.std.proofs.Common.{◌≡◌, ℕ, ◌+◌, List, [], ◌∷◌, ◌++◌, length, append_assoc, arith, length-append}
 use Rattle.office_model.specs.Office.{Host}
 use Rattle.office_store.specs.Layout.{host_line, host_lines, head_start, head_file, host_lines-append}
 

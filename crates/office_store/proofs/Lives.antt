@@ -1,11 +1,11 @@
 -- The office in memory after an event.
-use Rattle.std.proofs.Common.{◌≡◌, ℕ, ◌+◌, ◌-◌, ◌^◌, ◌<◌, ◌≤◌, List, [], ◌∷◌, ◌++◌, length, Option, None, Some, refl, sym, ap, ◌∙◌, subst, arith, slice_get, slice_set, unwrap_or, is_some, if◌then◌else◌, zero, suc, get_or, take, drop, length-append}
+use Rattle.std.proofs.Common.{◌≡◌, ℕ, ◌+◌, ◌^◌, ◌<◌, ◌≤◌, List, [], ◌∷◌, ◌++◌, length, Option, None, Some, refl, sym, ap, ◌∙◌, subst, arith, slice_get, slice_set, unwrap_or, is_some, if◌then◌else◌, zero, suc, get_or, take, drop, length-append}
 use Rattle.office_model.specs.declared.session.SessionName.{SessionName}
 use Rattle.office_model.specs.declared.event.Event.TheVariants.{AddHost, OpenDump, Put, Commit}
 use Rattle.office_model.specs.declared.event.Kind.TheVariants.{Full}
 use Rattle.std.specs.List.{remove}
 use Rattle.std.specs.Option.{option_map_or, option_and_then}
-use Rattle.std.proofs.lemmas.Option.{get_or_from_slice_get, slice_get_within, same_Some, slice_get_read}
+use Rattle.std.proofs.lemmas.Option.{get_or_from_slice_get, slice_get_within, same_Some}
 use Rattle.disk_trait.specs.declared.ids.FileId.TheVariants.{Table}
 use Rattle.attr_records.specs.Items.{Tree}
 use Rattle.office_store.specs.Layout.{table_file, head_file}
@@ -13,7 +13,7 @@ use Rattle.attr_records.specs.Trees.{with_node}
 use Rattle.office_model.specs.Office.{Office, Host, Backup, Dump, IsSound, host_place, dump_place, dump_named, number_limit, host_limit}
 use Rattle.office_model.specs.declared.event.Rule.TheVariants.{NoSession}
 use Rattle.office_model.specs.Rules.{broken_rule, plain_file}
-use Rattle.office_model.specs.Step.{after, next_session, next_number, with_dump, with_file_put, with_dump_committed, with_backup}
+use Rattle.office_model.specs.Step.{after, next_session, next_number, with_file_put, with_dump_committed, with_backup}
 use Rattle.office_model.specs.Soundness.{IsSound-after, host_of_dump, with_dump_committed-at}
 use Rattle.office_store.specs.Lives.{dumps_with_file, MayCommit, Commits, IsCommitFiles}
 
@@ -41,8 +41,8 @@ sound_with_dump office office' name now place dump dumps sound view rule place_i
 with_file_put-dumps : (office : Office) (place : ℕ) (path bytes : List ℕ) → with_file_put office place path bytes ≡ record office { dumps = dumps_with_file office.dumps place path bytes }
 with_file_put-dumps office place path bytes =
     elim (slice_get office.dumps place) as (λ o.
-      option_map_or (λ dump. record office { dumps = slice_set office.dumps place (record dump { tree = with_node dump.tree path (plain_file bytes) }) }) o office
-      ≡ record office { dumps = option_map_or (λ dump. slice_set office.dumps place (record dump { tree = with_node dump.tree path (plain_file bytes) })) o office.dumps }) [
+    option_map_or (λ dump. record office { dumps = slice_set office.dumps place (record dump { tree = with_node dump.tree path (plain_file bytes) }) }) o office
+    ≡ record office { dumps = option_map_or (λ dump. slice_set office.dumps place (record dump { tree = with_node dump.tree path (plain_file bytes) })) o office.dumps }) [
       | None ↦ refl
       | Some dump ↦ refl
     ]
@@ -74,6 +74,7 @@ named dumps session e = at (dump_place dumps session) e
     there : (found : Option Dump) → (if is_some found then None else Some NoSession) ≡ None → (dump : Dump) × (found ≡ Some dump) × (found ≡ Some dump)
     there None e = cc
     there (Some dump) e = (dump, refl, refl)
+
     at : (place : Option ℕ) → (if is_some (option_and_then (slice_get dumps) place) then None else Some NoSession) ≡ None
         → (dump : Dump) × (slice_get dumps (unwrap_or place 0) ≡ Some dump) × (option_and_then (slice_get dumps) place ≡ Some dump)
     at None e = cc
@@ -96,7 +97,7 @@ pub after_commit : (office : Office) (session : SessionName) (place now number :
     → Commits office.hosts office.dumps hosts dumps place now number → record office { hosts = hosts; dumps = dumps } ≡ after office (Commit session now)
 after_commit office session place now number hosts dumps c d =
     rw (d.hosts_are c.dump c.host c.is_dump c.is_host, d.dumps_are)
-      (sym (with_dump_committed-at office place now c.dump c.host c.is_dump c.is_host) ∙ ap (λ p. with_dump_committed office p now) c.place_is)
+    (sym (with_dump_committed-at office place now c.dump c.host c.is_dump c.is_host) ∙ ap (λ p. with_dump_committed office p now) c.place_is)
 
 pub sound_committed : (office office' : Office) (session : SessionName) (place now number : ℕ) (hosts : List Host) (dumps : List Dump) → IsSound office → office ≡ office'
     → broken_rule office' (Commit session now) ≡ None → place ≡ unwrap_or (dump_place office.dumps session) 0
@@ -123,7 +124,7 @@ pub commits_of : (hosts : List Host) (dumps dumps' : List Dump) (place now h : �
 commits_of hosts dumps dumps' place now h dump dump' host host' backups dump_is h_is host_is host'_is dumps'_is backups_are =
     let this_dump : (d : Dump) → slice_get dumps place ≡ Some d → dump ≡ d = λ d e. dump_is ∙ get_or_from_slice_get dumps place d dump e in
     let this_host : (d : Dump) (k : Host) → slice_get dumps place ≡ Some d → slice_get hosts d.host ≡ Some k → host ≡ k =
-        λ d k e f. host_is ∙ get_or_from_slice_get hosts h k host (ap (slice_get hosts) (h_is ∙ ap (λ x. x.host) (this_dump d e)) ∙ f) in
+    λ d k e f. host_is ∙ get_or_from_slice_get hosts h k host (ap (slice_get hosts) (h_is ∙ ap (λ x. x.host) (this_dump d e)) ∙ f) in
     record {
       hosts_are = λ d k e f. rw (host'_is, h_is) (ap2 (this_dump d e) (this_host d k e f));
       dumps_are = dumps'_is ∙ remove-set dumps place dump';
@@ -150,21 +151,23 @@ pub commit_files_of : (epoch : ℕ) (hosts : List Host) (dumps : List Dump) (pla
     → ((k : Host) → k.name ≡ name → length k.backups ≡ length backups + 1 → head_bytes ≡ head_file epoch (before ++ k ∷ after))
     → IsCommitFiles epoch hosts dumps place now (Table h (length backups)) table_bytes head_bytes
 commit_files_of epoch hosts dumps place now h dump host backups start tree name table_bytes head_bytes before after is_dump h_is is_host backups_are start_is tree_is name_is table before_is after_is head =
-    record { each = λ d k e f.
-      let same_dump : dump ≡ d = same_Some dump d (sym is_dump ∙ e) in
-      let same_host : host ≡ k = same_Some host k (sym is_host ∙ ap (slice_get hosts) (h_is ∙ ap (λ x. x.host) same_dump) ∙ f) in
-      let place_is : h ≡ d.host = h_is ∙ ap (λ x. x.host) same_dump in
-      let count : length backups ≡ length k.backups = ap length backups_are ∙ ap (λ x. length x.backups) same_host in
-      let table_is : Table h (length backups) ≡ Table d.host (length k.backups) = ap (λ n. Table n (length backups)) place_is ∙ ap (Table d.host) count in
-      let bytes_are : table_bytes ≡ table_file d.start now d.tree =
+    record {
+      each = λ d k e f.
+          let same_dump : dump ≡ d = same_Some dump d (sym is_dump ∙ e) in
+          let same_host : host ≡ k = same_Some host k (sym is_host ∙ ap (slice_get hosts) (h_is ∙ ap (λ x. x.host) same_dump) ∙ f) in
+          let place_is : h ≡ d.host = h_is ∙ ap (λ x. x.host) same_dump in
+          let count : length backups ≡ length k.backups = ap length backups_are ∙ ap (λ x. length x.backups) same_host in
+          let table_is : Table h (length backups) ≡ Table d.host (length k.backups) = ap (λ n. Table n (length backups)) place_is ∙ ap (Table d.host) count in
+          let bytes_are : table_bytes ≡ table_file d.start now d.tree =
           table ∙ ap (λ s. table_file s now tree) (start_is ∙ ap (λ x. x.start) same_dump) ∙ ap (table_file d.start now) (tree_is ∙ ap (λ x. x.tree) same_dump) in
-      let inside : h < length hosts = slice_get_within hosts h host is_host in
-      let longer : length (with_backup k d now).backups ≡ length backups + 1 = omega (arith, length-append k.backups ((record { start = d.start; end = now; tree = d.tree }) ∷ []), count) in
-      let head_is : head_bytes ≡ head_file epoch (slice_set hosts d.host (with_backup k d now)) =
+          let inside : h < length hosts = slice_get_within hosts h host is_host in
+          let longer : length (with_backup k d now).backups ≡ length backups + 1 = omega (arith, length-append k.backups ((record { start = d.start; end = now; tree = d.tree }) ∷ []), count) in
+          let head_is : head_bytes ≡ head_file epoch (slice_set hosts d.host (with_backup k d now)) =
           head (with_backup k d now) (sym (name_is ∙ ap (λ x. x.name) same_host)) longer
           ∙ ap (λ hs. head_file epoch (hs ++ with_backup k d now ∷ after)) before_is ∙ ap (λ hs. head_file epoch (take h hosts ++ with_backup k d now ∷ hs)) after_is
           ∙ ap (head_file epoch) (sym (set-parts hosts h (with_backup k d now) inside) ∙ ap (λ n. slice_set hosts n (with_backup k d now)) place_is) in
-      (table_is, bytes_are, head_is) }
+          (table_is, bytes_are, head_is);
+    }
 
 pub commit_files_at : (epoch : ℕ) (hosts : List Host) (dumps : List Dump) (place now h : ℕ) (dump : Dump) (host : Host) (backups : List Backup)
     (start : ℕ) (tree : Tree) (name : List ℕ) (table_bytes head_bytes : List ℕ) (before after : List Host) → MayCommit hosts dumps place
@@ -179,7 +182,7 @@ commit_files_at epoch hosts dumps place now h dump host backups start tree name 
     let host_at : slice_get hosts h ≡ Some may.host = ap (slice_get hosts) (h_is ∙ ap (λ x. x.host) same_dump) ∙ may.is_host in
     let same_host : host ≡ may.host = host_is ∙ get_or_from_slice_get hosts h may.host host host_at in
     commit_files_of epoch hosts dumps place now h dump host backups start tree name table_bytes head_bytes before after
-      (may.is_dump ∙ ap Some (sym same_dump)) h_is (host_at ∙ ap Some (sym same_host))
+    (may.is_dump ∙ ap Some (sym same_dump)) h_is (host_at ∙ ap Some (sym same_host))
 
 pub may_commit_slices : (hosts hosts' : List Host) (dumps dumps' : List Dump) (place : ℕ) → hosts' ≡ hosts → dumps' ≡ dumps → MayCommit hosts dumps place → MayCommit hosts' dumps' place
 may_commit_slices hosts hosts' dumps dumps' place h d may = rw (h, d) may

@@ -1,8 +1,7 @@
 -- What the disk's files stand for after a commit.
-use Rattle.std.proofs.Common.{◌≡◌, ◌≢◌, ℕ, ◌+◌, ◌<◌, Bool, true, false, List, [], ◌∷◌, ◌++◌, length, Option, None, Some, refl, sym, ap, ◌∙◌, subst, inl, inr, ◌⊎◌, arith, slice_get, slice_set}
+use Rattle.std.proofs.Common.{◌≡◌, ◌≢◌, ℕ, ◌<◌, Bool, true, false, List, [], length, Option, None, Some, refl, sym, ap, ◌∙◌, subst, inl, inr, ◌⊎◌, arith, slice_get, slice_set}
 use Rattle.std.specs.List.{remove}
 use Rattle.std.proofs.lemmas.Option.{slice_get_within}
-use Rattle.std.specs.Prelude.{bytes_eq}
 use Rattle.disk_trait.specs.declared.ids.FileId.{FileId}
 use Rattle.disk_trait.specs.declared.ids.FileId.TheVariants.{Head, Table}
 use Rattle.disk_trait.specs.Files.{Files, is_same_file, same_file, is_same_file-itself, with_file, rewritten}
@@ -78,6 +77,7 @@ stands_with_backup files office place now dump host table_bytes head_bytes is_ho
   where
     new : Files
     new = with_file files (Table dump.host (length host.backups)) table_bytes
+
     numbered : (n : ℕ) (backup : Backup)
         → (slice_get host.backups n ≡ Some backup) ⊎ ((n ≡ length host.backups) × (backup ≡ record { start = dump.start; end = now; tree = dump.tree }))
         → with_file files (Table dump.host (length host.backups)) table_bytes (Table dump.host n) ≡ Some (table_file backup.start backup.end backup.tree)
@@ -86,6 +86,7 @@ stands_with_backup files office place now dump host table_bytes head_bytes is_ho
         let other : n ≢ length host.backups = λ same. absurd (omega arith) in
         rw (other_number dump.host n dump.host (length host.backups) other) (stands.tables dump.host n host backup is_host e)
     numbered n backup (inr e) = rw (e.0, e.1) (rw (is_same_file-itself (Table dump.host (length host.backups))) (ap Some table_is))
+
     at : (h n : ℕ) (other : Host) (backup : Backup) → slice_get other.backups n ≡ Some backup
         → ((h ≢ dump.host) × (slice_get office.hosts h ≡ Some other)) ⊎ ((h ≡ dump.host) × (other ≡ with_backup host dump now) × (dump.host < length office.hosts))
         → with_file files (Table dump.host (length host.backups)) table_bytes (Table h n) ≡ Some (table_file backup.start backup.end backup.tree)
@@ -111,7 +112,7 @@ pub tells_committed : {D : Type 0} (files : D → Option Files) (disk disk' : D)
 tells_committed files disk disk' office session place now table table_bytes head_bytes sound rule c w written tells =
     let parts = w.each c.dump c.host c.is_dump c.is_host in
     let after_is : after office (Commit session now) ≡ committed office place now c.dump c.host =
-        ap (λ p. with_dump_committed office p now) (sym c.place_is) ∙ with_dump_committed-at office place now c.dump c.host c.is_dump c.is_host in
+    ap (λ p. with_dump_committed office p now) (sym c.place_is) ∙ with_dump_committed-at office place now c.dump c.host c.is_dump c.is_host in
     let sound_after : IsSound (committed office place now c.dump c.host) = subst IsSound after_is (IsSound-after office (Commit session now) sound rule) in
     record {
       all = with_file (with_file tells.all (Table c.dump.host (length c.host.backups)) table_bytes) Head head_bytes;

@@ -1,6 +1,6 @@
 -- What a store at work does, as its clauses say it.
 use Rattle.std.specs.Option.{ForSome}
-use Rattle.std.proofs.Common.{◌≡◌, ℕ, ◌≤◌, [], arith, Bool, true, false, List, Option, None, Some, Result, Ok, Err, refl, sym, ap, ◌∙◌, subst, inl, inr, unwrap_or}
+use Rattle.std.proofs.Common.{◌≡◌, ℕ, [], arith, false, List, Option, None, Some, Ok, refl, sym, ap, ◌∙◌, subst, inr, unwrap_or}
 use Rattle.fault_counts.specs.Counts.{Counted}
 use Rattle.disk_trait.specs.declared.ids.FileId.{FileId}
 use Rattle.disk_trait.specs.declared.ids.FileId.TheVariants.{Head}
@@ -10,7 +10,6 @@ use Rattle.office_model.specs.declared.session.SessionName.{SessionName}
 use Rattle.office_model.specs.declared.event.Event.{Event}
 use Rattle.office_model.specs.declared.event.Event.TheVariants.{AddHost, Commit}
 use Rattle.office_model.specs.declared.event.Answer.TheVariants.{Done, Committed}
-use Rattle.office_model.specs.declared.event.Refusal.TheVariants.{DiskFault}
 use Rattle.office_model.specs.Office.{Office, IsSound, durable, reopened, no_office, dump_place, dump_named}
 use Rattle.office_model.specs.Rules.{broken_rule}
 use Rattle.office_model.specs.Step.{Reply, State, Running, Stopped, IsOfficeStep, IsStep, IsSoundState, after, next_number}
@@ -19,10 +18,9 @@ use Rattle.office_model.specs.Soundness.{IsSoundState-step, IsSound-durable, IsS
 use Rattle.office_store.specs.Layout.{head_file}
 use Rattle.office_store.specs.Lives.{IsCommitFiles}
 use Rattle.office_store.specs.declared.store.Store.{Store}
-use Rattle.office_store.specs.Kept.{IsHeadOf, StandsFor, Opens, Tells, IsRunning, IsStopped, InState, IsAt, Works, Serves}
+use Rattle.office_store.specs.Kept.{IsHeadOf, StandsFor, Opens, Tells, InState, IsAt, Works, Serves}
 use Rattle.office_store.proofs.Lives.{committing}
 use Rattle.office_store.proofs.Stands.{tells_added, tells_committed}
-
 
 pub works_added : {D : Type 0} {d : Ghosts D} (old new : Store D d) (name head : List ℕ) {failed : Type 0} → old.halted ≡ false → broken_rule old.office (AddHost name) ≡ None
     → new.halted ≡ old.halted → new.office ≡ after old.office (AddHost name)
@@ -50,7 +48,7 @@ works_committed {d = d} old new session now number table table_bytes head_bytes 
   at = (halted ∙ ready, office);
   keeps = λ going sound tells. subst (λ o. Tells d.files new.disk (durable o)) (sym office)
       (tells_committed d.files old.disk new.disk old.office session (unwrap_or (dump_place old.office.dumps session) 0) now table table_bytes head_bytes sound rule
-        (committing old.office old.office session now (unwrap_or (dump_place old.office.dumps session) 0) sound refl rule refl) files_are written tells);
+      (committing old.office old.office session now (unwrap_or (dump_place old.office.dumps session) 0) sound refl rule refl) files_are written tells);
   counted = record { later = counted.later; rose = λ e. cc };
   stops = λ stopped. cc;
 }
@@ -58,7 +56,11 @@ works_committed {d = d} old new session now number table table_bytes head_bytes 
 in_state : {D : Type 0} {d : Ghosts D} (new : Store D d) (next : State) → IsAt new next → IsSoundState next
     → (new.halted ≡ false → Tells d.files new.disk (durable new.office)) → InState new next
 in_state {d = d} new (Running office) at sound tells = record {
-  ready = at.0; office_is = at.1; sound = sound; tells = subst (λ o. Tells d.files new.disk (durable o)) at.1 (tells at.0) }
+  ready = at.0;
+  office_is = at.1;
+  sound = sound;
+  tells = subst (λ o. Tells d.files new.disk (durable o)) at.1 (tells at.0);
+}
 in_state new (Stopped before next) at sound tells = record { halted = at; before_sound = sound.0; next_sound = sound.1 }
 
 -- a store at work serves
@@ -77,9 +79,11 @@ serves {D} {d} old event reply new ready works = record {
         let step : IsStep (Running office) event reply works.next = subst (λ o. IsOfficeStep o event reply works.next) at.office_is works.step in
         let sound : IsSoundState works.next = IsSoundState-step (Running office) event reply works.next at.sound step in
         let sound_old : IsSound old.office = subst IsSound (sym at.office_is) at.sound in
-        let tells_old : Tells d.files old.disk (durable old.office) = subst (λ o. Tells d.files old.disk (durable o)) (sym at.office_is) at.tells in
-        (works.next, record { step = step; sound = sound; later = works.counted.later; cause = works.counted.rose },
-          in_state new works.next works.at sound (λ going. works.keeps going sound_old tells_old))
+        let tells_old : Tells d.files old.disk (durable old.office) = subst (λ o. Tells d.files old.disk (durable o)) (sym at.office_is) at.tells in (
+          works.next,
+          record { step = step; sound = sound; later = works.counted.later; cause = works.counted.rose },
+          in_state new works.next works.at sound (λ going. works.keeps going sound_old tells_old),
+        )
     steps (Stopped before next) at = let h = at.halted in cc
 
 stands_opened : (files : Files) (head : List ℕ) → head ≡ head_file 1 [] → StandsFor (with_file files Head head) (durable (reopened no_office))
@@ -118,6 +122,7 @@ opens {d = d} disk read store head slice absent same counted ready office slice_
     absent_is : (told : Option Files) → ForSome told (λ all. None ≡ all Head) → ForSome told (λ all. all Head ≡ None)
     absent_is None h = λ all e. cc
     absent_is (Some all) h = λ other e. sym (h other e)
+
     first : (before : Office) (all : Files) (head : Option (List ℕ)) → None ≡ head → IsHeadOf head before → before ≡ no_office
     first before all None e h = h
     first before all (Some bytes) e h = cc

@@ -1,10 +1,9 @@
 -- What a store keeps: the disk's files stand for the office, and the store has the office in memory.
-use Rattle.std.specs.Prelude.{◌≡◌, ◌≢◌, ℕ, ◌≤◌, Bool, true, false, List, [], Option, Some, None, Result, Ok, Err, slice_get, IsSome, ◌⊎◌}
+use Rattle.std.specs.Prelude.{◌≡◌, ◌≢◌, ℕ, ◌≤◌, true, false, List, Option, Some, None, Err, slice_get, IsSome, ◌⊎◌}
 use Rattle.std.specs.Option.{ForSome}
 use Rattle.fault_counts.specs.Counts.{Rose, Counted}
 use Rattle.office_store.specs.declared.open.OpenFault.{OpenFault}
 use Rattle.office_store.specs.declared.open.OpenFault.TheVariants.{Foreign, Disk, Memory}
-use Rattle.disk_trait.specs.declared.ids.FileId.{FileId}
 use Rattle.disk_trait.specs.declared.ids.FileId.TheVariants.{Head, Table}
 use Rattle.disk_trait.specs.declared.disk.Disk.{Ghosts}
 use Rattle.disk_trait.specs.Files.{Files}

@@ -3,9 +3,8 @@ use Rattle.std.specs.Prelude.{◌≡◌, ℕ, List, [], ◌∷◌, ◌++◌, len
 use Rattle.std.specs.Int.{to_be_bytes, w16, w32, w64}
 use Rattle.std.proofs.Common.{ap, sym, ◌∙◌}
 use Rattle.std.proofs.lemmas.List.{append_assoc}
-use Rattle.attr_records.specs.declared.nodes.Item.{Item}
 use Rattle.office_model.specs.Nodes.{Tree}
-use Rattle.office_model.specs.Office.{Office, Host, Backup}
+use Rattle.office_model.specs.Office.{Host}
 use Rattle.office_model.specs.Step.{bytes_of}
 
 -- a host in Head: its name behind its length, and the number of its backups

@@ -1,13 +1,13 @@
 -- The laws of `Moves`: no calls, one call, and one list of calls after another.
-use Rattle.std.specs.Prelude.{◌≡◌, ℕ, ◌≤◌, true, List, [], ◌∷◌, ◌++◌, refl, ◌⊎◌}
+use Rattle.std.specs.Prelude.{◌≡◌, ℕ, ◌≤◌, true, List, [], ◌∷◌, ◌++◌, ◌⊎◌}
 use Rattle.std.proofs.Common.{inl, inr, arith}
 use Rattle.fault_counts.specs.Counts.{Rose}
 use Rattle.disk_trait.specs.declared.disk.Disk.{Ghosts}
 use Rattle.office_model.specs.declared.event.Event.{Event}
-use Rattle.office_model.specs.Step.{Reply, Call, State}
+use Rattle.office_model.specs.Step.{Reply, Call}
 use Rattle.office_model.specs.History.{Leads-none, Leads-one, Leads-append}
 use Rattle.office_store.specs.declared.store.Store.{Store}
-use Rattle.office_store.specs.Kept.{InState, Serves, Moves}
+use Rattle.office_store.specs.Kept.{Serves, Moves}
 
 rose_before : (a b c : ℕ) → a ≤ b → Rose b c → Rose a c
 rose_before a b c h r = omega arith

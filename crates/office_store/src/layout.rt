@@ -4,13 +4,11 @@ ghost use Rattle.office_model.specs.Office.{Host as HostValue};
 ghost use Rattle.office_model.specs.Step.{bytes_of};
 ghost use Rattle.office_store.specs.Layout.{host_line, host_lines, head_start, head_file, file_line, file_lines, table_start, table_file};
 
+use crate::parts::Host;
+use attr_records::{HostName, Item, PathName};
 use std::alloc::{AllocError, Global};
 use std::collections::BTreeMap;
-
-use attr_records::{HostName, Item, PathName};
 use stream_traits::Moment;
-
-use crate::parts::Host;
 
 /// Writes a host's line in Head.
 #[tactic(auto, using(crate::proofs::Names::short_host_name), unfolding(crate::specs::Layout::host_line))]

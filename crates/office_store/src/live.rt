@@ -3,16 +3,14 @@ ghost use Rattle.office_store.specs.Lives.{dumps_with_file, MayCommit, Commits, 
 ghost use Rattle.office_model.specs.Office.{host_place, dump_place, dump_of_host};
 ghost use Rattle.office_model.specs.Rules.{rule_of_put};
 
-use std::alloc::{AllocError, Global};
-use std::marker::Model;
-
+use crate::layout::{head_file, table_file};
+use crate::parts::{Dump, Host};
 use attr_records::{HostName, Item, PathName, PutRule};
 use disk_trait::{Bytes, FileId};
 use office_model::{Event, Rule, SessionName};
+use std::alloc::{AllocError, Global};
+use std::marker::Model;
 use stream_traits::Moment;
-
-use crate::layout::{head_file, table_file};
-use crate::parts::{Dump, Host};
 
 /// The place of the host of this name in order of adding.
 fn host_place(hosts: &[Host], name: &HostName) -> Option<usize>
@@ -48,7 +46,13 @@ fn rule_of_put(rule: PutRule) -> Rule
 }
 
 /// Puts a file into the dump at this place, where there is one.
-fn put_into(alloc: Global, dumps: &mut Vec<Dump>, place: usize, path: &PathName, bytes: &Bytes) -> Result<(), AllocError>
+fn put_into(
+    alloc: Global,
+    dumps: &mut Vec<Dump>,
+    place: usize,
+    path: &PathName,
+    bytes: &Bytes,
+) -> Result<(), AllocError>
     ensures ok { OnOk result (dumps.new.items ≡ dumps_with_file dumps.old.items place path.now bytes.now) }
     ensures err { OnErr result (dumps.new.items ≡ dumps.old.items) }
 {
@@ -63,7 +67,13 @@ fn put_into(alloc: Global, dumps: &mut Vec<Dump>, place: usize, path: &PathName,
 }
 
 /// Makes the dump at this place the next backup of its host, and gives the backup's number.
-fn commit_at(alloc: Global, hosts: &mut Vec<Host>, dumps: &mut Vec<Dump>, place: usize, now: Moment) -> Result<u32, AllocError>
+fn commit_at(
+    alloc: Global,
+    hosts: &mut Vec<Host>,
+    dumps: &mut Vec<Dump>,
+    place: usize,
+    now: Moment,
+) -> Result<u32, AllocError>
     requires { MayCommit hosts.old.items dumps.old.items place }
     ensures ok { IfOk result (λ number. Commits hosts.old.items dumps.old.items hosts.new.items dumps.new.items place now number) }
     ensures err { OnErr result ((hosts.new.items ≡ hosts.old.items) × (dumps.new.items ≡ dumps.old.items)) }
@@ -88,7 +98,14 @@ pub(crate) struct CommitFiles {
 }
 
 /// What a commit of the dump at this place writes.
-fn commit_files(alloc: Global, epoch: u64, hosts: &[Host], dumps: &[Dump], place: usize, now: Moment) -> Result<CommitFiles, AllocError>
+fn commit_files(
+    alloc: Global,
+    epoch: u64,
+    hosts: &[Host],
+    dumps: &[Dump],
+    place: usize,
+    now: Moment,
+) -> Result<CommitFiles, AllocError>
     requires { MayCommit hosts.now dumps.now place }
     ensures { IfOk result (λ files. IsCommitFiles epoch hosts.now dumps.now place now files.table files.table_bytes.items files.head_bytes.items) }
 {
@@ -134,12 +151,20 @@ impl LiveOffice {
     ghost use Rattle.office_model.specs.Rules.{broken_rule, add_rule, open_rule_at, put_rule, read_rule};
 
     /// The first rule that an event breaks.
-    pub(crate) fn broken_rule(&self, alloc: Global, event: &Event) -> Result<Option<Rule>, AllocError>
+    pub(crate) fn broken_rule(
+        &self,
+        alloc: Global,
+        event: &Event,
+    ) -> Result<Option<Rule>, AllocError>
         ensures { IfOk result (λ rule. rule ≡ broken_rule self.now event.now) }
     {
         match event {
             Event::AddHost { host } => Ok(self.add_rule(host)),
-            Event::OpenDump { host, kind: _, now: _ } => Ok(self.open_rule(host)),
+            Event::OpenDump {
+                host,
+                kind: _,
+                now: _,
+            } => Ok(self.open_rule(host)),
             Event::Put { dump, path, bytes } => Ok(self.put_rule(alloc, *dump, path, bytes)?),
             Event::Commit { dump, now: _ } => Ok(self.commit_rule(*dump)),
             Event::ReadFile { host, number, path } => Ok(self.read_rule(host, *number, path)),
@@ -179,7 +204,13 @@ impl LiveOffice {
         None
     }
 
-    fn put_rule(&self, alloc: Global, session: SessionName, path: &PathName, bytes: &Bytes) -> Result<Option<Rule>, AllocError>
+    fn put_rule(
+        &self,
+        alloc: Global,
+        session: SessionName,
+        path: &PathName,
+        bytes: &Bytes,
+    ) -> Result<Option<Rule>, AllocError>
         ensures { IfOk result (λ rule. rule ≡ put_rule (dump_named self.now.dumps session) path.now bytes.now) }
     {
         let Some(dump) = self.dump(session) else {
@@ -271,7 +302,12 @@ impl LiveOffice {
         Ok(())
     }
 
-    pub(crate) fn open_dump(&mut self, alloc: Global, name: &HostName, now: Moment) -> Result<SessionName, AllocError>
+    pub(crate) fn open_dump(
+        &mut self,
+        alloc: Global,
+        name: &HostName,
+        now: Moment,
+    ) -> Result<SessionName, AllocError>
         requires { broken_rule self.old (OpenDump name.now Full now) ≡ None }
         ensures session { IfOk result (λ session. session ≡ next_session self.old) }
         ensures ok { OnOk result (self.new ≡ after self.old (OpenDump name.now Full now)) }
@@ -287,7 +323,13 @@ impl LiveOffice {
         Ok(session)
     }
 
-    pub(crate) fn put(&mut self, alloc: Global, session: SessionName, path: &PathName, bytes: &Bytes) -> Result<(), AllocError>
+    pub(crate) fn put(
+        &mut self,
+        alloc: Global,
+        session: SessionName,
+        path: &PathName,
+        bytes: &Bytes,
+    ) -> Result<(), AllocError>
         requires { broken_rule self.old (Put session path.now bytes.now) ≡ None }
         ensures ok { OnOk result (self.new ≡ after self.old (Put session path.now bytes.now)) }
         ensures err { OnErr result (self.new ≡ self.old) }
@@ -298,7 +340,12 @@ impl LiveOffice {
     }
 
     /// Makes an open dump the next backup of its host, and gives the backup's number.
-    pub(crate) fn commit(&mut self, alloc: Global, session: SessionName, now: Moment) -> Result<u32, AllocError>
+    pub(crate) fn commit(
+        &mut self,
+        alloc: Global,
+        session: SessionName,
+        now: Moment,
+    ) -> Result<u32, AllocError>
         requires { broken_rule self.old (Commit session now) ≡ None }
         ensures number { IfOk result (λ number. number ≡ next_number self.old (dump_named self.old.dumps session)) }
         ensures ok { OnOk result (self.new ≡ after self.old (Commit session now)) }
@@ -309,7 +356,13 @@ impl LiveOffice {
         Ok(number)
     }
 
-    pub(crate) fn read_file(&self, alloc: Global, name: &HostName, number: u32, path: &PathName) -> Result<Bytes, AllocError>
+    pub(crate) fn read_file(
+        &self,
+        alloc: Global,
+        name: &HostName,
+        number: u32,
+        path: &PathName,
+    ) -> Result<Bytes, AllocError>
         ensures { IfOk result (λ bytes. bytes ≡ content_of (host_named self.now.hosts name.now) number path.now) }
     {
         let Some(host) = self.host(name) else {
@@ -327,7 +380,11 @@ impl LiveOffice {
     }
 
     /// Head as it will be with this host.
-    pub(crate) fn head_with_host(&self, alloc: Global, name: &HostName) -> Result<Vec<u8>, AllocError>
+    pub(crate) fn head_with_host(
+        &self,
+        alloc: Global,
+        name: &HostName,
+    ) -> Result<Vec<u8>, AllocError>
         ensures { IfOk result (λ bytes. bytes.items ≡ head_file self.now.epoch (after self.now (AddHost name.now)).hosts) }
     {
         let bytes = head_file(alloc, self.epoch, &self.hosts, name, 0, &[])?;
@@ -335,7 +392,12 @@ impl LiveOffice {
     }
 
     /// What a commit of this dump writes.
-    pub(crate) fn commit_files(&self, alloc: Global, session: SessionName, now: Moment) -> Result<CommitFiles, AllocError>
+    pub(crate) fn commit_files(
+        &self,
+        alloc: Global,
+        session: SessionName,
+        now: Moment,
+    ) -> Result<CommitFiles, AllocError>
         requires { broken_rule self.now (Commit session now) ≡ None }
         ensures { IfOk result (λ files. IsCommitFiles self.now.epoch self.now.hosts self.now.dumps (unwrap_or (dump_place self.now.dumps session) 0) now files.table files.table_bytes.items files.head_bytes.items) }
     {

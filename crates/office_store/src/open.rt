@@ -1,7 +1,6 @@
+use disk_trait::{Bytes, Disk, FileId};
 use std::error::Error;
 use std::fmt;
-
-use disk_trait::{Bytes, Disk, FileId};
 
 /// Why a store wasn't opened.
 #[derive(Debug, Drop)]

@@ -1,14 +1,13 @@
 ghost use Rattle.std.specs.Prelude.{◌≡◌, IfOk};
 ghost use Rattle.office_model.specs.Rules.{plain_file};
 
-use std::collections::BTreeMap;
-use std::marker::Model;
-use std::alloc::{AllocError, Global};
-use std::mem;
-
 use attr_records::{Attr, HostName, Item, PathName, PutRule};
 use disk_trait::Bytes;
 use office_model::SessionName;
+use std::alloc::{AllocError, Global};
+use std::collections::BTreeMap;
+use std::marker::Model;
+use std::mem;
 use stream_traits::Moment;
 
 /// A backup that was committed.
@@ -99,7 +98,12 @@ impl Host {
 
     /// Makes the tree of a dump the host's next backup, which ended now. Where there is no memory,
     /// both stay as they were.
-    pub(crate) fn commit(&mut self, alloc: Global, dump: &mut Dump, end: Moment) -> Result<(), AllocError>
+    pub(crate) fn commit(
+        &mut self,
+        alloc: Global,
+        dump: &mut Dump,
+        end: Moment,
+    ) -> Result<(), AllocError>
         ensures ok { OnOk result (self.new ≡ with_backup self.old dump.old end) }
         ensures err { OnErr result (self.new ≡ self.old) }
         ensures dump { OnErr result (dump.new ≡ dump.old) }
@@ -172,7 +176,12 @@ impl Dump {
     }
 
     /// The first rule that putting a file of this many bytes at a path breaks.
-    pub(crate) fn broken_put(&self, alloc: Global, path: &PathName, size: u64) -> Result<Option<PutRule>, AllocError>
+    pub(crate) fn broken_put(
+        &self,
+        alloc: Global,
+        path: &PathName,
+        size: u64,
+    ) -> Result<Option<PutRule>, AllocError>
         ensures { IfOk result (λ rule. (bytes : List ℕ) → length bytes ≡ size → rule ≡ broken_put self.now.tree path.now (plain_file bytes)) }
     {
         match attr_records::broken_put_file(alloc, &self.tree, path, size) {
@@ -182,7 +191,12 @@ impl Dump {
     }
 
     /// Puts a file with default attributes at a path.
-    pub(crate) fn put(&mut self, alloc: Global, path: &PathName, bytes: &[u8]) -> Result<(), AllocError>
+    pub(crate) fn put(
+        &mut self,
+        alloc: Global,
+        path: &PathName,
+        bytes: &[u8],
+    ) -> Result<(), AllocError>
         ensures put { IfOk result (λ _. self.new ≡ record self.old { tree = with_node self.old.tree path.now (plain_file bytes.now) }) }
         ensures err { OnErr result (self.new ≡ self.old) }
     {

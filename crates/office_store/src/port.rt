@@ -1,11 +1,9 @@
 ghost use Rattle.std.specs.Prelude.{◌≡◌};
 
-use std::alloc::Global;
-
+use crate::store::Store;
 use disk_trait::Disk;
 use office_model::{Answer, Event, Port, Refusal};
-
-use crate::store::Store;
+use std::alloc::Global;
 
 /// A store as a port of one caller: each call is one event, and the calls that were made are those of
 /// a legal history.

@@ -2,16 +2,14 @@ ghost use Rattle.std.specs.Prelude.{◌≡◌, ⊤, Some, IsErr, OnOk};
 ghost use Rattle.fault_counts.specs.Counts.{Counted};
 ghost use Rattle.disk_trait.specs.Files.{rewritten};
 
-use std::alloc::Global;
-
-use attr_records::HostName;
-use disk_trait::{Bytes, Disk, DiskError, Failed, FileId};
-use office_model::{Answer, Event, Refusal, SessionName};
-use stream_traits::Moment;
-
 use crate::layout::first_head_file;
 use crate::live::{CommitFiles, LiveOffice};
 use crate::open::{OpenFault, OpenRefused};
+use attr_records::HostName;
+use disk_trait::{Bytes, Disk, DiskError, Failed, FileId};
+use office_model::{Answer, Event, Refusal, SessionName};
+use std::alloc::Global;
+use stream_traits::Moment;
 
 /// Writes a file and makes it durable.
 fn keep_file<D: Disk>(disk: &mut D, file: FileId, bytes: &[u8]) -> Result<(), Failed>
@@ -82,17 +80,32 @@ impl<D: Disk> Store<D> {
         let mut disk = disk;
         match disk.read(alloc, FileId::Head) {
             Ok(None) => {}
-            Ok(Some(found)) => return Err(OpenRefused { disk, fault: foreign_head(found) }),
-            Err(DiskError::Failed) => return Err(OpenRefused { disk, fault: OpenFault::Disk }),
-            Err(DiskError::Memory) => return Err(OpenRefused { disk, fault: OpenFault::Memory }),
+            Ok(Some(found)) => return Err(OpenRefused {
+                disk,
+                fault: foreign_head(found),
+            }),
+            Err(DiskError::Failed) => return Err(OpenRefused {
+                disk,
+                fault: OpenFault::Disk,
+            }),
+            Err(DiskError::Memory) => return Err(OpenRefused {
+                disk,
+                fault: OpenFault::Memory,
+            }),
         }
         let head = match first_head_file(alloc, 1) {
             Ok(head) => head,
-            Err(_) => return Err(OpenRefused { disk, fault: OpenFault::Memory }),
+            Err(_) => return Err(OpenRefused {
+                disk,
+                fault: OpenFault::Memory,
+            }),
         };
         match keep_file(&mut disk, FileId::Head, head.as_slice()) {
             Ok(()) => {}
-            Err(Failed) => return Err(OpenRefused { disk, fault: OpenFault::Disk }),
+            Err(Failed) => return Err(OpenRefused {
+                disk,
+                fault: OpenFault::Disk,
+            }),
         }
         Ok(Store {
             disk,
@@ -105,7 +118,11 @@ impl<D: Disk> Store<D> {
     pub fn close(self) -> D
         ensures { result ≡ self.disk }
     {
-        let Store { disk, office: _, halted: _ } = self;
+        let Store {
+            disk,
+            office: _,
+            halted: _,
+        } = self;
         disk
     }
 
@@ -147,7 +164,10 @@ impl<D: Disk> Store<D> {
         }
         match event {
             Event::AddHost { host } => self.add_host(alloc, host),
-            Event::OpenDump { host, kind: _, now } => match self.office.open_dump(alloc, host, *now) {
+            Event::OpenDump { host, kind: _, now } => match self
+                .office
+                .open_dump(alloc, host, *now)
+            {
                 Ok(session) => Ok(Answer::Dump(session)),
                 Err(_) => Err(Refusal::Memory),
             },
@@ -156,7 +176,10 @@ impl<D: Disk> Store<D> {
                 Err(_) => Err(Refusal::Memory),
             },
             Event::Commit { dump, now } => self.commit(alloc, *dump, *now),
-            Event::ReadFile { host, number, path } => match self.office.read_file(alloc, host, *number, path) {
+            Event::ReadFile { host, number, path } => match self
+                .office
+                .read_file(alloc, host, *number, path)
+            {
                 Ok(bytes) => Ok(Answer::Content(bytes)),
                 Err(_) => Err(Refusal::Memory),
             },

@@ -1,5 +1,5 @@
 ghost use Rattle.std.specs.Prelude.{◌≡◌, ◌<◌, ◌≤◌, false, length, vec_len, ℕ, List, Result, IfOk, IfErr, OnOk, OnErr, option_copied, slice_set, insert};
-ghost use Rattle.office_model.specs.Nodes.{Tree, is_dir};
+ghost use Rattle.attr_records.specs.Items.{is_dir};
 ghost use Rattle.attr_records.specs.Paths.{parent};
 ghost use Rattle.attr_records.specs.Trees.{node_at, with_node, is_dir_at, is_parent_in, broken_rule};
 ghost use Rattle.office_model.specs.Rules.{plain_file};
@@ -131,14 +131,8 @@ fn is_dir_at(tree: &[Row], path: &[u8]) -> bool
 {
     match node_at(tree, path) {
         None => false,
-        Some(item) => is_dir(item),
+        Some(item) => item.is_dir(),
     }
-}
-
-fn is_dir(item: &Item) -> bool
-    ensures { result ≡ is_dir item.now }
-{
-    matches!(item, Item::Dir { .. })
 }
 
 /// Whether a path lies in the root or in a directory of the tree.

@@ -1,5 +1,4 @@
-use Rattle.std.proofs.Common.{◌≡◌, Ok, Err, slice_set, insert}
-use Rattle.attr_records.specs.Trees.{with_node}
+use Rattle.std.proofs.Common.{◌≡◌, Ok, Err}
 use Rattle.office_model.specs.Rules.{plain_file}
 use Rattle.office_model.specs.PlainTrees.{place_from, put-replaces, put-inserts}
 use Rattle.office_model.proofs.plain.tree.put_file.Goals as goal

@@ -1,4 +1,3 @@
-use Rattle.std.proofs.Common.{◌≡◌}
 use Rattle.office_store.proofs.Lives.{sound_with_host}
 use Rattle.office_store.proofs.live.LiveOffice.add_host.Goals as goal
 

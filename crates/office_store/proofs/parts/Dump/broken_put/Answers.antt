@@ -1,4 +1,3 @@
-use Rattle.std.proofs.Common.{◌≡◌}
 use Rattle.office_model.specs.Nodes.{file_default}
 use Rattle.office_store.proofs.parts.Dump.broken_put.Goals as goal
 

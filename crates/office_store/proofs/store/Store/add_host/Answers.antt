@@ -1,4 +1,4 @@
-use Rattle.std.proofs.Common.{refl, ◌≡◌, ◌∙◌, ap}
+use Rattle.std.proofs.Common.{refl, ◌∙◌}
 use Rattle.office_store.proofs.Stores.{works_added}
 use Rattle.office_store.proofs.store.Store.add_host.Goals as goal
 

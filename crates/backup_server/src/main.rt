@@ -1,0 +1,101 @@
+//! The program: real files, streams and clock behind the traits that the layers below know.
+#![tactic(auto)]
+
+mod fault_count;
+mod folder_disk;
+mod standard_streams;
+mod system_clock;
+
+use crate::folder_disk::FolderDisk;
+use crate::standard_streams::StandardStreams;
+use crate::system_clock::SystemClock;
+use admin_cli::{Done, LineFault, Note, parse, run};
+use std::io::{ErrorKind, Stdin};
+use std::os::fd::AsFd;
+use std::process::{ChildStdin, ExitCode};
+use std::{env, io};
+
+/// The status where the words are no command line.
+const NO_PARSE: u8 = 2;
+
+/// The status where standard output can't be had.
+const NO_LINK: u8 = 3;
+
+/// The status where there was no memory.
+const NO_MEMORY: u8 = 6;
+
+/// The status where the store's folder can't be made or opened.
+const NO_FOLDER: u8 = 8;
+
+fn main(rt: HostRuntime) -> ExitCode {
+    let status = match read_words(&rt) {
+        Ok(words) => obey(&rt, words.as_slice()),
+        Err(fault) => refuse(&rt, fault),
+    };
+    ExitCode::from(status)
+}
+
+/// The words of the command line. One that isn't UTF-8 makes it a faulty one.
+fn read_words(rt: &HostRuntime) -> Result<Vec<String>, LineFault> {
+    match env::args(rt) {
+        Ok(words) => words.collect(rt.alloc()).map_err(|_| LineFault::Memory),
+        Err(error) => match error.kind() {
+            ErrorKind::OutOfMemory => Err(LineFault::Memory),
+            _ => Err(LineFault::NoParse),
+        },
+    }
+}
+
+/// Does what the words ask, and gives the status.
+fn obey(rt: &HostRuntime, words: &[String]) -> u8 {
+    let line = match parse(rt.alloc(), words) {
+        Ok(line) => line,
+        Err(fault) => return refuse(rt, fault),
+    };
+    match FolderDisk::open(*rt, line.store.as_str()) {
+        Ok(disk) => serve(rt, words, disk),
+        Err(error) => {
+            let folder = line.store.as_str();
+            let _ = eprintln!(rt; "the folder {folder} can't be made or opened: {error}");
+            NO_FOLDER
+        }
+    }
+}
+
+/// Does what the words ask, over the standard streams and the system's clock, and gives the status.
+/// What was given to the link goes out before it returns.
+fn serve(rt: &HostRuntime, words: &[String], disk: FolderDisk<HostRuntime>) -> u8 {
+    let Ok(mut link) = link_of(rt) else {
+        return end(rt, NO_LINK, Note::LinkFailed);
+    };
+    let mut clock = SystemClock::new(*rt);
+    let Done {
+        status,
+        note,
+        disk: _,
+    } = run(rt.alloc(), words, disk, &mut clock, &mut link);
+    end(rt, status, note)
+}
+
+/// Standard input and output. The output is used as a child's input is: where its reader has gone a
+/// write fails, and no signal ends the program.
+fn link_of(rt: &HostRuntime) -> io::Result<StandardStreams<Stdin, ChildStdin>> {
+    let output = rt.stdout().as_fd().try_clone_to_owned()?;
+    StandardStreams::new(rt.alloc(), rt.stdin(), ChildStdin::from(output))
+}
+
+/// Says why nothing was done, and gives the status.
+fn refuse(rt: &HostRuntime, fault: LineFault) -> u8 {
+    match fault {
+        LineFault::NoParse => end(rt, NO_PARSE, Note::Usage),
+        LineFault::Memory => end(rt, NO_MEMORY, Note::NoMemory),
+    }
+}
+
+/// Says the note on standard error, where there is one, and gives the status back.
+fn end(rt: &HostRuntime, status: u8, note: Note) -> u8 {
+    if note != Note::Nothing {
+        let _ = eprintln!(rt; "{note}");
+    }
+    status
+}

@@ -1,0 +1,5 @@
+pub mod Counts
+pub mod Edits
+pub mod Kinds
+pub mod Merging
+pub mod Removed

@@ -1,0 +1,10 @@
+-- What the merges make is in order, and what is at its paths.
+use Rattle.merge_view.specs.Views.{IsInOrder-view, IsInOrder-reverse, IsInOrder-stacked, IsInOrder-trimmed, node_at-reverse, view-reverse, view-stacked, trimmed-view, IsWhole-view}
+use Rattle.merge_view.specs.Tables.{IsInOrder-shown, IsWhole-nil, IsWhole-whole, stacked-none, stack-one, stack-append, whole-shown, whole-reverses}
+use Rattle.merge_view.specs.Runs.{IsInOrder-children, children-within}
+
+pub ruleset orders = (IsInOrder-view, IsInOrder-reverse, IsInOrder-stacked, IsInOrder-trimmed, node_at-reverse, view-reverse, view-stacked, trimmed-view, IsWhole-view)
+
+pub ruleset stacks = (IsInOrder-stacked, IsInOrder-shown, IsWhole-nil, IsWhole-whole, stacked-none, stack-one, stack-append, whole-shown, whole-reverses)
+
+pub ruleset listings = (IsInOrder-children, children-within)

@@ -1,0 +1,28 @@
+-- The names of rules and other refusals, as users read them.
+use Rattle.std.specs.Prelude.{ℕ, List, codes}
+use Rattle.office_model.specs.declared.event.Rule.{Rule}
+use Rattle.office_model.specs.declared.event.Rule.TheVariants.{HostExists, HostsFull, NoHost, SessionOpen, NumbersSpent, NoSession, NoParent, IsDirectory, TooManyEntries, FileTooLarge, NoBackup, NoPath, NotAFile}
+use Rattle.office_model.specs.declared.event.Refusal.{Refusal}
+use Rattle.office_model.specs.declared.event.Refusal.TheVariants.{Broken, Halted, DiskFault, Damaged, Memory}
+
+unfoldable pub rule_name : Rule → List ℕ
+rule_name HostExists = codes "HostExists"
+rule_name HostsFull = codes "HostsFull"
+rule_name NoHost = codes "NoHost"
+rule_name SessionOpen = codes "SessionOpen"
+rule_name NumbersSpent = codes "NumbersSpent"
+rule_name NoSession = codes "NoSession"
+rule_name NoParent = codes "NoParent"
+rule_name IsDirectory = codes "IsDirectory"
+rule_name TooManyEntries = codes "TooManyEntries"
+rule_name FileTooLarge = codes "FileTooLarge"
+rule_name NoBackup = codes "NoBackup"
+rule_name NoPath = codes "NoPath"
+rule_name NotAFile = codes "NotAFile"
+
+unfoldable pub refusal_name : Refusal → List ℕ
+refusal_name (Broken rule) = rule_name rule
+refusal_name Halted = codes "Halted"
+refusal_name DiskFault = codes "DiskFault"
+refusal_name (Damaged file found) = codes "Damaged"
+refusal_name Memory = codes "no memory"

@@ -1,0 +1,114 @@
+#!/bin/sh
+# Tries of bin/backup_server that the gate's one stored run doesn't make: how it ends, what it says on
+# standard error, and what it leaves. Run it from anywhere after `make build`.
+# The last line is 'N passed, M failed'; the status is 0 where none failed.
+
+program=$(cd "$(dirname "$0")/.." && pwd)/bin/backup_server
+room=$(mktemp -d)
+trap 'rm -rf "$room"' EXIT
+cd "$room" || exit 1
+passed=0
+failed=0
+
+# judge NAME STATUS STDERR: compares how the last try ended with what is wanted, its output with `want`.
+judge() {
+    if [ "$status" = "$2" ] && [ "$(cat err)" = "$3" ] && cmp -s out want; then
+        passed=$((passed + 1))
+    else
+        failed=$((failed + 1))
+        echo "FAILED: $1: status $status, standard error '$(cat err)', output:"
+        cat out
+    fi
+}
+
+# attempt WORD..: runs the program on these words, with the input `in`.
+attempt() {
+    "$program" "$@" <in >out 2>err
+    status=$?
+}
+
+# expect NAME: counts the result of the command before it.
+expect() {
+    if [ $? = 0 ]; then
+        passed=$((passed + 1))
+    else
+        failed=$((failed + 1))
+        echo "FAILED: $1"
+    fi
+}
+
+usage='usage: backup_server pipe --store DIR'
+: >in
+: >want
+
+attempt frob
+judge 'a word that is no command' 2 "$usage"
+attempt
+judge 'no words' 2 "$usage"
+attempt pipe --store made more
+judge 'a word too many' 2 "$usage"
+attempt pipe --store "made$(printf '\377')"
+judge 'a word that is not UTF-8' 2 "$usage"
+[ -z "$(ls -d made* 2>/dev/null)" ]
+expect 'words that are no command line make nothing'
+
+attempt pipe --store empty/a/b
+judge 'no input' 0 ''
+[ "$(ls empty/a/b)" = head ]
+expect 'a store without hosts has its head alone'
+
+find empty -type f -exec cksum {} + >before
+printf 'PUT /hosts/pc1 HTTP/1.1\r\nHost: b\r\n\r\n' >in
+attempt pipe --store empty/a/b
+judge 'a folder that has a head' 5 'foreign head'
+find empty -type f -exec cksum {} + >after
+cmp -s before after
+expect 'a folder that has a head stays as it was'
+
+: >plain
+attempt pipe --store plain/store
+judge 'a path below a file' 8 "the folder plain/store can't be made or opened: Not a directory (os error 20)"
+attempt pipe --store plain
+judge 'a path of a file' 8 "the folder plain can't be made or opened: File exists (os error 17)"
+attempt pipe --store ''
+judge 'an empty path' 8 "the folder  can't be made or opened: No such file or directory (os error 2)"
+
+{
+    printf 'PUT /hosts/pc1 HTTP/1.1\r\nHost: b\r\n\r\n'
+    printf 'POST /hosts/pc1/dumps?kind=full HTTP/1.1\r\nHost: b\r\n\r\n'
+    printf 'PUT /dumps/1-0/entry?path=a&kind=file HTTP/1.1\r\nHost: b\r\nContent-Length: 10\r\n\r\n1234567'
+} >in
+{
+    printf 'HTTP/1.1 201 Created\r\nContent-Type: application/json\r\nContent-Length: 14\r\n\r\n{"host":"pc1"}'
+    printf 'HTTP/1.1 201 Created\r\nContent-Type: application/json\r\nContent-Length: 14\r\n\r\n{"dump":"1-0"}'
+} >want
+attempt pipe --store cut
+judge 'a body cut after 7 of 10 bytes' 1 'input ended inside a request'
+
+printf 'GET /stats HTTP/1.1\r\nHost: b\r\n\r\n' >in
+printf 'HTTP/1.1 400 Bad Request\r\nContent-Type: application/json\r\nContent-Length: 22\r\nConnection: close\r\n\r\n{"refused":"NotBuilt"}' >want
+attempt pipe --store stats
+judge 'a request that is not built' 1 'request not understood'
+
+printf 'PUT /hosts/pc1 HTTP/1.1\r\nHost: b\r\n\r\n' >in
+: >want
+: >out
+"$program" pipe --store full <in >/dev/full 2>err
+status=$?
+judge 'standard output that takes nothing' 3 'link failed'
+
+{
+    sleep 1
+    "$program" pipe --store gone <in 2>err
+    echo $? >code
+} | true
+: >out
+status=$(cat code)
+judge 'an output whose reader has gone' 3 'link failed'
+
+mkdir -p away/head
+attempt pipe --store away
+judge 'a head that cannot be read' 4 'disk failed'
+
+echo "$passed passed, $failed failed"
+[ "$failed" = 0 ]
