@@ -13,19 +13,16 @@ use admin_cli::{Done, LineFault, Note, parse, run};
 use std::io::{ErrorKind, Stdin};
 use std::os::fd::AsFd;
 use std::process::{ChildStdin, ExitCode};
-use std::{env, io};
+use std::{env, fmt, io};
 
 /// The status where the words are no command line.
 const NO_PARSE: u8 = 2;
 
-/// The status where standard output can't be had.
-const NO_LINK: u8 = 3;
-
 /// The status where there was no memory.
 const NO_MEMORY: u8 = 6;
 
-/// The status where the store's folder can't be made or opened.
-const NO_FOLDER: u8 = 8;
+/// The status where the store's folder or the standard streams can't be had.
+const NOT_MADE: u8 = 8;
 
 fn main(rt: HostRuntime) -> ExitCode {
     let status = match read_words(&rt) {
@@ -56,8 +53,11 @@ fn obey(rt: &HostRuntime, words: &[String]) -> u8 {
         Ok(disk) => serve(rt, words, disk),
         Err(error) => {
             let folder = line.store.as_str();
-            let _ = eprintln!(rt; "the folder {folder} can't be made or opened: {error}");
-            NO_FOLDER
+            not_made(
+                rt,
+                error,
+                format_args!("the folder {folder} can't be made or opened"),
+            )
         }
     }
 }
@@ -65,8 +65,13 @@ fn obey(rt: &HostRuntime, words: &[String]) -> u8 {
 /// Does what the words ask, over the standard streams and the system's clock, and gives the status.
 /// What was given to the link goes out before it returns.
 fn serve(rt: &HostRuntime, words: &[String], disk: FolderDisk<HostRuntime>) -> u8 {
-    let Ok(mut link) = link_of(rt) else {
-        return end(rt, NO_LINK, Note::LinkFailed);
+    let mut link = match link_of(rt) {
+        Ok(link) => link,
+        Err(error) => return not_made(
+            rt,
+            error,
+            format_args!("the standard streams can't be used"),
+        ),
     };
     let mut clock = SystemClock::new(*rt);
     let Done {
@@ -82,6 +87,15 @@ fn serve(rt: &HostRuntime, words: &[String], disk: FolderDisk<HostRuntime>) -> u
 fn link_of(rt: &HostRuntime) -> io::Result<StandardStreams<Stdin, ChildStdin>> {
     let output = rt.stdout().as_fd().try_clone_to_owned()?;
     StandardStreams::new(rt.alloc(), rt.stdin(), ChildStdin::from(output))
+}
+
+/// Says why what the program works with can't be had, and gives the status.
+fn not_made(rt: &HostRuntime, error: io::Error, what: impl fmt::Display + Drop) -> u8 {
+    if error.kind() == ErrorKind::OutOfMemory {
+        return end(rt, NO_MEMORY, Note::NoMemory);
+    }
+    let _ = eprintln!(rt; "{what}: {error}");
+    NOT_MADE
 }
 
 /// Says why nothing was done, and gives the status.
