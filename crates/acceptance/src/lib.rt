@@ -1,0 +1,24 @@
+//! What the whole server does, shown by examples: tests that cross crates, and nothing else.
+//!
+//! Most run the command `pipe` from its words to its status, over a disk and a link in memory, and
+//! compare what comes out with what was written down by hand: the responses, the store's files, the
+//! status and what is said on standard error. So they show what no clause of the crates below says:
+//! that calls succeed where there is memory, how things are printed, and that the definitions mean
+//! the bytes that users see. Others put the same events to the store and to the plain office, and take
+//! runs and stores into threads.
+#![tactic(auto)]
+
+#[cfg(test)]
+mod ends;
+#[cfg(test)]
+mod faults;
+#[cfg(test)]
+mod files;
+#[cfg(test)]
+mod offices;
+#[cfg(test)]
+mod refusals;
+#[cfg(test)]
+mod threads;
+#[cfg(test)]
+mod values;

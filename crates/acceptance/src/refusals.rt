@@ -1,0 +1,160 @@
+//! Requests, words and disks that are refused.
+
+use crate::ends::{Case, QUIET, Want, disk_of, expect_file, expect_run, expect_run_over, words_of};
+use admin_cli::{LineFault, parse};
+use disk_trait::{Bytes, FileId};
+use std::alloc::Global;
+use std::test::Fail;
+
+const ADD: &str = "PUT /hosts/pc1 HTTP/1.1\r\nHost: b\r\n\r\n";
+
+const ADDED: &str =
+    "HTTP/1.1 201 Created\r\nContent-Type: application/json\r\nContent-Length: 14\r\n\r\n{\"host\":\"pc1\"}";
+
+/// The response to what is not built, after which the connection closes.
+const NOT_BUILT: &str =
+    "HTTP/1.1 400 Bad Request\r\nContent-Type: application/json\r\nContent-Length: 22\r\nConnection: close\r\n\r\n{\"refused\":\"NotBuilt\"}";
+
+/// Heads of another form. The last one's name has 65 characters.
+const OTHER_HEADS: [&str; 8] = [
+    "GET /stats HTTP/1.1\r\nHost: b\r\n\r\n",
+    "PUT /hosts/pc1 HTTP/1.0\r\nHost: b\r\n\r\n",
+    "PUT /hosts/pc1 HTTP/1.1\r\nHost: b\r\nAccept: */*\r\n\r\n",
+    "PUT /hosts/pc1 HTTP/1.1\nHost: b\n\r\n\r\n",
+    "PUT /hosts/pc1 HTTP/1.1\r\nHost: b\r\nContent-Length: 05\r\n\r\n12345",
+    "PUT /dumps/1-0/entry?path=a.txt&kind=file HTTP/1.1\r\nHost: b\r\n\r\n",
+    "PUT /hosts/PC1 HTTP/1.1\r\nHost: b\r\n\r\n",
+    "PUT /hosts/0123456789012345678901234567890123456789012345678901234567890123x HTTP/1.1\r\nHost: b\r\n\r\n",
+];
+
+/// Fails where a run on this input doesn't end so.
+fn expect_on(
+    alloc: Global,
+    input: &[&str],
+    status: u8,
+    said: &str,
+    output: &[&str],
+) -> Result<(), Fail> {
+    let want = Want {
+        status,
+        said,
+        output,
+    };
+    let _ = expect_run(alloc, &Case { input, ..QUIET }, &want)?;
+    Ok(())
+}
+
+#[test]
+fn what_is_not_built_is_said_so(rt: HostRuntime) -> Result<(), Fail> {
+    for head in OTHER_HEADS {
+        expect_on(
+            rt.alloc(),
+            &[head],
+            1,
+            "request not understood",
+            &[NOT_BUILT],
+        )?;
+    }
+    Ok(())
+}
+
+#[test]
+fn a_head_has_fewer_than_16384_bytes(rt: HostRuntime) -> Result<(), Fail> {
+    let text = String::from_utf8(vec![in rt.alloc(); b'x'; 16_383]?)?;
+    let short = text.as_str();
+    expect_on(rt.alloc(), &[short], 1, "input ended inside a request", &[])?;
+    expect_on(
+        rt.alloc(),
+        &[short, "x"],
+        1,
+        "request not understood",
+        &[NOT_BUILT],
+    )
+}
+
+#[test]
+fn a_host_added_twice_closes_the_connection(rt: HostRuntime) -> Result<(), Fail> {
+    expect_on(
+        rt.alloc(),
+        &[ADD, ADD, ADD],
+        1,
+        "request not understood",
+        &[ADDED, NOT_BUILT],
+    )
+}
+
+/// Requests for what isn't there. The first one's name has 64 characters.
+const ABSENT: &str =
+    "GET /hosts/0123456789012345678901234567890123456789012345678901234567890123/backups/0/file?path=a.txt HTTP/1.1\r\nHost: b\r\n\r\n\
+    POST /dumps/9-9/commit HTTP/1.1\r\nHost: b\r\n\r\n";
+
+const NOT_FOUND: &str =
+    "HTTP/1.1 404 Not Found\r\nContent-Type: application/json\r\nContent-Length: 20\r\n\r\n{\"refused\":\"NoHost\"}\
+    HTTP/1.1 404 Not Found\r\nContent-Type: application/json\r\nContent-Length: 23\r\n\r\n{\"refused\":\"NoSession\"}";
+
+#[test]
+fn what_is_absent_keeps_the_connection(rt: HostRuntime) -> Result<(), Fail> {
+    expect_on(rt.alloc(), &[ABSENT, ADD], 0, "", &[NOT_FOUND, ADDED])
+}
+
+/// Fails where words are taken, or the run on them does anything.
+fn expect_usage(alloc: Global, line: &str) -> Result<(), Fail> {
+    let words = words_of(alloc, line)?;
+    if !matches!(parse(alloc, words.as_slice()), Err(LineFault::NoParse)) {
+        return Err(Fail::new("words were parsed"));
+    }
+    let case = Case {
+        line,
+        input: &[ADD],
+        ..QUIET
+    };
+    let want = Want {
+        status: 2,
+        said: "usage: backup_server pipe --store DIR",
+        output: &[],
+    };
+    let mut disk = expect_run(alloc, &case, &want)?;
+    expect_file(alloc, &mut disk, FileId::Head, None)
+}
+
+#[test]
+fn faulty_words_are_refused(rt: HostRuntime) -> Result<(), Fail> {
+    for line in [
+        "backup_server frob",
+        "backup_server",
+        "backup_server pipe --store",
+        "backup_server pipe --store a b",
+        "backup_server pipe store --store",
+    ] {
+        expect_usage(rt.alloc(), line)?;
+    }
+    Ok(())
+}
+
+#[test]
+fn words_name_the_folder(rt: HostRuntime) -> Result<(), Fail> {
+    let words = words_of(rt.alloc(), QUIET.line)?;
+    let line = parse(rt.alloc(), words.as_slice())?;
+    if line.store.as_str() == "store" {
+        return Ok(());
+    }
+    Err(Fail::new("another folder"))
+}
+
+#[test]
+fn a_head_on_the_disk_is_foreign(rt: HostRuntime) -> Result<(), Fail> {
+    let alloc = rt.alloc();
+    let found = Bytes::from_slice(alloc, b"abc")?;
+    let disk = disk_of(alloc, &QUIET)?.with_file(FileId::Head, found)?;
+    let case = Case {
+        input: &[ADD],
+        ..QUIET
+    };
+    let want = Want {
+        status: 5,
+        said: "foreign head",
+        output: &[],
+    };
+    let mut disk = expect_run_over(alloc, &case, disk, &want)?;
+    expect_file(alloc, &mut disk, FileId::Head, Some(b"abc"))
+}

@@ -1,0 +1,93 @@
+//! Runs and stores in threads.
+
+use crate::ends::{Case, QUIET, Want, disk_of, expect_end, link_of, new_clock, words_of};
+use crate::files::{COMMIT, COMMITTED, CONTENT, READ};
+use admin_cli::{Done, run};
+use attr_records::HostName;
+use disk_trait::{Disk, MemoryDisk};
+use office_model::{Answer, Event, Refusal};
+use office_store::Store;
+use std::alloc::Global;
+use std::test::Fail;
+use std::thread::{Threads, join};
+use stream_traits::{Clock, Link};
+
+/// Takes a disk, a clock and a link into a thread, where the program runs over them, and gives back
+/// how it ended, and the link.
+fn run_apart<D: Disk + Send + Drop, C: Clock + Drop, L: Link + Drop>(
+    rt: &impl Threads,
+    alloc: Global,
+    words: Vec<String>,
+    disk: D,
+    mut clock: C,
+    mut link: L,
+) -> (Done<D>, L) {
+    let work = move || {
+        let done = run(alloc, words.as_slice(), disk, &mut clock, &mut link);
+        (done, link)
+    };
+    let (seen, ()) = join(rt, work, || ());
+    seen
+}
+
+/// Takes a store into a thread, where it carries out an event, and gives it back.
+fn apply_apart<D: Disk + Send + Drop>(
+    rt: &impl Threads,
+    alloc: Global,
+    mut store: Store<D>,
+    event: Event,
+) -> (Result<Answer, Refusal>, Store<D>) {
+    let work = move || {
+        let reply = store.apply(alloc, &event);
+        (reply, store)
+    };
+    let (seen, ()) = join(rt, work, || ());
+    seen
+}
+
+/// Fails where a run in a thread doesn't end as it was to.
+fn expect_apart(
+    rt: &impl Threads,
+    alloc: Global,
+    case: &Case<'_>,
+    want: &Want<'_>,
+) -> Result<(), Fail> {
+    let words = words_of(alloc, case.line)?;
+    let disk = disk_of(alloc, case)?;
+    let link = link_of(alloc, case)?;
+    let (done, link) = run_apart(rt, alloc, words, disk, new_clock(), link);
+    expect_end(alloc, &done, &link, want)
+}
+
+#[test]
+fn a_run_serves_within_a_thread(rt: HostRuntime) -> Result<(), Fail> {
+    let case = Case {
+        input: &[COMMIT, READ],
+        ..QUIET
+    };
+    let want = Want {
+        status: 0,
+        said: "",
+        output: &[COMMITTED, CONTENT],
+    };
+    expect_apart(&rt, rt.alloc(), &case, &want)
+}
+
+/// Adds a host to a store, in a thread.
+fn expect_added_apart(rt: &impl Threads, alloc: Global, disk: MemoryDisk) -> Result<(), Fail> {
+    let Ok(store) = Store::open(alloc, disk) else {
+        return Err(Fail::new("no store"));
+    };
+    let host = HostName::read(alloc, b"pc1")?;
+    let (reply, store) = apply_apart(rt, alloc, store, Event::AddHost { host });
+    if matches!(reply, Ok(Answer::Done)) && !store.halted() {
+        return Ok(());
+    }
+    Err(Fail::new("no host was added"))
+}
+
+#[test]
+fn a_store_serves_within_a_thread(rt: HostRuntime) -> Result<(), Fail> {
+    let disk = disk_of(rt.alloc(), &QUIET)?;
+    expect_added_apart(&rt, rt.alloc(), disk)
+}
