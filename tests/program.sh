@@ -97,15 +97,6 @@ printf 'PUT /hosts/pc1 HTTP/1.1\r\nHost: b\r\n\r\n' >in
 status=$?
 judge 'standard output that takes nothing' 3 'link failed'
 
-{
-    sleep 1
-    "$program" pipe --store gone <in 2>err
-    echo $? >code
-} | true
-: >out
-status=$(cat code)
-judge 'an output whose reader has gone' 3 'link failed'
-
 mkdir -p away/head
 attempt pipe --store away
 judge 'a head that cannot be read' 4 'disk failed'

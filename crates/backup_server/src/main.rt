@@ -10,9 +10,8 @@ use crate::folder_disk::FolderDisk;
 use crate::standard_streams::StandardStreams;
 use crate::system_clock::SystemClock;
 use admin_cli::{Done, LineFault, Note, parse, run};
-use std::io::{ErrorKind, Stdin};
-use std::os::fd::AsFd;
-use std::process::{ChildStdin, ExitCode};
+use std::io::{ErrorKind, Stdin, Stdout};
+use std::process::ExitCode;
 use std::{env, fmt, io};
 
 /// The status where the words are no command line.
@@ -82,11 +81,9 @@ fn serve(rt: &HostRuntime, words: &[String], disk: FolderDisk<HostRuntime>) -> u
     end(rt, status, note)
 }
 
-/// Standard input and output. The output is used as a child's input is: where its reader has gone a
-/// write fails, and no signal ends the program.
-fn link_of(rt: &HostRuntime) -> io::Result<StandardStreams<Stdin, ChildStdin>> {
-    let output = rt.stdout().as_fd().try_clone_to_owned()?;
-    StandardStreams::new(rt.alloc(), rt.stdin(), ChildStdin::from(output))
+/// Standard input and output.
+fn link_of(rt: &HostRuntime) -> io::Result<StandardStreams<Stdin, Stdout>> {
+    StandardStreams::new(rt.alloc(), rt.stdin(), rt.stdout())
 }
 
 /// Says why what the program works with can't be had, and gives the status.
