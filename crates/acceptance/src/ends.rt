@@ -7,7 +7,7 @@ use std::test::Fail;
 use stream_traits::{FixedClock, MemoryLink, Moment};
 
 /// What a run is made of.
-#[derive(Clone, Copy, Debug)]
+#[derive(Clone, Copy)]
 pub struct Case<'a> {
     /// The words of the command line, with one space between two.
     pub line: &'a str,
@@ -35,7 +35,7 @@ pub const QUIET: Case<'static> = Case {
 };
 
 /// How a run ended: its status, what it says on standard error, and its output, in pieces.
-#[derive(Clone, Copy, Debug)]
+#[derive(Clone, Copy)]
 pub struct Want<'a> {
     pub status: u8,
     pub said: &'a str,

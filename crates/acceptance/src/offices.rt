@@ -23,7 +23,7 @@ enum Ask<'a> {
 }
 
 /// A reply: a dump of epoch 1 by its sequence, a backup by its number, a file by its text.
-#[derive(Clone, Copy, Debug)]
+#[derive(Clone, Copy)]
 enum Want {
     Done,
     Dump(u64),

@@ -59,7 +59,7 @@ fn what_is_not_built_is_said_so(rt: HostRuntime) -> Result<(), Fail> {
 }
 
 #[test]
-fn a_head_has_fewer_than_16384_bytes(rt: HostRuntime) -> Result<(), Fail> {
+fn too_long_a_head_is_not_built(rt: HostRuntime) -> Result<(), Fail> {
     let text = String::from_utf8(vec![in rt.alloc(); b'x'; 16_383]?)?;
     let short = text.as_str();
     expect_on(rt.alloc(), &[short], 1, "input ended inside a request", &[])?;
