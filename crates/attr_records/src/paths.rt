@@ -1,4 +1,4 @@
-ghost use Rattle.std.specs.Prelude.{◌≡◌, ◌≢◌, ◌+◌, ◌==◌, ◌≤◌, if◌then◌else◌, List, [], ◌∷◌, ℕ, length, IfOk, IfErr, MatchResult, Some, None};
+ghost use Rattle.std.specs.Prelude.{◌≡◌, ◌≢◌, ◌+◌, ◌==◌, ◌≤◌, if◌then◌else◌, List, [], ◌∷◌, ℕ, length, take, drop, true, IfOk, IfErr, MatchResult, Some, None};
 ghost use Rattle.std.specs.Prelude.{refl};
 ghost use Rattle.std.specs.Option.{option_copied};
 ghost use Rattle.std.specs.Ordering.{eq_by_cmp, as_partial_cmp};
@@ -155,8 +155,36 @@ fn rank(byte: u8) -> u16
     if byte == b'/' { 0 } else { u16::from(byte) + 1 }
 }
 
-/// Which of two paths comes first: component by component, each by its bytes.
-pub fn compare(a: &[u8], b: &[u8]) -> Ordering
+/// Whether both have eight bytes at the front, and the same.
+fn begin_alike(a: &[u8], b: &[u8]) -> bool
+    ensures alike { result ≡ true → take 8 a.now ≡ take 8 b.now }
+    ensures long_a { result ≡ true → 8 ≤ length a.now }
+    ensures long_b { result ≡ true → 8 ≤ length b.now }
+{
+    match a.first_chunk::<8>() {
+        None => false,
+        Some(first) => match b.first_chunk::<8>() {
+            None => false,
+            Some(other) => *first == *other,
+        },
+    }
+}
+
+/// A place up to which both paths have the same bytes, found eight bytes at a time.
+fn shared_front(a: &[u8], b: &[u8]) -> usize
+    ensures within_a { result ≤ length a.now }
+    ensures within_b { result ≤ length b.now }
+    ensures same { path_cmp (drop result a.now) (drop result b.now) ≡ path_cmp a.now b.now }
+{
+    let mut front = 0;
+    while begin_alike(&a[front..], &b[front..]) {
+        front += 8;
+    }
+    front
+}
+
+/// Which of two paths comes first, byte by byte.
+fn compare_bytes(a: &[u8], b: &[u8]) -> Ordering
     ensures { result ≡ path_cmp a.now b.now }
 {
     for (i, byte) in a.iter().enumerate() {
@@ -172,6 +200,14 @@ pub fn compare(a: &[u8], b: &[u8]) -> Ordering
     } else {
         Ordering::Equal
     }
+}
+
+/// Which of two paths comes first: component by component, each by its bytes.
+pub fn compare(a: &[u8], b: &[u8]) -> Ordering
+    ensures { result ≡ path_cmp a.now b.now }
+{
+    let front = shared_front(a, b);
+    compare_bytes(&a[front..], &b[front..])
 }
 
 /// The same order, said of the components: the first that differ decide, each by its bytes.

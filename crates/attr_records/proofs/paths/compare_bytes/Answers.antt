@@ -3,7 +3,7 @@ use Rattle.std.proofs.Common.{◌≡◌, ℕ, ◌<◌, ◌≤◌, length, drop, 
 use Rattle.std.specs.declared.cmp.Ordering.TheVariants.{Less, Greater}
 use Rattle.std.proofs.lemmas.List.{drop_all, drop_more}
 use Rattle.attr_records.specs.Paths.{path_cmp}
-use Rattle.attr_records.proofs.paths.compare.Goals as goal
+use Rattle.attr_records.proofs.paths.compare_bytes.Goals as goal
 
 left_goes_on : (a b : List ℕ) (i : ℕ) → i < length a → length b ≤ i → Greater ≡ path_cmp (drop i a) (drop i b)
 left_goes_on a b i more end = rw (drop_all i b end, drop_more a i 0 more) refl
