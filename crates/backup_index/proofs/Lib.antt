@@ -1,0 +1,7 @@
+mod FieldLaws
+mod HeadLaws
+mod IndexLaws
+mod ItemWrites
+mod LineLaws
+mod NameLaws
+mod PartSteps

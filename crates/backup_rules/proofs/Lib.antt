@@ -1,0 +1,4 @@
+mod Changing
+mod Dividing
+mod ListSteps
+mod NumberSteps

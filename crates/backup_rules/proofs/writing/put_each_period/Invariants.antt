@@ -1,0 +1,7 @@
+use Rattle.std.proofs.Common.{◌≡◌, ◌++◌, take}
+use Rattle.backup_rules.specs.Breaks.{items_bytes}
+use Rattle.backup_rules.specs.Layout.{period_bytes}
+use Rattle.backup_rules.proofs.writing.put_each_period.Given as goal
+
+abbrev pub invariant-loop-period : goal.invariant-loop-period
+invariant-loop-period l = l.out.items ≡ l.initial.out.items ++ items_bytes period_bytes (take l.period-index l.periods)

@@ -1,0 +1,13 @@
+pub mod Breaks
+pub mod Values
+pub mod Ranges
+pub mod Changes
+pub mod Fill
+pub mod Groups
+pub mod Layout
+pub mod Named
+pub mod Names
+pub mod Places
+pub mod Steps
+pub mod Items
+pub mod Laws

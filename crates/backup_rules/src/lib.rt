@@ -1,0 +1,26 @@
+//! The rules of a host: its settings, as BackupPC 4's documentation names them, with their ranges, their defaults and
+//! changes of them; a backup's line; the rule that tells which backup stays filled; and the layouts of rules and lines.
+#![tactic(auto)]
+
+mod change;
+mod counts;
+mod faults;
+mod groups;
+mod lines;
+mod periods;
+mod reading;
+mod rules;
+mod settings;
+#[cfg(test)]
+mod tests;
+mod writing;
+
+pub use change::RuleChange;
+pub use counts::KeepCounts;
+pub use faults::{OutOfRange, RulesFault};
+pub use lines::{Kind, Line, fill_rule};
+pub use periods::{Period, Periods, PeriodsFault};
+pub use reading::{read_line, read_rules};
+pub use rules::Rules;
+pub use settings::Setting;
+pub use writing::{put_line, put_rules};
