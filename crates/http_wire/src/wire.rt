@@ -1,0 +1,190 @@
+ghost use Rattle.std.specs.Prelude.{◌≡◌, [], ◌++◌, ◌-◌, ◌+◌, ◌<◌, ◌≤◌, length, take, drop, vec_len, IfOk, OnOk, OnErr, IsErr, IsErrOf};
+ghost use Rattle.fault_counts.specs.Counts.{Counted};
+ghost use Rattle.stream_traits.specs.Told.{IsEnd};
+ghost use Rattle.http_heads.specs.Fronts.{head_limit};
+
+use std::alloc::{AllocError, Global};
+use std::error::Error;
+use std::fmt;
+use stream_traits::{Failed, Faults, Link, Sink, Source};
+
+/// Why a response was not written.
+#[derive(Clone, Copy, Debug, PartialEq, Eq)]
+pub enum WireFault {
+    /// The link failed; its count of faults rose.
+    LinkFault,
+    Memory,
+}
+
+impl fmt::Display for WireFault {
+    fn fmt<W: fmt::Write>(&self, f: &mut fmt::Formatter<W>) -> fmt::Result {
+        match self {
+            WireFault::LinkFault => write!(f, "the link failed"),
+            WireFault::Memory => write!(f, "no memory"),
+        }
+    }
+}
+
+impl Error for WireFault {}
+
+/// The most bytes of a head.
+pub(crate) const HEAD_LIMIT: usize = 16_384;
+
+/// The room for what is read ahead: three heads of the most bytes.
+const ROOM: usize = 49_152;
+
+/// The most bytes of a body that are read in one call, and for which there is memory before they come.
+pub(crate) const PIECE: usize = 65_536;
+
+/// A link, and the bytes that were read from it and not taken yet.
+#[derive(Drop)]
+pub struct Wire<L: Link> {
+    pub(crate) link: L,
+    room: Vec<u8>,
+    from: usize,
+    to: usize,
+    ghost in_order: { from ≤ to },
+    ghost in_room: { to ≤ vec_len room },
+    ghost room_is: { 0 < vec_len room → vec_len room ≡ 49152 },
+}
+
+impl<L: Link> Wire<L> {
+    ghost use Rattle.http_wire.specs.Wires.{ahead_of, link_left, left_of, written_of, faults_of, ReadsAhead};
+
+    /// A wire over a link, of which nothing is read ahead. It takes no memory.
+    pub fn new(alloc: Global, link: L) -> Wire<L>
+        ensures left { left_of result ≡ L.left link }
+        ensures written { written_of result ≡ L.written link }
+        ensures faults { faults_of result ≡ L.faults link }
+    {
+        Wire {
+            link,
+            room: Vec::new(alloc),
+            from: 0,
+            to: 0,
+        }
+    }
+
+    /// Gives the link back. What was read ahead is dropped.
+    pub fn into_link(self) -> L
+        ensures left { link_left self ≡ L.left result }
+        ensures written { L.written result ≡ written_of self }
+        ensures faults { L.faults result ≡ faults_of self }
+    {
+        self.link
+    }
+
+    /// How many calls of the link failed. The count never falls, and stands still at the largest number.
+    pub fn faults(&self) -> u64
+        ensures { result ≡ faults_of self.now }
+    {
+        self.link.faults()
+    }
+
+    /// The bytes that were read and not taken.
+    pub(crate) fn ahead(&self) -> &[u8]
+        ensures { result.now ≡ ahead_of self.now }
+    {
+        &self.room[self.from..self.to]
+    }
+
+    /// Takes the first bytes of those that were read ahead.
+    pub(crate) fn take(&mut self, count: usize)
+        requires { count ≤ length (ahead_of self.old) }
+        ensures ahead { ahead_of self.new ≡ drop count (ahead_of self.old) }
+        ensures link { self.new.link ≡ self.old.link }
+    {
+        self.from += count;
+    }
+
+    /// Takes at most so many of the bytes that were read ahead, in memory of their own with room for a piece more.
+    pub(crate) fn take_copy(&mut self, alloc: Global, most: usize) -> Result<Vec<u8>, AllocError>
+        ensures took { IfOk result (λ copy. ahead_of self.old ≡ copy.items ++ ahead_of self.new) }
+        ensures fits { IfOk result (λ copy. length copy.items ≤ most) }
+        ensures none { IfOk result (λ copy. length copy.items < most → ahead_of self.new ≡ []) }
+        ensures err { OnErr result (ahead_of self.new ≡ ahead_of self.old) }
+        ensures link { self.new.link ≡ self.old.link }
+    {
+        let count = most.min(self.to - self.from);
+        let mut copy = Vec::with_capacity(alloc, most.min(count + PIECE))?;
+        copy.extend_from_slice(&self.ahead()[..count])?;
+        self.take(count);
+        Ok(copy)
+    }
+
+    /// Reads a piece behind what was read ahead, and says how many bytes came: none at the end of the link.
+    pub(crate) fn fill(&mut self, alloc: Global) -> Result<usize, WireFault>
+        requires { length (ahead_of self.old) < head_limit }
+        ensures came { IfOk result (ReadsAhead (ahead_of self.old) (ahead_of self.new) (link_left self.old) (link_left self.new)) }
+        ensures end { IfOk result (λ count. count ≡ 0 → IsEnd (link_left self.old)) }
+        ensures err { OnErr result ((ahead_of self.new ≡ ahead_of self.old) × (link_left self.new ≡ link_left self.old)) }
+        ensures written { written_of self.new ≡ written_of self.old }
+        ensures counted { Counted (faults_of self.old) (faults_of self.new) (IsErrOf result WireFault.LinkFault) }
+    {
+        if self.make_room(alloc).is_err() {
+            return Err(WireFault::Memory);
+        }
+        match self.read_piece() {
+            Ok(count) => Ok(count),
+            Err(Failed) => Err(WireFault::LinkFault),
+        }
+    }
+
+    /// Reads bytes into the room behind what was read ahead, and says how many.
+    fn read_piece(&mut self) -> Result<usize, Failed>
+        requires { self.old.to < vec_len self.old.room }
+        ensures came { IfOk result (ReadsAhead (ahead_of self.old) (ahead_of self.new) (link_left self.old) (link_left self.new)) }
+        ensures end { IfOk result (λ count. count ≡ 0 → IsEnd (link_left self.old)) }
+        ensures err { OnErr result ((ahead_of self.new ≡ ahead_of self.old) × (link_left self.new ≡ link_left self.old)) }
+        ensures written { written_of self.new ≡ written_of self.old }
+        ensures counted { Counted (faults_of self.old) (faults_of self.new) (IsErr result) }
+    {
+        match self.link.read(&mut self.room[self.to..]) {
+            Ok(count) => {
+                self.to += count;
+                Ok(count)
+            }
+            Err(Failed) => Err(Failed),
+        }
+    }
+
+    /// Makes room for at least a head of the most bytes behind what was read ahead.
+    fn make_room(&mut self, alloc: Global) -> Result<(), AllocError>
+        requires { length (ahead_of self.old) < head_limit }
+        ensures room { OnOk result (self.new.to + head_limit ≤ vec_len self.new.room) }
+        ensures ahead { ahead_of self.new ≡ ahead_of self.old }
+        ensures link { self.new.link ≡ self.old.link }
+    {
+        if self.room.is_empty() {
+            self.room = zeros(alloc, ROOM)?;
+            return Ok(());
+        }
+        if self.room.len() - self.to < HEAD_LIMIT {
+            move_to_front(self.room.as_mut_slice(), self.from, self.to);
+            self.to -= self.from;
+            self.from = 0;
+        }
+        Ok(())
+    }
+}
+
+/// So many zeros.
+fn zeros(alloc: Global, count: usize) -> Result<Vec<u8>, AllocError>
+    ensures { IfOk result (λ made. vec_len made ≡ count) }
+{
+    let made = vec![in alloc; 0u8; count]?;
+    Ok(made)
+}
+
+/// Moves the bytes between two places to the front, where there is room for them before they begin.
+fn move_to_front(room: &mut [u8], from: usize, to: usize)
+    requires order { from ≤ to }
+    requires within { to ≤ length room.old }
+    requires apart { to - from ≤ from }
+    ensures front { take (to - from) room.new ≡ take (to - from) (drop from room.old) }
+    ensures len { length room.new ≡ length room.old }
+{
+    let count = to - from;
+    let (front, back) = room.split_at_mut(from);
+    front[..count].copy_from_slice(&back[..count]);
+}
