@@ -1,0 +1,28 @@
+#!/bin/sh
+# Measures the crates of trees by the program bench_trees, at 1,000 and at 10,000 folders of a hundred rows, and
+# prints the growth of each time from the one to the other. bench/README.md says what the lines are.
+# Needs rt, awk and uptime. The first run proves the program's crates and builds it.
+set -eu
+
+top=$(cd "$(dirname "$0")/.." && pwd)
+lines=$(mktemp -d)
+trap 'rm -rf "$lines"' EXIT
+
+cd "$top/crates/bench_trees"
+rt run > "$lines/build" 2>&1 || { cat "$lines/build"; exit 1; }
+
+measure() {
+    uptime
+    "$top/crates/bench_trees/out/bench_trees" "$1" "$2" time | tee "$lines/$1"
+    echo
+}
+
+measure 1000 10000
+measure 10000 100000
+
+echo "growth from 1,000 to 10,000 folders, and from 10,000 to 100,000 puts:"
+awk '
+    { label = $0; sub(/:.*/, "", label); micros = $0; sub(/.*; /, "", micros); micros += 0 }
+    FNR == NR { small[FNR] = micros; next }
+    small[FNR] > 0 { printf "%s: %.1f\n", label, micros / small[FNR] }
+' "$lines/1000" "$lines/10000"
