@@ -1,6 +1,8 @@
 ghost use Rattle.std.specs.Prelude.{◌≡◌, false, IfOk};
-ghost use Rattle.attr_tables.specs.Records.{IsSound};
-ghost use Rattle.merge_view.specs.Views.{is_mark};
+ghost use Rattle.std.specs.Arc.{arc_value};
+ghost use Rattle.attr_records.specs.Trees.{IsTree};
+ghost use Rattle.attr_tables.specs.Records.{IsSound, is_dir};
+ghost use Rattle.merge_view.specs.Views.{is_mark, IsWhole};
 
 use crate::{NodeKind, PutFault, RemoveFault, Session};
 use attr_records::{Attr, LinkTarget, PathName, PutRule};
@@ -10,6 +12,86 @@ use merge_view::{children, reverse};
 use std::alloc::Global;
 use std::sync::Arc;
 use std::test::Fail;
+
+// What a call answers.
+#[derive(Clone, Copy, PartialEq, Eq)]
+enum Answer {
+    Done,
+    Broken(PutRule),
+    NoPath,
+    Memory,
+}
+
+// A call on an open dump at a path: `r` removes it, and any other byte puts the node of that byte. Then its
+// answer, and how many paths the tree has after it.
+struct Step(&'static [u8], u8, Answer, usize);
+
+// A path and the byte of what is there, `x` for a deletion mark.
+type Shown = (&'static [u8], u8);
+
+const D_AND_K: [Step; 5] = [
+    Step(b"d", b'd', Answer::Done, 1),
+    Step(b"k", b'4', Answer::Done, 2),
+    Step(b"d/x", b'1', Answer::Done, 3),
+    Step(b"d/z", b'3', Answer::Done, 4),
+    Step(b"d/y", b'2', Answer::Done, 5),
+];
+
+const D_GOES: [Step; 2] = [
+    Step(b"d", b'r', Answer::Done, 1),
+    Step(b"d/x", b'r', Answer::NoPath, 1),
+];
+
+const D_COMES: [Step; 1] = [Step(b"d", b'd', Answer::Done, 2)];
+
+const P_OF_THREE_KINDS: [Step; 6] = [
+    Step(b"p", b'1', Answer::Done, 1),
+    Step(b"p/q", b'1', Answer::Broken(PutRule::NoParent), 1),
+    Step(b"p", b'd', Answer::Done, 1),
+    Step(b"p", b'l', Answer::Broken(PutRule::IsDirectory), 1),
+    Step(b"p", b'd', Answer::Done, 1),
+    Step(b"p/q", b'2', Answer::Done, 2),
+];
+
+const P_GOES_AND_COMES: [Step; 4] = [
+    Step(b"p/r", b'3', Answer::Done, 3),
+    Step(b"p", b'r', Answer::Done, 0),
+    Step(b"p/q", b'2', Answer::Broken(PutRule::NoParent), 0),
+    Step(b"p", b'l', Answer::Done, 1),
+];
+
+const SIBLINGS: [Step; 4] = [
+    Step(b"a.b", b'3', Answer::Done, 1),
+    Step(b"a", b'd', Answer::Done, 2),
+    Step(b"a-b", b'2', Answer::Done, 3),
+    Step(b"a/b", b'1', Answer::Done, 4),
+];
+
+const A_GOES: [Step; 1] = [Step(b"a", b'r', Answer::Done, 2)];
+
+const D_FULL: [Shown; 4] = [(b"d", b'd'), (b"d/x", b'1'), (b"d/y", b'2'), (b"d/z", b'3')];
+
+const D_FULL_AND_K: [Shown; 5] = [
+    (b"d", b'd'),
+    (b"d/x", b'1'),
+    (b"d/y", b'2'),
+    (b"d/z", b'3'),
+    (b"k", b'4'),
+];
+
+const A_AND_SIBLINGS: [Shown; 4] = [(b"a", b'd'), (b"a/b", b'1'), (b"a-b", b'2'), (b"a.b", b'3')];
+
+const IN_THE_ROOT: [Shown; 3] = [(b"a", b'd'), (b"a-b", b'2'), (b"a.b", b'3')];
+
+const A_IS_GONE: [Shown; 2] = [(b"a-b", b'2'), (b"a.b", b'3')];
+
+fn kind_of(kind: u8) -> NodeKind {
+    match kind {
+        b'd' => NodeKind::Dir,
+        b'l' => NodeKind::Link,
+        _ => NodeKind::File,
+    }
+}
 
 // What may be put, by one byte: `d`, `l`, and any other for a File of that many bytes.
 fn node_of(alloc: Global, kind: u8) -> Result<Record, Fail>
@@ -35,112 +117,116 @@ fn node_of(alloc: Global, kind: u8) -> Result<Record, Fail>
     }
 }
 
-// The first rule that a put breaks, if it does.
-fn put(
-    alloc: Global,
-    session: &mut Session,
-    path: &[u8],
-    kind: u8,
-) -> Result<Option<PutFault>, Fail> {
+fn put(session: &mut Session, path: PathName, node: Record) -> Answer
+    requires sound { IsSound node }
+    requires no_mark { is_mark node ≡ false }
+{
+    match session.put(path, node) {
+        Ok(()) => Answer::Done,
+        Err(PutFault::Broken(rule)) => Answer::Broken(rule),
+        Err(PutFault::Memory) => Answer::Memory,
+    }
+}
+
+fn remove(alloc: Global, session: &mut Session, path: &PathName) -> Answer {
+    match session.remove(alloc, path) {
+        Ok(()) => Answer::Done,
+        Err(RemoveFault::NoPath) => Answer::NoPath,
+        Err(RemoveFault::Memory) => Answer::Memory,
+    }
+}
+
+fn check(session: &Session, path: &PathName, kind: u8) -> Answer {
+    match session.check_put(path, kind_of(kind)) {
+        Ok(()) => Answer::Done,
+        Err(rule) => Answer::Broken(rule),
+    }
+}
+
+fn has_len(session: &Session, len: usize) -> bool {
+    session.len() == len && session.is_empty() == (len == 0)
+}
+
+// Makes a call, and whether it answers so. What puts is asked of `check_put` before.
+fn answers(alloc: Global, session: &mut Session, step: &Step) -> Result<bool, Fail> {
+    let Step(path, kind, answer, len) = step;
     let path = PathName::read(alloc, path)?;
-    let node = node_of(alloc, kind)?;
-    Ok(session.put(path, node).err())
+    if *kind == b'r' {
+        return Ok(remove(alloc, session, &path) == *answer && has_len(session, *len));
+    }
+    let node = node_of(alloc, *kind)?;
+    let checked = check(session, &path, *kind);
+    Ok(checked == *answer && put(session, path, node) == *answer && has_len(session, *len))
 }
 
-fn remove(alloc: Global, session: &mut Session, path: &[u8]) -> Result<Option<RemoveFault>, Fail> {
-    Ok(session.remove(alloc, &PathName::read(alloc, path)?).err())
+// Whether something is the record of a byte.
+fn is_shown(alloc: Global, node: &Record, kind: u8) -> Result<bool, Fail> {
+    if kind == b'x' {
+        return Ok(node.is_mark());
+    }
+    Ok(node.is_same(&node_of(alloc, kind)?))
 }
 
-// Whether a table has these paths, each with the record of its byte, `x` for a deletion mark.
-fn has_rows(alloc: Global, table: &Table, wanted: &[(&[u8], u8)]) -> Result<bool, Fail> {
+// A table has these paths, each with the record of its byte.
+fn expect_rows(alloc: Global, table: &Table, wanted: &[Shown]) -> Result<(), Fail> {
     if table.len() != wanted.len() {
-        return Ok(false);
+        return Err(Fail::new("another number of rows"));
     }
     for (row, (path, kind)) in table.rows().iter().zip(wanted) {
-        if row.path().as_slice() != *path {
-            return Ok(false);
-        }
-        if *kind == b'x' {
-            if !row.node().is_mark() {
-                return Ok(false);
-            }
-        } else if !row.node().is_same(&node_of(alloc, *kind)?) {
-            return Ok(false);
+        if row.path().as_slice() != *path || !is_shown(alloc, row.node(), *kind)? {
+            return Err(Fail::new("another row"));
         }
     }
-    Ok(true)
+    Ok(())
+}
+
+// Makes the calls of a script, which answer as it says, and gives the tree, which has these paths.
+fn expect_tree(
+    alloc: Global,
+    session: &mut Session,
+    steps: &[Step],
+    wanted: &[Shown],
+) -> Result<Arc<Table>, Fail>
+    ensures is_whole { IfOk result (λ tree. IsWhole (arc_value tree)) }
+    ensures is_tree { IfOk result (λ tree. IsTree is_dir (arc_value tree)) }
+{
+    for step in steps {
+        if !answers(alloc, session, step)? {
+            return Err(Fail::new("another answer"));
+        }
+    }
+    let tree = session.tree(alloc)?;
+    expect_rows(alloc, &tree, wanted)?;
+    Ok(Arc::new(alloc, tree)?)
 }
 
 #[test]
 fn a_folder_goes_and_comes_back(rt: HostRuntime) -> Result<(), Fail> {
     let alloc = rt.alloc();
     let mut first = Session::begin_full(alloc)?;
-    for (path, kind) in [
-        (b"d".as_slice(), b'd'),
-        (b"k", b'4'),
-        (b"d/x", b'1'),
-        (b"d/z", b'3'),
-        (b"d/y", b'2'),
-    ] {
-        assert_eq!(rt; put(alloc, &mut first, path, kind)?, None);
-    }
-    let oldest = Arc::new(alloc, first.tree(alloc)?)?;
+    let oldest = expect_tree(alloc, &mut first, &D_AND_K, &D_FULL_AND_K)?;
     let mut second = Session::begin_incr(alloc, Arc::try_clone(&oldest)?);
-    assert_eq!(rt; remove(alloc, &mut second, b"d")?, None);
-    assert_eq!(rt;
-        remove(alloc, &mut second, b"d/x")?,
-        Some(RemoveFault::NoPath)
-    );
-    assert_eq!(rt; second.len(), 1);
-    let middle = Arc::new(alloc, second.tree(alloc)?)?;
+    let middle = expect_tree(alloc, &mut second, &D_GOES, &[(b"k", b'4')])?;
     let mut third = Session::begin_incr(alloc, Arc::try_clone(&middle)?);
-    assert_eq!(rt; put(alloc, &mut third, b"d", b'd')?, None);
-    let newest = third.tree(alloc)?;
-    assert!(rt; has_rows(alloc, &newest, &[(b"d", b'd'), (b"k", b'4')])?);
+    let newest = expect_tree(alloc, &mut third, &D_COMES, &[(b"d", b'd'), (b"k", b'4')])?;
     let newer = reverse(alloc, &middle, &newest)?;
-    assert!(rt; has_rows(alloc, &newer, &[(b"d", b'x')])?);
+    expect_rows(alloc, &newer, &[(b"d", b'x')])?;
     let older = reverse(alloc, &oldest, &middle)?;
-    assert!(rt;
-        has_rows(
-            alloc,
-            &older,
-            &[(b"d", b'd'), (b"d/x", b'1'), (b"d/y", b'2'), (b"d/z", b'3')]
-        )?
-    );
-    Ok(())
+    expect_rows(alloc, &older, &D_FULL)
 }
 
 #[test]
 fn kinds_at_one_path(rt: HostRuntime) -> Result<(), Fail> {
     let alloc = rt.alloc();
     let mut session = Session::begin_full(alloc)?;
-    assert_eq!(rt; put(alloc, &mut session, b"p", b'1')?, None);
-    assert_eq!(rt;
-        put(alloc, &mut session, b"p/q", b'1')?,
-        Some(PutFault::Broken(PutRule::NoParent))
-    );
-    assert_eq!(rt; put(alloc, &mut session, b"p", b'd')?, None);
-    assert_eq!(rt;
-        put(alloc, &mut session, b"p", b'l')?,
-        Some(PutFault::Broken(PutRule::IsDirectory))
-    );
-    let path = PathName::read(alloc, b"p")?;
-    assert_eq!(rt;
-        session.check_put(&path, NodeKind::Link),
-        Err(PutRule::IsDirectory)
-    );
-    assert_eq!(rt; session.check_put(&path, NodeKind::Dir), Ok(()));
-    assert_eq!(rt; put(alloc, &mut session, b"p/q", b'2')?, None);
-    let mut next = Session::begin_incr(alloc, Arc::new(alloc, session.tree(alloc)?)?);
-    assert_eq!(rt; put(alloc, &mut next, b"p/r", b'3')?, None);
-    assert_eq!(rt; remove(alloc, &mut next, b"p")?, None);
-    assert!(rt; next.is_empty());
-    assert_eq!(rt;
-        put(alloc, &mut next, b"p/q", b'2')?,
-        Some(PutFault::Broken(PutRule::NoParent))
-    );
-    assert_eq!(rt; put(alloc, &mut next, b"p", b'l')?, None);
-    assert!(rt; has_rows(alloc, &next.tree(alloc)?, &[(b"p", b'l')])?);
+    let tree = expect_tree(
+        alloc,
+        &mut session,
+        &P_OF_THREE_KINDS,
+        &[(b"p", b'd'), (b"p/q", b'2')],
+    )?;
+    let mut next = Session::begin_incr(alloc, tree);
+    let _ = expect_tree(alloc, &mut next, &P_GOES_AND_COMES, &[(b"p", b'l')])?;
     Ok(())
 }
 
@@ -148,41 +234,11 @@ fn kinds_at_one_path(rt: HostRuntime) -> Result<(), Fail> {
 fn siblings_whose_names_begin_alike(rt: HostRuntime) -> Result<(), Fail> {
     let alloc = rt.alloc();
     let mut session = Session::begin_full(alloc)?;
-    for (path, kind) in [
-        (b"a.b".as_slice(), b'3'),
-        (b"a", b'd'),
-        (b"a-b", b'2'),
-        (b"a/b", b'1'),
-    ] {
-        assert_eq!(rt; put(alloc, &mut session, path, kind)?, None);
-    }
-    let tree = session.tree(alloc)?;
-    assert!(rt;
-        has_rows(
-            alloc,
-            &tree,
-            &[(b"a", b'd'), (b"a/b", b'1'), (b"a-b", b'2'), (b"a.b", b'3')]
-        )?
-    );
+    let tree = expect_tree(alloc, &mut session, &SIBLINGS, &A_AND_SIBLINGS)?;
     let root = children(alloc, &tree, None)?;
-    assert!(rt;
-        has_rows(
-            alloc,
-            &root,
-            &[(b"a", b'd'), (b"a-b", b'2'), (b"a.b", b'3')]
-        )?
-    );
-    let mut next = Session::begin_incr(alloc, Arc::new(alloc, tree)?);
-    assert_eq!(rt; remove(alloc, &mut next, b"a")?, None);
-    assert_eq!(rt; next.len(), 2);
-    assert!(rt; has_rows(alloc, &next.tree(alloc)?, &[(b"a-b", b'2'), (b"a.b", b'3')])?);
-    assert_eq!(rt; remove(alloc, &mut session, b"a")?, None);
-    assert!(rt;
-        has_rows(
-            alloc,
-            &session.tree(alloc)?,
-            &[(b"a-b", b'2'), (b"a.b", b'3')]
-        )?
-    );
+    expect_rows(alloc, &root, &IN_THE_ROOT)?;
+    let mut next = Session::begin_incr(alloc, tree);
+    let _ = expect_tree(alloc, &mut next, &A_GOES, &A_IS_GONE)?;
+    let _ = expect_tree(alloc, &mut session, &A_GOES, &A_IS_GONE)?;
     Ok(())
 }
