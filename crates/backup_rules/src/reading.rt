@@ -1,6 +1,6 @@
 //! Reads rules and lines. Only the two lists of rules take memory.
 
-ghost use Rattle.std.specs.Prelude.{◌↔◌, [], ⊤, IsTrue};
+ghost use Rattle.std.specs.Prelude.{◌≡◌, ◌↔◌, [], ⊤, IsTrue, IfErr};
 ghost use Rattle.std.specs.Int.{w8, w32};
 ghost use Rattle.wire_bytes.specs.Kind.{Reads};
 ghost use Rattle.wire_bytes.specs.Layout.{number_bytes};
@@ -210,9 +210,9 @@ fn read_kind(reader: &mut Reader) -> Result<Kind, FieldFault>
     }
 }
 
-/// The line that stands next.
+/// Reads the fields of a line.
 #[tactic(auto, unfolding(crate::specs::Layout::line_bytes))]
-pub fn read_line(reader: &mut Reader) -> Result<Line, FieldFault>
+fn read_line_fields(reader: &mut Reader) -> Result<Line, FieldFault>
     ensures { Reads (λ line. line) IsLine line_bytes reader.old result reader.new }
 {
     let number = reader.read_u32()?;
@@ -229,4 +229,16 @@ pub fn read_line(reader: &mut Reader) -> Result<Line, FieldFault>
         filled,
         keep,
     })
+}
+
+/// The line that stands next; refused, as foreign at its first byte, exactly where none stands there.
+pub fn read_line(reader: &mut Reader) -> Result<Line, FieldFault>
+    ensures line { Reads (λ line. line) IsLine line_bytes reader.old result reader.new }
+    ensures place { IfErr result (λ fault. fault ≡ FieldFault.Foreign reader.old.offset) }
+{
+    let start = reader.offset();
+    match read_line_fields(reader) {
+        Ok(line) => Ok(line),
+        Err(_) => Err(FieldFault::Foreign(start)),
+    }
 }

@@ -4,7 +4,7 @@ use crate::{
 };
 use std::alloc::Global;
 use std::test::Fail;
-use wire_bytes::Reader;
+use wire_bytes::{FieldFault, Reader};
 
 // The default rules in their layout: eleven settings and two lists of one item.
 const DEFAULTS: &[u8; 51] =
@@ -30,7 +30,7 @@ const RANGES: [(Setting, u32, u32); 10] = [
     (Setting::BlackoutBadPingLimit, 1, 1_000_000),
 ];
 
-// The bytes of rules, or those of the default rules where the change is None.
+// The bytes of rules.
 fn bytes_of(alloc: Global, rules: &Rules) -> Result<Vec<u8>, Fail> {
     let mut bytes = Vec::new(alloc);
     put_rules(&mut bytes, rules)?;
@@ -203,6 +203,9 @@ fn a_line_is_written_and_read(rt: HostRuntime) -> Result<(), Fail> {
     put_line(&mut bytes, &line)?;
     assert_eq!(rt; bytes.as_slice(), LINE.as_slice());
     assert_eq!(rt; read_line(&mut Reader::new(LINE))?, line);
-    assert!(rt; read_line(&mut Reader::new(&LINE[..22])).is_err());
+    assert_eq!(rt;
+        read_line(&mut Reader::new(&LINE[..22])).err(),
+        Some(FieldFault::Foreign(0))
+    );
     Ok(())
 }

@@ -8,17 +8,17 @@ use Rattle.backup_index.proofs.PartSteps.{field_from, field_none, narrow_read, n
 use Rattle.backup_index.proofs.index_reading.read_next_line.Goals as goal
 
 pub returns-in-Err : goal.returns-in-Err
-returns-in-Err c = field_none _ _ _ _ _ _ (λ v rest fits is. c.in-Err.ensures.back v rest fits.is is) c.offset-place.ensures.value
+returns-in-Err c = field_none _ _ _ _ _ _ (λ v rest fits is. c.in-Err.ensures.line.back v rest fits.is is) c.offset-place.ensures.value
 
 pub returns-in-None : goal.returns-in-None
 returns-in-None c =
-    narrow_read (λ line. line) IsLine line_bytes (λ line. line) (IsKeptLine c.args.low c.args.next c.args.is_last) (λ v fits. fits.is) _ _ _ _ (field_from _ _ _ _ _ _ c.in-Ok.ensures) (λ i. c.in-Ok.line)
-    (record { is = c.in-Ok.ensures.found.0; follows = follows_from_none c.args.low c.args.next c.args.is_last c.in-Ok.line (sym c.in-None.ensures) })
+    narrow_read (λ line. line) IsLine line_bytes (λ line. line) (IsKeptLine c.args.low c.args.next c.args.is_last) (λ v fits. fits.is) _ _ _ _ (field_from _ _ _ _ _ _ c.in-Ok.ensures.line) (λ i. c.in-Ok.line)
+    (record { is = c.in-Ok.ensures.line.found.0; follows = follows_from_none c.args.low c.args.next c.args.is_last c.in-Ok.line (sym c.in-None.ensures) })
 
 other : (low next : ℕ) (is_last : Bool) (line : Line) (rule : IndexRule) → Some rule ≡ broken_line low next is_last line → IsKeptLine low next is_last line → ⊥
 other low next is_last line rule is fits = let same : Some rule ≡ None = is ∙ none_from_follows low next is_last line fits.follows in cc
 
 pub returns-in-Some : goal.returns-in-Some
 returns-in-Some c =
-    narrow_bad (λ line. line) IsLine line_bytes (λ line. line) (IsKeptLine c.args.low c.args.next c.args.is_last) (λ v fits. fits.is) _ _ _ _ (field_from _ _ _ _ _ _ c.in-Ok.ensures)
+    narrow_bad (λ line. line) IsLine line_bytes (λ line. line) (IsKeptLine c.args.low c.args.next c.args.is_last) (λ v fits. fits.is) _ _ _ _ (field_from _ _ _ _ _ _ c.in-Ok.ensures.line)
     (other c.args.low c.args.next c.args.is_last c.in-Ok.line c.in-Some.field-0 c.in-Some.ensures) c.offset-place.ensures.value
