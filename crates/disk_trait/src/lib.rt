@@ -8,9 +8,18 @@
 mod bytes;
 mod disk;
 mod ids;
+mod image;
+mod list;
+mod log;
+mod map;
 mod memory;
 
 pub use bytes::Bytes;
 pub use disk::{Disk, DiskError, Failed};
 pub use ids::{FileId, PoolId};
+pub use image::Choice;
+pub use list::FileList;
 pub use memory::{DiskRoom, MemoryDisk};
+
+#[cfg(test)]
+mod tests;

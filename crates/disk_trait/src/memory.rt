@@ -1,91 +1,111 @@
-ghost use Rattle.std.specs.Prelude.{◌≡◌, ◌⊎◌, ◌↔◌, ◌+◌, ◌-◌, ◌^◌, ◌<◌, ◌≤◌, length, IsTrue, IfOk, OnOk, OnErr, IsErr, IsErrOf, min};
-ghost use Rattle.std.specs.Option.{ForSome, option_copied};
+ghost use Rattle.std.specs.Prelude.{ℕ, ◌≡◌, ◌⊎◌, ◌↔◌, ◌+◌, ◌-◌, ◌^◌, ◌<◌, ◌≤◌, [], Some, None, length, IsTrue, IfOk, OnOk, OnErr, IsErr, IsErrOf, Contains, min};
+ghost use Rattle.std.specs.Option.{ForSome};
 ghost use Rattle.fault_counts.specs.Counts.{Counted};
-ghost use Rattle.disk_trait.specs.Files.{no_files, with_file, rewritten, SameButOne};
-ghost use Rattle.disk_trait.specs.Memory.{files_after, room_after};
+ghost use Rattle.disk_trait.specs.Files.{no_files, changed, appended, piece, SameButOne, IsListing};
+ghost use Rattle.disk_trait.specs.Log.{IsWhole, IsWhole-prop};
+ghost use Rattle.disk_trait.specs.Images.{nothing, also, IsWithin, MayLeave, Elapses};
 
 use crate::bytes::Bytes;
 use crate::disk::{Disk, DiskError, Failed};
 use crate::ids::FileId;
+use crate::image::{Choice, image_log};
+use crate::list::FileList;
+use crate::log::Log;
 use std::alloc::{AllocError, Global};
 
-/// How much a disk in memory takes before it is full.
+/// How much a disk in memory takes before it is full. The memory for it is taken when the disk is made.
 #[derive(Clone, Copy, Debug, PartialEq, Eq)]
 pub struct DiskRoom {
-    /// The writes and syncs.
+    /// The changes and syncs.
     pub changes: u64,
-    /// The bytes of all writes together.
+    /// The bytes of all writes and appends together.
     pub bytes: u64,
 }
 
-/// A file, and bytes that it was given.
-#[derive(Debug, Drop)]
-struct Written {
-    file: FileId,
-    bytes: Bytes,
-}
-
-/// A disk in memory, which tells its files.
+/// A disk in memory, which tells its files and keeps its changes and syncs.
 ///
-/// Its calls are counted from 0: each read, write and sync is one. The calls that it was told to
-/// fail do fail, and so do the writes and syncs that are past its room, and the writes for which
-/// there is no memory. A call that failed takes none of the room.
+/// Its calls are counted from 0. Those that it was told to fail do fail, and so do the changes and
+/// syncs that are past its room, and no others. A call that failed takes none of the room. Its
+/// moments are counted from 0, too: each change and sync that it kept makes one, a change that
+/// failed among them.
 #[derive(Debug, Drop)]
 pub struct MemoryDisk {
-    written: Vec<Written>,
+    log: Log,
     fails: Vec<u64>,
     calls: u64,
-    room: DiskRoom,
+    whole: DiskRoom,
     faults: u64,
+    ghost is_whole: { IsWhole log } by { IsWhole-prop log },
 }
 
-/// The bytes that the newest of these writes gave the file, if one did; the newest write is the first.
-fn newest(written: &[Written], file: FileId) -> Option<&Bytes>
-    ensures { option_copied result ≡ files_after written.now file }
+/// Whether the call is one of these.
+fn is_among(calls: &[u64], call: u64) -> bool
+    ensures { IsTrue result ↔ Contains calls.now call }
 {
-    for write in written {
-        if file.is_same(write.file) {
-            return Some(&write.bytes);
-        }
-    }
-    None
+    calls.contains(&call)
 }
 
 impl MemoryDisk {
-    ghost use Rattle.disk_trait.specs.Memory.{IsFresh, IsListed, IsPastRoom, SameButFiles};
+    ghost use Rattle.disk_trait.specs.declared.ids.FileId.{FileId};
+    ghost use Rattle.disk_trait.specs.Log.{log_files};
+    ghost use Rattle.disk_trait.specs.Memory.{image_at, IsFresh, IsListed, IsPastRoom};
 
     /// A disk without files, which fails these of its calls.
-    pub fn new(alloc: Global, fails: Vec<u64>, room: DiskRoom) -> MemoryDisk
-        ensures told { ⟦<MemoryDisk as Disk>⟧.files result ≡ Some no_files }
-        ensures count { ⟦<MemoryDisk as Disk>⟧.fault_count result ≡ 0 }
-        ensures fresh { IsFresh fails.items room result }
+    pub fn new(alloc: Global, fails: Vec<u64>, room: DiskRoom) -> Result<MemoryDisk, AllocError>
+        ensures told { IfOk result (λ disk. ⟦<MemoryDisk as Disk>⟧.files disk ≡ Some no_files) }
+        ensures certain { IfOk result (λ disk. ⟦<MemoryDisk as Disk>⟧.uncertain disk ≡ nothing) }
+        ensures count { IfOk result (λ disk. ⟦<MemoryDisk as Disk>⟧.fault_count disk ≡ 0) }
+        ensures fresh { IfOk result (IsFresh fails.items room) }
     {
-        MemoryDisk {
-            written: Vec::new(alloc),
+        let log = Log::new(alloc, room)?;
+        Ok(MemoryDisk {
+            log,
             fails,
             calls: 0,
-            room,
+            whole: room,
             faults: 0,
-        }
+        })
     }
 
-    /// The disk with these bytes as one of its files. This is no call, and takes none of the room.
-    pub fn with_file(mut self, file: FileId, bytes: Bytes) -> Result<MemoryDisk, AllocError>
-        ensures told { IfOk result (λ disk. ⟦<MemoryDisk as Disk>⟧.files disk
-            ≡ rewritten (⟦<MemoryDisk as Disk>⟧.files self) file bytes) }
-        ensures same { IfOk result (SameButFiles self) }
+    /// How many of its calls were kept: what a moment is.
+    pub fn moment(&self) -> usize
+        ensures { result ≡ ⟦<MemoryDisk as Disk>⟧.moment self.now }
     {
-        self.written.insert(0, Written { file, bytes })?;
-        Ok(self)
+        self.log.past.len()
+    }
+
+    /// The disk that a crash at a moment left, its uncertain files being as chosen: it has the room that this one was
+    /// made with, and no failing calls.
+    pub fn image(
+        &self,
+        alloc: Global,
+        moment: usize,
+        choice: Choice,
+    ) -> Result<MemoryDisk, AllocError>
+        requires { moment ≤ ⟦<MemoryDisk as Disk>⟧.moment self.now }
+        ensures told { IfOk result (λ disk. (asked : FileId) → log_files disk.log asked ≡ image_at self.now moment choice asked) }
+        ensures certain { IfOk result (λ disk. ⟦<MemoryDisk as Disk>⟧.uncertain disk ≡ nothing) }
+        ensures room { IfOk result (λ disk. (disk.log.room ≡ self.now.whole) × (disk.whole ≡ self.now.whole) × (disk.fails.items ≡ []) × (disk.calls ≡ 0) × (disk.faults ≡ 0)) }
+        ensures left { IfOk result (λ disk. (since : ℕ) → since ≤ moment → ⟦<MemoryDisk as Disk>⟧.left_since self.now since (log_files disk.log)) }
+    {
+        match image_log(alloc, &self.log, moment, choice, self.whole) {
+            Ok(log) => Ok(MemoryDisk {
+                log,
+                fails: Vec::new(alloc),
+                calls: 0,
+                whole: self.whole,
+                faults: 0,
+            }),
+            Err(fault) => Err(fault),
+        }
     }
 
     /// Counts a call, and says whether it is one to fail.
     fn is_listed(&mut self) -> bool
         ensures listed { IsTrue result ↔ IsListed self.old }
-        ensures called { self.new
-            ≡ record self.old { calls = min (self.old.calls + 1) (2 ^ 64 - 1) } }
+        ensures called { self.new ≡ record self.old { calls = min (self.old.calls + 1) (2 ^ 64 - 1) } }
     {
-        let listed = self.fails.contains(&self.calls);
+        let listed = is_among(self.fails.as_slice(), self.calls);
         self.calls = self.calls.saturating_add(1);
         listed
     }
@@ -93,61 +113,44 @@ impl MemoryDisk {
     /// Counts a change of so many bytes, and says whether it is one to fail.
     fn is_refused(&mut self, count: u64) -> bool
         ensures refused { IsTrue result ↔ (IsListed self.old ⊎ IsPastRoom self.old count) }
-        ensures called { self.new
-            ≡ record self.old { calls = min (self.old.calls + 1) (2 ^ 64 - 1) } }
+        ensures called { self.new ≡ record self.old { calls = min (self.old.calls + 1) (2 ^ 64 - 1) } }
     {
-        self.is_listed() || self.room.changes == 0 || self.room.bytes < count
+        self.is_listed() || self.log.room.changes == 0 || self.log.room.bytes < count
     }
 
     /// Counts a failure.
     fn fault(&mut self)
-        ensures counted { self.new
-            ≡ record self.old { faults = min (self.old.faults + 1) (2 ^ 64 - 1) } }
+        ensures counted { self.new ≡ record self.old { faults = min (self.old.faults + 1) (2 ^ 64 - 1) } }
         ensures later { self.old.faults ≤ self.new.faults }
     {
         self.faults = self.faults.saturating_add(1);
     }
-
-    /// Puts a write before the others, if there is memory for it, and takes it from the room.
-    fn put(&mut self, file: FileId, bytes: &[u8]) -> Result<(), AllocError>
-        requires changes { 0 < self.old.room.changes }
-        requires bytes { length bytes.now ≤ self.old.room.bytes }
-        ensures told { OnOk result (files_after self.new.written.items
-            ≡ with_file (files_after self.old.written.items) file bytes.now) }
-        ensures taken { OnOk result (self.new
-            ≡ record self.old { written = self.new.written; room = room_after self.old.room (length bytes.now) }) }
-        ensures err { OnErr result (self.new.written.items ≡ self.old.written.items) }
-        ensures same { OnErr result (SameButFiles self.old self.new) }
-    {
-        let alloc = *self.written.allocator();
-        let bytes = Bytes::from_slice(alloc, bytes)?;
-        let count = bytes.len() as u64;
-        self.written.insert(0, Written { file, bytes })?;
-        self.take_room(count);
-        Ok(())
-    }
-
-    /// Takes a change of so many bytes from the room.
-    fn take_room(&mut self, count: u64)
-        requires changes { 0 < self.old.room.changes }
-        requires bytes { count ≤ self.old.room.bytes }
-        ensures { self.new ≡ record self.old { room = room_after self.old.room count } }
-    {
-        self.room.changes -= 1;
-        self.room.bytes -= count;
-    }
 }
 
 impl Disk for MemoryDisk {
-    ghost use Rattle.disk_trait.specs.Memory.{told_files, failures, IsListed, IsPastRoom, Took};
+    ghost use Rattle.disk_trait.specs.Memory.{told_files, uncertain_files, moment_of, left_of, failures, memory_counts, memory_only, memory_tells, IsListed, IsPastRoom, Took};
 
     ghost files = { told_files };
 
+    ghost uncertain = { uncertain_files };
+
+    ghost moment = { moment_of };
+
+    ghost left_since = { left_of };
+
     ghost fault_count = { failures };
+
+    ghost counts_now = { λ disk t image le may. memory_counts disk t image le may };
+
+    ghost only_now = { λ disk image left. memory_only disk image left };
+
+    ghost tells = { λ disk other told. memory_tells disk other told };
 
     fn read(&mut self, alloc: Global, file: FileId) -> Result<Option<Bytes>, DiskError>
         ensures found { IfOk result (λ found. ForSome (told_files self.old) (λ all. found ≡ all file)) }
         ensures same { told_files self.new ≡ told_files self.old }
+        ensures certain { IsWithin (uncertain_files self.new) (uncertain_files self.old) }
+        ensures time { Elapses moment_of left_of self.old self.new (MayLeave (told_files self.new) (uncertain_files self.new)) }
         ensures counted { Counted (failures self.old) (failures self.new) (IsErrOf result DiskError.Failed) }
         ensures listed { IsErrOf result DiskError.Failed ↔ IsListed self.old }
         ensures took { Took 0 0 self.old self.new }
@@ -156,38 +159,121 @@ impl Disk for MemoryDisk {
             self.fault();
             return Err(DiskError::Failed);
         }
-        match newest(self.written.as_slice(), file) {
-            None => Ok(None),
-            Some(bytes) => match bytes.copy(alloc) {
-                Ok(copy) => Ok(Some(copy)),
-                Err(_) => Err(DiskError::Memory),
-            },
+        match self.log.read(alloc, file) {
+            Ok(found) => Ok(found),
+            Err(_) => Err(DiskError::Memory),
         }
     }
 
-    /// A write for which there is no memory fails too.
+    fn read_at(
+        &mut self,
+        alloc: Global,
+        file: FileId,
+        from: u64,
+        room: usize,
+    ) -> Result<Option<Bytes>, DiskError>
+        ensures found { IfOk result (λ found. ForSome (told_files self.old) (λ all. found ≡ piece (all file) from room)) }
+        ensures same { told_files self.new ≡ told_files self.old }
+        ensures certain { IsWithin (uncertain_files self.new) (uncertain_files self.old) }
+        ensures time { Elapses moment_of left_of self.old self.new (MayLeave (told_files self.new) (uncertain_files self.new)) }
+        ensures counted { Counted (failures self.old) (failures self.new) (IsErrOf result DiskError.Failed) }
+        ensures listed { IsErrOf result DiskError.Failed ↔ IsListed self.old }
+        ensures took { Took 0 0 self.old self.new }
+    {
+        if self.is_listed() {
+            self.fault();
+            return Err(DiskError::Failed);
+        }
+        match self.log.read_at(alloc, file, from, room) {
+            Ok(found) => Ok(found),
+            Err(_) => Err(DiskError::Memory),
+        }
+    }
+
+    fn list(&mut self, alloc: Global) -> Result<FileList, DiskError>
+        ensures found { IfOk result (λ found. ForSome (told_files self.old) (IsListing found)) }
+        ensures same { told_files self.new ≡ told_files self.old }
+        ensures certain { IsWithin (uncertain_files self.new) (uncertain_files self.old) }
+        ensures time { Elapses moment_of left_of self.old self.new (MayLeave (told_files self.new) (uncertain_files self.new)) }
+        ensures counted { Counted (failures self.old) (failures self.new) (IsErrOf result DiskError.Failed) }
+        ensures listed { IsErrOf result DiskError.Failed ↔ IsListed self.old }
+        ensures took { Took 0 0 self.old self.new }
+    {
+        if self.is_listed() {
+            self.fault();
+            return Err(DiskError::Failed);
+        }
+        match self.log.list(alloc) {
+            Ok(list) => Ok(list),
+            Err(_) => Err(DiskError::Memory),
+        }
+    }
+
     fn write(&mut self, file: FileId, bytes: &[u8]) -> Result<(), Failed>
-        ensures told { OnOk result (told_files self.new ≡ rewritten (told_files self.old) file bytes.now) }
+        ensures told { OnOk result (told_files self.new ≡ changed (told_files self.old) file (Some bytes.now)) }
         ensures failed { OnErr result (SameButOne file (told_files self.old) (told_files self.new)) }
+        ensures certain { IsWithin (uncertain_files self.new) (also (uncertain_files self.old) file) }
+        ensures time { Elapses moment_of left_of self.old self.new (MayLeave (told_files self.new) (uncertain_files self.new)) }
         ensures counted { Counted (failures self.old) (failures self.new) (IsErr result) }
-        ensures refused { (IsListed self.old ⊎ IsPastRoom self.old (length bytes.now)) → IsErr result }
+        ensures refused { IsErr result ↔ (IsListed self.old ⊎ IsPastRoom self.old (length bytes.now)) }
         ensures ok { OnOk result (Took 1 (length bytes.now) self.old self.new) }
         ensures err { OnErr result (Took 0 0 self.old self.new) }
         ensures same { OnErr result (told_files self.new ≡ told_files self.old) }
     {
         if self.is_refused(bytes.len() as u64) {
             self.fault();
+            self.log.miss(file);
             return Err(Failed);
         }
-        if self.put(file, bytes).is_err() {
+        self.log.write(file, bytes);
+        Ok(())
+    }
+
+    fn append(&mut self, file: FileId, bytes: &[u8]) -> Result<(), Failed>
+        ensures told { OnOk result (told_files self.new ≡ appended (told_files self.old) file bytes.now) }
+        ensures failed { OnErr result (SameButOne file (told_files self.old) (told_files self.new)) }
+        ensures certain { IsWithin (uncertain_files self.new) (also (uncertain_files self.old) file) }
+        ensures time { Elapses moment_of left_of self.old self.new (MayLeave (told_files self.new) (uncertain_files self.new)) }
+        ensures counted { Counted (failures self.old) (failures self.new) (IsErr result) }
+        ensures refused { IsErr result ↔ (IsListed self.old ⊎ IsPastRoom self.old (length bytes.now)) }
+        ensures ok { OnOk result (Took 1 (length bytes.now) self.old self.new) }
+        ensures err { OnErr result (Took 0 0 self.old self.new) }
+        ensures same { OnErr result (told_files self.new ≡ told_files self.old) }
+    {
+        if self.is_refused(bytes.len() as u64) {
             self.fault();
+            self.log.miss(file);
             return Err(Failed);
         }
+        self.log.extend(file, bytes);
+        Ok(())
+    }
+
+    fn remove(&mut self, file: FileId) -> Result<(), Failed>
+        ensures told { OnOk result (told_files self.new ≡ changed (told_files self.old) file None) }
+        ensures failed { OnErr result (SameButOne file (told_files self.old) (told_files self.new)) }
+        ensures certain { IsWithin (uncertain_files self.new) (also (uncertain_files self.old) file) }
+        ensures time { Elapses moment_of left_of self.old self.new (MayLeave (told_files self.new) (uncertain_files self.new)) }
+        ensures counted { Counted (failures self.old) (failures self.new) (IsErr result) }
+        ensures refused { IsErr result ↔ (IsListed self.old ⊎ IsPastRoom self.old 0) }
+        ensures ok { OnOk result (Took 1 0 self.old self.new) }
+        ensures err { OnErr result (Took 0 0 self.old self.new) }
+        ensures same { OnErr result (told_files self.new ≡ told_files self.old) }
+    {
+        if self.is_refused(0) {
+            self.fault();
+            self.log.miss(file);
+            return Err(Failed);
+        }
+        self.log.remove(file);
         Ok(())
     }
 
     fn sync(&mut self) -> Result<(), Failed>
+        ensures durable { OnOk result (IsWithin (uncertain_files self.new) nothing) }
         ensures same { told_files self.new ≡ told_files self.old }
+        ensures certain { IsWithin (uncertain_files self.new) (uncertain_files self.old) }
+        ensures time { Elapses moment_of left_of self.old self.new (MayLeave (told_files self.new) (uncertain_files self.new)) }
         ensures counted { Counted (failures self.old) (failures self.new) (IsErr result) }
         ensures refused { IsErr result ↔ (IsListed self.old ⊎ IsPastRoom self.old 0) }
         ensures ok { OnOk result (Took 1 0 self.old self.new) }
@@ -197,98 +283,11 @@ impl Disk for MemoryDisk {
             self.fault();
             return Err(Failed);
         }
-        self.take_room(0);
+        self.log.sync();
         Ok(())
     }
 
     fn faults(&self) -> u64 {
         self.faults
-    }
-}
-
-#[cfg(test)]
-mod tests {
-    use super::*;
-    use std::test::Fail;
-    use std::thread;
-    use std::thread::Threads;
-
-    const TABLE: FileId = FileId::Table(3, 4_000_000_000);
-
-    /// Which of five calls went well: a write of three bytes, a sync, a write of two, a read, a sync.
-    fn outcomes<D: Disk>(alloc: Global, disk: &mut D) -> [bool; 5] {
-        let head = disk.write(FileId::Head, b"abc").is_ok();
-        let synced = disk.sync().is_ok();
-        let table = disk.write(TABLE, b"de").is_ok();
-        let read = disk.read(alloc, FileId::Head).is_ok();
-        [head, synced, table, read, disk.sync().is_ok()]
-    }
-
-    /// The same in a thread of its own, which takes the disk and gives it back.
-    fn outcomes_beside<R: Threads, D: Disk + Send + Drop>(
-        rt: &R,
-        alloc: Global,
-        disk: D,
-    ) -> ([bool; 5], D) {
-        let calls = move || {
-            let mut disk = disk;
-            let seen = outcomes(alloc, &mut disk);
-            (seen, disk)
-        };
-        let (seen, ()) = thread::join(rt, calls, || ());
-        seen
-    }
-
-    /// The bytes of a file, and none where it is absent.
-    fn bytes_of<D: Disk>(alloc: Global, disk: &mut D, file: FileId) -> Result<Bytes, DiskError> {
-        let found = disk.read(alloc, file)?;
-        Ok(found.unwrap_or(Bytes::new(alloc)))
-    }
-
-    #[test]
-    fn fails_the_listed_calls_and_what_is_past_its_room(rt: HostRuntime) -> Result<(), Fail> {
-        let alloc = rt.alloc();
-        let rows = [
-            ([9, 9], 9, 9, [true, true, true, true, true], "abc", "de"),
-            ([3, 0], 9, 9, [false, true, true, false, true], "", "de"),
-            ([4, 2], 9, 9, [true, true, false, true, false], "abc", ""),
-            ([9, 9], 2, 9, [true, true, false, true, false], "abc", ""),
-            ([9, 1], 2, 9, [true, false, true, true, false], "abc", "de"),
-            ([9, 9], 9, 4, [true, true, false, true, true], "abc", ""),
-            ([9, 9], 0, 9, [false, false, false, true, false], "", ""),
-        ];
-        for (fails, changes, bytes, want, head, table) in rows {
-            let fails = Vec::from_array(alloc, fails)?;
-            let disk = MemoryDisk::new(alloc, fails, DiskRoom { changes, bytes });
-            let (seen, mut disk) = outcomes_beside(&rt, alloc, disk);
-            assert_eq!(rt; seen, want, "at {changes} changes, {bytes} bytes");
-            let failed = want.iter().filter(|good| !**good).count();
-            assert_eq!(rt; disk.faults(), failed as u64);
-            let found = bytes_of(alloc, &mut disk, FileId::Head)?;
-            assert_eq!(rt; found.as_slice(), head.as_bytes());
-            let found = bytes_of(alloc, &mut disk, TABLE)?;
-            assert_eq!(rt; found.as_slice(), table.as_bytes());
-        }
-        Ok(())
-    }
-
-    #[test]
-    fn gives_back_the_newest_bytes(rt: HostRuntime) -> Result<(), Fail> {
-        let alloc = rt.alloc();
-        let room = DiskRoom {
-            changes: 1,
-            bytes: 5,
-        };
-        let old = Bytes::from_slice(alloc, b"old")?;
-        let mut disk = MemoryDisk::new(alloc, Vec::new(alloc), room).with_file(TABLE, old)?;
-        assert!(rt; disk.read(alloc, FileId::Head)?.is_none());
-        assert!(rt; disk.read(alloc, FileId::Table(3, 0))?.is_none());
-        let found = bytes_of(alloc, &mut disk, TABLE)?;
-        assert_eq!(rt; found.as_slice(), b"old".as_slice());
-        disk.write(TABLE, b"newer")?;
-        let found = bytes_of(alloc, &mut disk, TABLE)?;
-        assert_eq!(rt; found.as_slice(), b"newer".as_slice());
-        assert_eq!(rt; disk.faults(), 0);
-        Ok(())
     }
 }

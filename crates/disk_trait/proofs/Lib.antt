@@ -1,0 +1,5 @@
+-- What the proofs of several functions cite.
+pub mod Imaging
+pub mod Listing
+pub mod Memories
+pub mod Records
