@@ -2,7 +2,8 @@
 use Rattle.std.proofs.Common.{◌≡◌, ℕ, ◌+◌, ◌-◌, List, length, take, drop, Option, sym}
 use Rattle.std.proofs.Math.Seq.{take-add}
 use Rattle.std.proofs.lemmas.List.{take_rest}
-use Rattle.stream_traits.specs.Told.{behind, behind_append}
+use Rattle.stream_traits.specs.Told.{behind}
+use Rattle.stream_traits.specs.ToldLaws.{behind_append}
 
 -- a further piece of the bytes goes behind the front that is out
 pub behind-take_more : (first now : Option (List ℕ)) (bytes : List ℕ) (done count : ℕ) → now ≡ behind first (take done bytes)

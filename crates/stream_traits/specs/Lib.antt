@@ -1,4 +1,6 @@
 pub mod Clocks
 pub mod Memory
 pub mod Moments
+pub mod Seen
 pub mod Told
+pub mod ToldLaws

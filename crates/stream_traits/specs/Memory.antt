@@ -1,5 +1,5 @@
 -- The link in memory: what it has, and what its next call does.
-use Rattle.std.specs.Prelude.{◌≡◌, ℕ, Bool, false, ◌&&◌, ◌||◌, ◌+◌, ◌-◌, ◌^◌, ◌==◌, nat_lt, List, [], length, drop, if◌then◌else◌, min, refl}
+use Rattle.std.specs.Prelude.{◌≡◌, ℕ, Bool, ◌&&◌, ◌||◌, ◌+◌, ◌-◌, ◌^◌, ◌==◌, nat_lt, List, [], length, take, drop, if◌then◌else◌, min}
 use Rattle.std.specs.List.{list_any}
 use Rattle.stream_traits.specs.declared.memory.MemoryLink.{MemoryLink}
 
@@ -10,6 +10,10 @@ bytes_left link = drop link.taken link.input.items
 -- the bytes that were written
 abbrev pub bytes_written : MemoryLink → List ℕ
 bytes_written link = link.output.items
+
+-- those of them that were sent
+abbrev pub bytes_sent : MemoryLink → List ℕ
+bytes_sent link = take link.sent link.output.items
 
 -- the count of its failed calls
 abbrev pub fault_count : MemoryLink → ℕ
@@ -44,15 +48,3 @@ pub record IsFresh (link : MemoryLink) (room : ℕ) (fails : List ℕ) : Type 0 
   pub failed_calls : link.failed_calls ≡ 0
   pub fails_is : link.fails.items ≡ fails
   pub room_is : link.room ≡ room
-
--- no call is to fail
-pub record NeverFails (link : MemoryLink) : Type 0 where
-  pub none : link.fails.items ≡ []
-
--- where no call is to fail, the next one doesn't
-pub NeverFails-next : (link : MemoryLink) → NeverFails link → fails_next link ≡ false
-NeverFails-next link never = rw never.none refl
-
--- and it stays so over a call
-pub NeverFails-Calls : (old new : MemoryLink) (failed : Bool) → NeverFails old → Calls old new failed → NeverFails new
-NeverFails-Calls old new failed never made = record { none = rw made.fails never.none }

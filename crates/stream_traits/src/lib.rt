@@ -1,7 +1,9 @@
 //! Streams of bytes and clocks, as traits that real and made-up ends share.
 #![tactic(auto)]
 
+mod by_reference;
 mod clock;
+mod gate;
 mod link;
 mod memory;
 mod memory_clock;
@@ -11,6 +13,7 @@ mod tests;
 mod writing;
 
 pub use clock::{Clock, Moment};
+pub use gate::{Gate, OpenGate};
 pub use link::{Failed, Faults, Link, Sink, Source};
 pub use memory::MemoryLink;
 pub use memory_clock::{FixedClock, ListClock};

@@ -1,4 +1,4 @@
-ghost use Rattle.std.specs.Prelude.{◌≡◌, ◌≤◌, [], ◌++◌, ◌||◌, Some, length, take, min, vec_len, IfOk, OnErr, IsErr, IsTrue, is_err};
+ghost use Rattle.std.specs.Prelude.{◌≡◌, ◌≤◌, [], ◌++◌, ◌||◌, Some, length, take, min, vec_len, IfOk, OnOk, OnErr, IsErr, IsTrue, is_err};
 ghost use Rattle.std.specs.Vec.{vec_capacity};
 ghost use Rattle.fault_counts.specs.Counts.{Counted};
 
@@ -11,12 +11,14 @@ pub struct MemoryLink {
     input: Vec<u8>,
     taken: usize,
     output: Vec<u8>,
+    sent: usize,
     room: usize,
     fails: Vec<u64>,
     calls: u64,
     failed_calls: u64,
     ghost in_input: { taken ≤ vec_len input },
     ghost in_room: { vec_len output ≤ room },
+    ghost in_output: { sent ≤ vec_len output },
     ghost has_memory: { room ≤ vec_capacity output },
 }
 
@@ -34,6 +36,7 @@ impl MemoryLink {
     ) -> Result<MemoryLink, AllocError>
         ensures left { IfOk result (λ link. ⟦<MemoryLink as Faults>⟧.left link ≡ Some input.items) }
         ensures written { IfOk result (λ link. ⟦<MemoryLink as Faults>⟧.written link ≡ Some []) }
+        ensures sent { IfOk result (λ link. ⟦<MemoryLink as Faults>⟧.sent link ≡ Some []) }
         ensures faults { IfOk result (λ link. ⟦<MemoryLink as Faults>⟧.faults link ≡ 0) }
         ensures fresh { IfOk result (λ link. IsFresh link room fails.items) }
     {
@@ -41,6 +44,7 @@ impl MemoryLink {
             input,
             taken: 0,
             output: Vec::with_capacity(alloc, room)?,
+            sent: 0,
             room,
             fails,
             calls: 0,
@@ -55,6 +59,13 @@ impl MemoryLink {
         self.output.as_slice()
     }
 
+    /// What was sent of it.
+    pub fn sent(&self) -> &[u8]
+        ensures { ⟦<MemoryLink as Faults>⟧.sent self.now ≡ Some result.now }
+    {
+        &self.output[..self.sent]
+    }
+
     /// Counts a call, and says whether it fails: where it `is_refused`, or is among those that fail.
     fn has_failed(&mut self, is_refused: bool) -> bool
         ensures value { result ≡ (fails_next self.old || is_refused) }
@@ -63,6 +74,7 @@ impl MemoryLink {
         ensures input { self.new.input ≡ self.old.input }
         ensures taken { self.new.taken ≡ self.old.taken }
         ensures output { self.new.output ≡ self.old.output }
+        ensures sent { self.new.sent ≡ self.old.sent }
     {
         let failed = self.fails.contains(&self.calls) || is_refused;
         self.calls = self.calls.saturating_add(1);
@@ -74,11 +86,13 @@ impl MemoryLink {
 }
 
 impl Faults for MemoryLink {
-    ghost use Rattle.stream_traits.specs.Memory.{bytes_left, bytes_written, fault_count};
+    ghost use Rattle.stream_traits.specs.Memory.{bytes_left, bytes_written, bytes_sent, fault_count};
 
     ghost left = { λ link. Some (bytes_left link) };
 
     ghost written = { λ link. Some (bytes_written link) };
+
+    ghost sent = { λ link. Some (bytes_sent link) };
 
     ghost faults = { fault_count };
 
@@ -88,7 +102,7 @@ impl Faults for MemoryLink {
 }
 
 impl Source for MemoryLink {
-    ghost use Rattle.stream_traits.specs.Memory.{bytes_left, bytes_written, fault_count, fails_next, Calls};
+    ghost use Rattle.stream_traits.specs.Memory.{bytes_left, bytes_written, bytes_sent, fault_count, fails_next, Calls};
 
     // It reads as many bytes as there is room for, and fails exactly at the calls that it was given.
     fn read(&mut self, room: &mut [u8]) -> Result<usize, Failed>
@@ -99,6 +113,7 @@ impl Source for MemoryLink {
         ensures told { IfOk result (λ n. bytes_left self.old ≡ take n room.new ++ bytes_left self.new) }
         ensures err { OnErr result (bytes_left self.new ≡ bytes_left self.old) }
         ensures written { bytes_written self.new ≡ bytes_written self.old }
+        ensures sent { bytes_sent self.new ≡ bytes_sent self.old }
     {
         if self.has_failed(false) {
             return Err(Failed);
@@ -110,7 +125,7 @@ impl Source for MemoryLink {
 }
 
 impl Sink for MemoryLink {
-    ghost use Rattle.stream_traits.specs.Memory.{bytes_left, bytes_written, fault_count, spare_room, fails_next, fails_write, Calls};
+    ghost use Rattle.stream_traits.specs.Memory.{bytes_left, bytes_written, bytes_sent, fault_count, spare_room, fails_next, fails_write, Calls};
 
     // It takes as many bytes as it has room for, and fails exactly at the calls that it was given and
     // where there is no room for any.
@@ -121,6 +136,7 @@ impl Sink for MemoryLink {
         ensures count { IfOk result (λ n. n ≡ min (length bytes.now) (spare_room self.old)) }
         ensures wrote { IfOk result (λ n. bytes_written self.new ≡ bytes_written self.old ++ take n bytes.now) }
         ensures err { OnErr result (bytes_written self.new ≡ bytes_written self.old) }
+        ensures sent { bytes_sent self.new ≡ bytes_sent self.old }
         ensures left { bytes_left self.new ≡ bytes_left self.old }
     {
         let count = bytes.len().min(self.room - self.output.len());
@@ -139,12 +155,15 @@ impl Sink for MemoryLink {
         ensures failed { is_err result ≡ fails_next self.old }
         ensures calls { Calls self.old self.new (is_err result) }
         ensures counted { Counted (fault_count self.old) (fault_count self.new) (IsErr result) }
+        ensures sent { OnOk result (bytes_sent self.new ≡ bytes_written self.old) }
+        ensures err { OnErr result (bytes_sent self.new ≡ bytes_sent self.old) }
         ensures written { bytes_written self.new ≡ bytes_written self.old }
         ensures left { bytes_left self.new ≡ bytes_left self.old }
     {
         if self.has_failed(false) {
             return Err(Failed);
         }
+        self.sent = self.output.len();
         Ok(())
     }
 }

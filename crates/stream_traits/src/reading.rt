@@ -36,11 +36,13 @@ const PIECE: usize = 65_536;
 
 /// Reads one byte, or none at the end of the stream.
 pub fn read_byte<S: Source>(source: &mut S) -> Result<Option<u8>, Failed>
+    requires sent { S.sent source.old ≡ S.written source.old }
     ensures some { IfOk result (λ byte. ForSome byte (λ b. S.left source.old ≡ before (b ∷ []) (S.left source.new))) }
     ensures end { IfOk result (λ byte. byte ≡ None → IsEnd (S.left source.old)) }
     ensures none { IfOk result (λ byte. byte ≡ None → S.left source.new ≡ S.left source.old) }
     ensures err { OnErr result (S.left source.new ≡ S.left source.old) }
     ensures written { S.written source.new ≡ S.written source.old }
+    ensures sent { S.sent source.new ≡ S.sent source.old }
     ensures counted { Counted (S.faults source.old) (S.faults source.new) (IsErr result) }
 {
     let mut room = [0u8; 1];
@@ -58,12 +60,14 @@ pub fn read_exactly<S: Source>(
     source: &mut S,
     count: usize,
 ) -> Result<Vec<u8>, ReadFault>
+    requires sent { S.sent source.old ≡ S.written source.old }
     ensures count_is { IfOk result (λ got. length got.items ≡ count) }
     ensures told { IfOk result (λ got. S.left source.old ≡ before got.items (S.left source.new)) }
     ensures ended { IfErr result (λ fault. fault ≡ ReadFault.Ended → IsShort (S.left source.old) count) }
     ensures end { IfErr result (λ fault. fault ≡ ReadFault.Ended → IsEnd (S.left source.new)) }
     ensures front { OnErr result (TookFront (S.left source.old) (S.left source.new) count) }
     ensures written { S.written source.new ≡ S.written source.old }
+    ensures sent { S.sent source.new ≡ S.sent source.old }
     ensures counted { Counted (S.faults source.old) (S.faults source.new) (IsErrOf result ReadFault.Failed) }
 {
     let Ok(mut room) = vec![in alloc; 0u8; count.min(PIECE)] else {
@@ -82,12 +86,14 @@ pub fn read_exactly<S: Source>(
 
 /// Reads one piece, of at most as many bytes as `room` has, and puts it behind what was got.
 fn add_piece<S: Source>(source: &mut S, room: &mut [u8], got: &mut Vec<u8>) -> Result<(), ReadFault>
-    requires { 0 < length room.old }
+    requires room { 0 < length room.old }
+    requires sent { S.sent source.old ≡ S.written source.old }
     ensures ok { OnOk result (AddsPiece got.old.items got.new.items (S.left source.old) (S.left source.new) (length room.old)) }
     ensures ended { IfErr result (λ fault. fault ≡ ReadFault.Ended → IsEnd (S.left source.old)) }
     ensures end { IfErr result (λ fault. fault ≡ ReadFault.Ended → S.left source.new ≡ S.left source.old) }
     ensures front { OnErr result (TookFront (S.left source.old) (S.left source.new) (length room.old)) }
     ensures written { S.written source.new ≡ S.written source.old }
+    ensures sent { S.sent source.new ≡ S.sent source.old }
     ensures counted { Counted (S.faults source.old) (S.faults source.new) (IsErrOf result ReadFault.Failed) }
 {
     match source.read(room) {

@@ -1,15 +1,24 @@
+ghost use Rattle.std.specs.Prelude.{◌≡◌, OnOk};
+
 use super::*;
 use std::alloc::Global;
 use std::test::Fail;
 use std::thread::{Threads, join};
 
 /// Sends `count` bytes of a link back to it.
-fn echo<L: Link>(alloc: Global, link: &mut L, count: usize) -> Result<(), ReadFault> {
-    let bytes = read_exactly(alloc, link, count)?;
-    if write_all(link, &bytes).is_err() || link.flush().is_err() {
+fn echo<L: Link + Drop>(alloc: Global, mut link: L, count: usize) -> Result<(), ReadFault>
+    requires { L.sent link ≡ L.written link }
+{
+    let bytes = read_exactly(alloc, &mut link, count)?;
+    if write_all(&mut link, &bytes).is_err() || link.flush().is_err() {
         return Err(ReadFault::Failed);
     }
     Ok(())
+}
+
+/// Writes a byte, and says how many bytes went out.
+fn write_byte<K: Sink>(sink: &mut K) -> Result<usize, Failed> {
+    sink.write(b"x")
 }
 
 /// Two readings of a clock.
@@ -18,12 +27,12 @@ fn two_readings<C: Clock>(clock: &mut C) -> (u64, u64) {
 }
 
 /// Lends a link to one thread and a clock to another, and says what they gave.
-fn read_apart<L: Link, C: Clock>(
+fn write_apart<L: Link, C: Clock>(
     rt: &impl Threads,
     link: &mut L,
     clock: &mut C,
-) -> (Result<Option<u8>, Failed>, Moment) {
-    join(rt, || read_byte(link), || clock.now())
+) -> (Result<usize, Failed>, Moment) {
+    join(rt, || write_byte(link), || clock.now())
 }
 
 /// Moves a link into one thread and a clock into another, and gives both back.
@@ -35,7 +44,7 @@ fn move_apart<L: Link + Drop, C: Clock + Drop>(
     join(
         rt,
         move || {
-            let _ = read_byte(&mut link);
+            let _ = write_byte(&mut link);
             link
         },
         move || {
@@ -50,10 +59,12 @@ fn bytes_come_back_in_their_order(rt: HostRuntime) -> Result<(), Fail> {
     let alloc = rt.alloc();
     let input = b"hello".to_vec(alloc)?;
     let mut link = MemoryLink::new(alloc, input, 16, Vec::new(alloc))?;
+    assert_eq!(rt; read_byte(&mut link), Ok(Some(b'h')));
     assert_eq!(rt; echo(alloc, &mut link, 4), Ok(()));
-    assert_eq!(rt; link.output(), b"hell".as_slice());
-    assert_eq!(rt; read_byte(&mut link), Ok(Some(b'o')));
-    assert_eq!(rt; read_byte(&mut link), Ok(None));
+    assert_eq!(rt; link.sent(), b"ello".as_slice());
+    assert_eq!(rt; write_byte(&mut link), Ok(1));
+    assert_eq!(rt; link.output(), b"ellox".as_slice());
+    assert_eq!(rt; link.sent(), b"ello".as_slice());
     assert_eq!(rt; link.faults(), 0);
     Ok(())
 }
@@ -65,6 +76,7 @@ fn a_claimed_length_takes_no_memory(rt: HostRuntime) -> Result<(), Fail> {
     let mut link = MemoryLink::new(alloc, input, 0, Vec::new(alloc))?;
     let got = read_exactly(alloc, &mut link, usize::MAX);
     assert!(rt; matches!(got, Err(ReadFault::Ended)));
+    assert_eq!(rt; read_byte(&mut link), Ok(None));
     Ok(())
 }
 
@@ -80,6 +92,7 @@ fn listed_calls_and_writes_past_the_room_fail(rt: HostRuntime) -> Result<(), Fai
     assert_eq!(rt; link.flush(), Err(Failed));
     assert_eq!(rt; link.write(b"w"), Err(Failed));
     assert_eq!(rt; link.output(), b"xyz".as_slice());
+    assert_eq!(rt; link.sent(), b"".as_slice());
     assert_eq!(rt; link.faults(), 3);
     Ok(())
 }
@@ -103,14 +116,26 @@ fn a_list_clock_keeps_its_last_moment(rt: HostRuntime) -> Result<(), Fail> {
 fn links_and_clocks_go_into_threads(rt: HostRuntime) -> Result<(), Fail> {
     let alloc = rt.alloc();
     let input = b"abc".to_vec(alloc)?;
-    let mut link = MemoryLink::new(alloc, input, 0, Vec::new(alloc))?;
+    let mut link = MemoryLink::new(alloc, input, 2, Vec::new(alloc))?;
     let mut clock = FixedClock::new(Moment::first());
     assert_eq!(rt;
-        read_apart(&rt, &mut link, &mut clock),
-        (Ok(Some(b'a')), Moment::first())
+        write_apart(&rt, &mut link, &mut clock),
+        (Ok(1), Moment::first())
     );
-    let (mut link, mut clock) = move_apart(&rt, link, clock);
-    assert_eq!(rt; read_byte(&mut link), Ok(Some(b'c')));
+    let (link, mut clock) = move_apart(&rt, link, clock);
+    assert_eq!(rt; link.output(), b"xx".as_slice());
     assert_eq!(rt; two_readings(&mut clock), (0, 0));
+    Ok(())
+}
+
+/// Holds at a gate, as a connection does.
+fn hold_at<G: Gate>(gate: &mut G) {
+    gate.hold(0);
+}
+
+#[test]
+fn an_open_gate_holds_nothing(_rt: HostRuntime) -> Result<(), Fail> {
+    let mut gate = OpenGate;
+    hold_at(&mut gate);
     Ok(())
 }

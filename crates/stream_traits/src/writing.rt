@@ -4,10 +4,11 @@ ghost use Rattle.stream_traits.specs.Told.{behind, WroteFront};
 
 use crate::link::{Failed, Faults, Sink};
 
-/// Writes all of `bytes`. Where a write fails, a front of them may be out.
+/// Writes all of `bytes`, and sends nothing. If a write fails, a prefix of them may be written.
 pub fn write_all<K: Sink>(sink: &mut K, bytes: &[u8]) -> Result<(), Failed>
     ensures all { OnOk result (K.written sink.new ≡ behind (K.written sink.old) bytes.now) }
     ensures front { OnErr result (WroteFront (K.written sink.old) (K.written sink.new) bytes.now) }
+    ensures sent { K.sent sink.new ≡ K.sent sink.old }
     ensures left { K.left sink.new ≡ K.left sink.old }
     ensures counted { Counted (K.faults sink.old) (K.faults sink.new) (IsErr result) }
 {

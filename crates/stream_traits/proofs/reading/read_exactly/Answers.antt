@@ -1,6 +1,6 @@
 use Rattle.std.proofs.Common.{arith}
 use Rattle.std.proofs.lemmas.Grind.{common_steps}
-use Rattle.stream_traits.specs.Told.{TookFront-after}
+use Rattle.stream_traits.specs.ToldLaws.{TookFront-after}
 use Rattle.stream_traits.proofs.reading.read_exactly.Goals as goal
 
 pub returns-in-Err-clause-front : goal.returns-in-Err-clause-front

@@ -8,7 +8,8 @@ invariant-loop-room g l = record {
   piece : vec_len l.room ≡ min l.count 65536;
   told : g.S.Faults.left l.initial.source ≡ before l.got.items (g.S.Faults.left l.source);
   written : g.S.Faults.written l.source ≡ g.S.Faults.written l.initial.source;
-  later : g.S.Faults.faults l.initial.source ≤ g.S.Faults.faults l.source;
+  sent : g.S.Faults.sent l.source ≡ g.S.Faults.sent l.initial.source;
+  same : g.S.Faults.faults l.source ≡ g.S.Faults.faults l.initial.source;
 }
 
 abbrev pub decreases-loop-room : goal.decreases-loop-room

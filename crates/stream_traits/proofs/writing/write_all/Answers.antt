@@ -9,5 +9,6 @@ loop-done-preserved g c =
       in_range = search rules;
       wrote = c.in-Ok.ensures.wrote ∙ behind-take_more _ _ c.args.bytes.now c.loop-done.done c.in-Ok.count before.wrote;
       left = c.write.ensures.left ∙ before.left;
-      later = search rules;
+      sent = c.write.ensures.sent ∙ before.sent;
+      same = search rules;
     }

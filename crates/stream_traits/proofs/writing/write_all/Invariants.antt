@@ -7,7 +7,8 @@ invariant-loop-done g l = record {
   in_range : l.done ≤ length l.bytes;
   wrote : g.K.Faults.written l.sink ≡ behind (g.K.Faults.written l.initial.sink) (take l.done l.bytes);
   left : g.K.Faults.left l.sink ≡ g.K.Faults.left l.initial.sink;
-  later : g.K.Faults.faults l.initial.sink ≤ g.K.Faults.faults l.sink;
+  sent : g.K.Faults.sent l.sink ≡ g.K.Faults.sent l.initial.sink;
+  same : g.K.Faults.faults l.sink ≡ g.K.Faults.faults l.initial.sink;
 }
 
 abbrev pub decreases-loop-done : goal.decreases-loop-done
