@@ -9,7 +9,8 @@ use Rattle.wire_bytes.specs.Reading.{Reading, left, further, AreBytes, Passes}
 use Rattle.wire_bytes.specs.Layout.{HasLength}
 use Rattle.wire_bytes.specs.Kind.{IsCut, Reads, ReadsField, IsReadOneWay}
 use Rattle.wire_bytes.specs.Fields.{◌>>=◌, Gives, bytes_at}
-use Rattle.wire_bytes.proofs.Steps.{further-left, further-passes, Passes-none, Passes-append, bind_ok, ok_is, err_is, guard_ok, guard_err}
+use Rattle.wire_bytes.specs.ReadingLaws.{passes_both}
+use Rattle.wire_bytes.proofs.Steps.{further-left, further-passes, Passes-none, bind_ok, ok_is, err_is, guard_ok, guard_err}
 
 -- at reads values by this layout
 pub record IsLayout {V : Type 0} (at : Reading → Result (V × Reading) FieldFault) (Fits : V → Type 0) (layout : V → List ℕ) : Type 0 where
@@ -113,7 +114,7 @@ then_layout {A} {B} {first} {FitsA} {front} {Fits} {back} rest key one part_fits
       let a = bind_ok (first from) rest (b, to) e in
       let t = one.takes from a.0.1 a.0.0 are a.1 in
       let u = (others a.0.0 t.0).takes a.0.1 to b (subst AreBytes (sym t.1.whole) are) a.2 in
-      (u.0.1, subst (λ (x : A). Passes from to (front x ++ back b)) (sym u.0.0) (Passes-append from a.0.1 to (front a.0.0) (back b) t.1 u.1));
+      (u.0.1, subst (λ (x : A). Passes from to (front x ++ back b)) (sym u.0.0) (passes_both from a.0.1 to (front a.0.0) (back b) t.1 u.1));
   again = λ from b behind fits e.
       let parts : left from ≡ front (key b) ++ (back b ++ behind) = e ∙ append_assoc (front (key b)) (back b) behind in
       let a = one.again from (key b) (back b ++ behind) (part_fits b fits) parts in

@@ -4,4 +4,3 @@ pub mod Numbers
 pub mod Signed
 pub mod Texts
 pub mod Flags
-pub mod Seals

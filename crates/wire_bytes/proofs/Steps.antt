@@ -1,7 +1,7 @@
 -- Bytes that a reader goes past, and steps that may fail.
-use Rattle.std.proofs.Common.{◌≡◌, ℕ, ◌+◌, Bool, true, false, cond, List, [], ◌++◌, length, drop, replicate, Result, Ok, Err, refl, sym, ap, ◌∙◌, append_assoc, arith, inl, inr, ◌⊎◌}
+use Rattle.std.proofs.Common.{◌≡◌, ℕ, ◌+◌, Bool, true, false, cond, List, [], ◌++◌, length, drop, replicate, Result, Ok, Err, refl, sym, ap, ◌∙◌, arith, inl, inr, ◌⊎◌}
 use Rattle.std.proofs.lemmas.Bool.{cases_lt}
-use Rattle.std.proofs.lemmas.List.{drop-drop, drop_at, length-append, length-replicate, get_or-drop, get_or_past, get_or_append_left, get_or-append_right, get_or-replicate}
+use Rattle.std.proofs.lemmas.List.{drop-drop, drop_at, length-replicate, get_or-drop, get_or_past, get_or_append_left, get_or-append_right, get_or-replicate}
 use Rattle.wire_bytes.specs.declared.fault.FieldFault.{FieldFault}
 use Rattle.wire_bytes.specs.Reading.{Reading, left, further, AreBytes, Passes}
 use Rattle.wire_bytes.specs.Fields.{◌>>=◌}
@@ -51,14 +51,6 @@ further-passes from front rest e = record {
 -- nothing was gone past
 pub Passes-none : (at : Reading) → Passes at at []
 Passes-none at = record { whole = refl; offset = omega arith; parts = refl }
-
--- one field after another
-pub Passes-append : (a b c : Reading) (xs ys : List ℕ) → Passes a b xs → Passes b c ys → Passes a c (xs ++ ys)
-Passes-append a b c xs ys p q = record {
-  whole = q.whole ∙ p.whole;
-  offset = omega (arith, p.offset, q.offset, length-append xs ys);
-  parts = p.parts ∙ ap (λ (r : List ℕ). xs ++ r) q.parts ∙ sym (append_assoc xs ys (left c));
-}
 
 -- what was gone past tells where the reader stands
 pub Passes-further : (a b : Reading) (xs : List ℕ) → Passes a b xs → b ≡ further a (length xs)

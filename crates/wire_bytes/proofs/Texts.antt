@@ -9,7 +9,8 @@ use Rattle.wire_bytes.specs.Reading.{Reading, left, further, AreBytes, Passes}
 use Rattle.wire_bytes.specs.Layout.{IsFieldWidth, number_bytes, IsNumber, text_bytes, IsText}
 use Rattle.wire_bytes.specs.Kind.{IsCut}
 use Rattle.wire_bytes.specs.Fields.{number_at, text_at}
-use Rattle.wire_bytes.proofs.Steps.{further-left, further-passes, Passes-append, bind_ok, bind_err, guard_ok, guard_err}
+use Rattle.wire_bytes.specs.ReadingLaws.{passes_both}
+use Rattle.wire_bytes.proofs.Steps.{further-left, further-passes, bind_ok, bind_err, guard_ok, guard_err}
 use Rattle.wire_bytes.proofs.Field.{IsField, from_ended}
 use Rattle.wire_bytes.proofs.Numbers.{length-number_bytes, number_field, number_ended}
 
@@ -32,7 +33,7 @@ text_takes w is from to value are e =
     let long : count.0 ≤ length (left count.1) = ltb-false _ _ g.0 in
     let len : length text ≡ count.0 = omega (arith, length-take count.0 (left count.1)) in
     let second = further-passes count.1 text (drop count.0 (left count.1)) (sym (take-append-drop count.0 (left count.1))) in
-    let both = Passes-append from count.1 (further count.1 (length text)) (number_bytes w count.0) text t.1 second in
+    let both = passes_both from count.1 (further count.1 (length text)) (number_bytes w count.0) text t.1 second in
     let whole : IsText w text × Passes from (further count.1 count.0) (text_bytes w text) =
     (subst (IsNumber w) (sym len) t.0, subst (λ (n : ℕ). Passes from (further count.1 n) (text_bytes w text)) len (subst (λ (n : ℕ). Passes from (further count.1 (length text)) (number_bytes w n ++ text)) (sym len) both)) in
     subst (λ (p : List ℕ × Reading). IsText w p.0 × Passes from p.1 (text_bytes w p.0)) g.1 whole

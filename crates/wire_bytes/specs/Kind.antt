@@ -14,12 +14,15 @@ pub record IsCut {V : Type 0} (Fits : V → Type 0) (layout : V → List ℕ) (b
 
 -- A call that reads a value by its layout. Of the value that it gives it went past the layout, and no further. Each
 -- layout is read, whatever follows it. So it fails only where no layout stands.
-pub record Reads {X V E : Type 0} (view : X → V) (Fits : V → Type 0) (layout : V → List ℕ) (old : Reading) (result : Result X E) (new : Reading) : Type 0 where
+pub record Reads {X V E : Type 0} (view : X → V) (Fits : V → Type 0) (layout : V → List ℕ) (old : Reading) (result : Result X E)
+    (new : Reading) : Type 0 where
   pub found : IfOk result (λ x. Fits (view x) × Passes old new (layout (view x)))
-  pub back : (value : V) (rest : List ℕ) → Fits value → left old ≡ layout value ++ rest → IsOkAnd result (λ x. (view x ≡ value) × (left new ≡ rest))
+  pub back : (value : V) (rest : List ℕ) → Fits value → left old ≡ layout value ++ rest
+      → IsOkAnd result (λ x. (view x ≡ value) × (left new ≡ rest))
 
 -- A call that reads a field of a kind: `Ended` comes exactly where the end cuts a layout off.
-pub record ReadsField {X V : Type 0} (view : X → V) (Fits : V → Type 0) (layout : V → List ℕ) (old : Reading) (result : Result X FieldFault) (new : Reading) : Type 0 where
+pub record ReadsField {X V : Type 0} (view : X → V) (Fits : V → Type 0) (layout : V → List ℕ) (old : Reading) (result : Result X FieldFault)
+    (new : Reading) : Type 0 where
   pub reads : Reads view Fits layout old result new
   pub ended : (result ≡ Err (Ended old.offset)) ↔ IsCut Fits layout (left old)
 

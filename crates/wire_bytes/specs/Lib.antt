@@ -1,5 +1,14 @@
 pub mod Reading
+pub mod ReadingLaws
 pub mod Layout
 pub mod Kind
 pub mod Fields
 pub mod Seal
+pub mod SealLaws
+pub mod Breaks
+pub mod BreakLaws
+pub mod Grammar
+pub mod GrammarReading
+pub mod GrammarLaws
+pub mod ItemLaws
+pub mod SealedLaws

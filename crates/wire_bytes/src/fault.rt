@@ -35,3 +35,16 @@ impl fmt::Display for BadSeal {
 }
 
 impl Error for BadSeal {}
+
+/// More stands behind what was to be read. The offset is that of the first byte too much.
+#[derive(Clone, Copy, Debug, PartialEq, Eq)]
+pub struct TrailingBytes(pub usize);
+
+impl fmt::Display for TrailingBytes {
+    fn fmt<W: fmt::Write>(&self, f: &mut fmt::Formatter<W>) -> fmt::Result {
+        let offset = self.0;
+        write!(f, "more stands at {offset} than is to be there")
+    }
+}
+
+impl Error for TrailingBytes {}

@@ -1,13 +1,15 @@
 //! Reads fields from left to right.
 
-ghost use Rattle.std.specs.Prelude.{⊤, ◌≡◌, ◌≤◌, ◌^◌, ◌<◌, ◌↔◌, [], length, take, IsTrue, FitsSigned, OnOk, OnErr, IfErr, IfOk};
+ghost use Rattle.std.specs.Prelude.{⊤, ◌≡◌, ◌≢◌, ◌≤◌, ◌^◌, ◌<◌, ◌↔◌, [], length, take, IsTrue, FitsSigned, Some, OnOk, OnErr, IfErr, IfOk};
 ghost use Rattle.std.specs.Int.{w8, w16, w32, w64};
 ghost use Rattle.wire_bytes.specs.Reading.{at_front, left, further, AreBytes};
 ghost use Rattle.wire_bytes.specs.Layout.{number_bytes, IsNumber, signed_bytes, text_bytes, IsText, flag_bytes, HasLength};
 ghost use Rattle.wire_bytes.specs.Kind.{ReadsField};
+ghost use Rattle.wire_bytes.specs.GrammarReading.{fault_offset, NotSealed, Opens};
 ghost use Rattle.wire_bytes.specs.Fields.{Gives, bytes_at, number_at, signed_at, text_at, flag_at, magic_at};
 
-use crate::fault::FieldFault;
+use crate::fault::{BadSeal, FieldFault, TrailingBytes};
+use crate::sealing::open_sealed;
 use std::marker::Model;
 
 /// Bytes that are read from left to right. A method that refuses leaves the reader where it stood.
@@ -40,6 +42,38 @@ impl<'a> Reader<'a> {
         Reader { bytes, offset: 0 }
     }
 
+    /// A reader at the first byte of the body of a sealed file. The seal is judged first, whatever the body says.
+    pub fn of_sealed(file: &'a [u8]) -> Result<Self, BadSeal>
+        ensures found { IfOk result (Opens file.now) }
+        ensures bad { IfErr result (λ fault. NotSealed file.now fault.0) }
+    {
+        let body = open_sealed(file)?;
+        Ok(Reader::new(body))
+    }
+
+    /// Whether all was read; refused where something is left, at its first byte.
+    pub fn finish(&self) -> Result<(), TrailingBytes>
+        ensures ok { OnOk result (left self.now ≡ []) }
+        ensures err { IfErr result (λ fault. (fault.0 ≡ self.now.offset) × (left self.now ≢ [])) }
+    {
+        if self.is_at_end() {
+            Ok(())
+        } else {
+            Err(TrailingBytes(self.offset))
+        }
+    }
+
+    /// A reader at the same offset. What a refused read leaves is then the first one: `let mut ahead = reader.copy()`,
+    /// the read, and `*reader = ahead` where it went well.
+    pub fn copy(&self) -> Self
+        ensures { result ≡ self.now }
+    {
+        Reader {
+            bytes: self.bytes,
+            offset: self.offset,
+        }
+    }
+
     /// How many bytes were read.
     pub fn offset(&self) -> usize
         ensures value { result ≡ self.now.offset }
@@ -69,6 +103,7 @@ impl<'a> Reader<'a> {
         ensures field { ReadsField (λ bytes. bytes.now) (HasLength count) (λ bytes. bytes) self.old result self.new }
         ensures exact { Gives (λ bytes. bytes.now) result self.new (bytes_at count self.old) }
         ensures same { OnErr result (self.new ≡ self.old) }
+        ensures here { IfErr result (λ fault. fault_offset fault ≡ Some self.old.offset) }
         ensures len { IfOk result (λ bytes. length bytes.now ≡ count) }
         ensures bytes { AreBytes self.old.whole }
     {
@@ -85,6 +120,7 @@ impl<'a> Reader<'a> {
         ensures field { ReadsField (λ digest. digest) (HasLength 16) (λ digest. digest) self.old result self.new }
         ensures exact { Gives (λ digest. digest) result self.new (bytes_at 16 self.old) }
         ensures same { OnErr result (self.new ≡ self.old) }
+        ensures here { IfErr result (λ fault. fault_offset fault ≡ Some self.old.offset) }
         ensures bytes { AreBytes self.old.whole }
     {
         let mut digest = [0u8; 16];
@@ -98,6 +134,7 @@ impl<'a> Reader<'a> {
         ensures field { ReadsField (λ n. n) (IsNumber w8) (number_bytes w8) self.old result self.new }
         ensures exact { Gives (λ n. n) result self.new (number_at w8 self.old) }
         ensures same { OnErr result (self.new ≡ self.old) }
+        ensures here { IfErr result (λ fault. fault_offset fault ≡ Some self.old.offset) }
         ensures bytes { AreBytes self.old.whole }
     {
         let bytes = self.read_bytes(1)?;
@@ -110,6 +147,7 @@ impl<'a> Reader<'a> {
         ensures field { ReadsField (λ n. n) (IsNumber w16) (number_bytes w16) self.old result self.new }
         ensures exact { Gives (λ n. n) result self.new (number_at w16 self.old) }
         ensures same { OnErr result (self.new ≡ self.old) }
+        ensures here { IfErr result (λ fault. fault_offset fault ≡ Some self.old.offset) }
         ensures bytes { AreBytes self.old.whole }
     {
         let bytes = self.read_bytes(2)?;
@@ -122,6 +160,7 @@ impl<'a> Reader<'a> {
         ensures field { ReadsField (λ n. n) (IsNumber w32) (number_bytes w32) self.old result self.new }
         ensures exact { Gives (λ n. n) result self.new (number_at w32 self.old) }
         ensures same { OnErr result (self.new ≡ self.old) }
+        ensures here { IfErr result (λ fault. fault_offset fault ≡ Some self.old.offset) }
         ensures bytes { AreBytes self.old.whole }
     {
         let bytes = self.read_bytes(4)?;
@@ -134,6 +173,7 @@ impl<'a> Reader<'a> {
         ensures field { ReadsField (λ n. n) (IsNumber w64) (number_bytes w64) self.old result self.new }
         ensures exact { Gives (λ n. n) result self.new (number_at w64 self.old) }
         ensures same { OnErr result (self.new ≡ self.old) }
+        ensures here { IfErr result (λ fault. fault_offset fault ≡ Some self.old.offset) }
         ensures bytes { AreBytes self.old.whole }
     {
         let bytes = self.read_bytes(8)?;
@@ -148,6 +188,7 @@ impl<'a> Reader<'a> {
         ensures field { ReadsField (λ z. z) (FitsSigned w64) (signed_bytes w64) self.old result self.new }
         ensures exact { Gives (λ z. z) result self.new (signed_at w64 self.old) }
         ensures same { OnErr result (self.new ≡ self.old) }
+        ensures here { IfErr result (λ fault. fault_offset fault ≡ Some self.old.offset) }
         ensures bytes { AreBytes self.old.whole }
     {
         let bits = self.read_u64()?;
@@ -160,6 +201,7 @@ impl<'a> Reader<'a> {
         ensures field { ReadsField (λ text. text.now) (IsText w8) (text_bytes w8) self.old result self.new }
         ensures exact { Gives (λ text. text.now) result self.new (text_at w8 self.old) }
         ensures same { OnErr result (self.new ≡ self.old) }
+        ensures here { IfErr result (λ fault. fault_offset fault ≡ Some self.old.offset) }
         ensures bytes { AreBytes self.old.whole }
     {
         let start = self.offset;
@@ -173,6 +215,7 @@ impl<'a> Reader<'a> {
         ensures field { ReadsField (λ text. text.now) (IsText w16) (text_bytes w16) self.old result self.new }
         ensures exact { Gives (λ text. text.now) result self.new (text_at w16 self.old) }
         ensures same { OnErr result (self.new ≡ self.old) }
+        ensures here { IfErr result (λ fault. fault_offset fault ≡ Some self.old.offset) }
         ensures bytes { AreBytes self.old.whole }
     {
         let start = self.offset;
@@ -205,6 +248,7 @@ impl<'a> Reader<'a> {
         ensures field { ReadsField (λ flag. flag) (λ _. ⊤) flag_bytes self.old result self.new }
         ensures exact { Gives (λ flag. flag) result self.new (flag_at self.old) }
         ensures same { OnErr result (self.new ≡ self.old) }
+        ensures here { IfErr result (λ fault. fault_offset fault ≡ Some self.old.offset) }
         ensures bytes { AreBytes self.old.whole }
     {
         let start = self.offset;
@@ -224,6 +268,7 @@ impl<'a> Reader<'a> {
         ensures field { ReadsField (λ done. done) (λ _. ⊤) (λ _. magic.now) self.old result self.new }
         ensures exact { Gives (λ done. done) result self.new (magic_at magic.now self.old) }
         ensures same { OnErr result (self.new ≡ self.old) }
+        ensures here { IfErr result (λ fault. fault_offset fault ≡ Some self.old.offset) }
         ensures bytes { AreBytes self.old.whole }
     {
         let left = self.left();

@@ -29,12 +29,17 @@ fn a_table_is_written_and_sealed(rt: HostRuntime) -> Result<(), AllocError> {
 #[test]
 fn a_sealed_table_is_read(rt: HostRuntime) {
     let body = open_sealed(&TABLE).expect(&rt, "the seal is right");
-    let mut reader = Reader::new(body);
+    assert_eq!(rt; body.len(), 62);
+    let mut reader = Reader::of_sealed(&TABLE).expect(&rt, "the seal is right");
     assert_eq!(rt; reader.read_magic(b"RTB1"), Ok(()));
     assert_eq!(rt; reader.read_u32(), Ok(1));
     assert_eq!(rt; reader.read_flag(), Ok(true));
     let path = reader.read_text16().expect(&rt, "a path");
     assert_eq!(rt; path, b"a.txt".as_slice());
+    let mut ahead = reader.copy();
+    assert!(rt; ahead.read_bytes(46).is_ok());
+    assert_eq!(rt; ahead.finish(), Ok(()));
+    assert_eq!(rt; reader.finish(), Err(TrailingBytes(16)));
 }
 
 #[test]

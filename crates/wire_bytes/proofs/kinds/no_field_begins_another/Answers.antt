@@ -3,7 +3,7 @@ use Rattle.wire_bytes.proofs.Numbers.{number_field}
 use Rattle.wire_bytes.proofs.Signed.{signed_field}
 use Rattle.wire_bytes.proofs.Texts.{text_field}
 use Rattle.wire_bytes.proofs.Flags.{flag_field}
-use Rattle.wire_bytes.proofs.Seals.{same_from_sealed}
+use Rattle.wire_bytes.specs.SealLaws.{same_from_sealed}
 use Rattle.wire_bytes.proofs.kinds.no_field_begins_another.Goals as goal
 
 pub returns-clause-numbers : goal.returns-clause-numbers

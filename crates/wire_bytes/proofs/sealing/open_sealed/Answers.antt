@@ -2,7 +2,7 @@ use Rattle.std.proofs.Common.{◌∙◌, sym, ap, length, arith}
 use Rattle.std.proofs.lemmas.Bool.Decides.{Decides-eqb}
 use Rattle.std.proofs.lemmas.Slice.Eq.{slice_eq-Decides}
 use Rattle.md5.specs.Md5.{md5}
-use Rattle.wire_bytes.proofs.Seals.{length-sealed, parts_of_sealed}
+use Rattle.wire_bytes.specs.SealLaws.{length-sealed, parts_of_sealed}
 use Rattle.wire_bytes.proofs.sealing.open_sealed.Goals as goal
 
 pub returns-then-file-lt-SEAL_LEN-clause-back : goal.returns-then-file-lt-SEAL_LEN-clause-back

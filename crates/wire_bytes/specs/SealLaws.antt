@@ -1,4 +1,4 @@
--- The parts of a sealed file.
+-- The parts of a sealed file, which tell its body.
 use Rattle.std.proofs.Common.{◌≡◌, ℕ, ◌+◌, ◌-◌, List, length, take, drop, refl, sym, ap, ◌∙◌, arith}
 use Rattle.std.proofs.lemmas.List.{take_at, drop_at, length-append}
 use Rattle.md5.specs.Md5.{md5}
