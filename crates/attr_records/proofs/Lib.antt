@@ -1,1 +1,2 @@
-mod SharedFronts
+mod Prefixes
+mod SharedPrefixes

@@ -6,3 +6,5 @@ pub record Attributes : Type 0 where
   pub uid : ℕ
   pub gid : ℕ
   pub mtime : ℤ
+  -- behind the seconds of mtime
+  pub nanos : ℕ

@@ -1,9 +1,11 @@
 pub mod Attributes
 pub mod Items
+pub mod NameLaws
 pub mod Names
-pub mod Order
 pub mod Parts
 pub mod PathLaws
+pub mod PathRuleLaws
 pub mod PathRules
 pub mod Paths
+pub mod TreeLaws
 pub mod Trees

@@ -5,6 +5,7 @@ ghost use Rattle.std.specs.Cmp.Lexicographic.{slice_cmp, nat_list_cmp_total, nat
 ghost use Rattle.std.specs.Ordering.{nat_cmp, eq_by_cmp, as_partial_cmp};
 ghost use Rattle.attr_records.specs.Names.{is_host_byte, is_letter_or_digit, begins_with_letter_or_digit, is_host_name, is_link_target};
 
+use crate::limits::{MAX_HOST_NAME_BYTES, MAX_TARGET_BYTES};
 use crate::paths::is_text;
 use std::alloc::{AllocError, Global};
 use std::cmp::Ordering;
@@ -17,6 +18,16 @@ pub enum BadHostName {
     BadName,
     /// There was no memory for the name.
     Memory,
+}
+
+impl From<AllocError> for BadHostName {
+    ghost use Rattle.attr_records.specs.declared.names.BadHostName.TheVariants.{Memory};
+
+    ghost from_gives = { λ _ fault. fault ≡ Memory };
+
+    fn from(_error: AllocError) -> BadHostName {
+        BadHostName::Memory
+    }
 }
 
 /// The name of a host: 1 to 64 bytes of `a` to `z`, `0` to `9`, `.`, `_` and `-`, the first a letter or
@@ -43,10 +54,8 @@ impl HostName {
         if !is_host_name(text) {
             return Err(BadHostName::BadName);
         }
-        match Vec::from_slice(alloc, text) {
-            Ok(bytes) => Ok(HostName { bytes }),
-            Err(_) => Err(BadHostName::Memory),
-        }
+        let bytes = Vec::from_slice(alloc, text)?;
+        Ok(HostName { bytes })
     }
 
     pub fn as_slice(&self) -> &[u8]
@@ -88,6 +97,16 @@ pub enum BadTarget {
     Memory,
 }
 
+impl From<AllocError> for BadTarget {
+    ghost use Rattle.attr_records.specs.declared.names.BadTarget.TheVariants.{Memory};
+
+    ghost from_gives = { λ _ fault. fault ≡ Memory };
+
+    fn from(_error: AllocError) -> BadTarget {
+        BadTarget::Memory
+    }
+}
+
 /// The target of a link: 1 to 4,096 bytes of UTF-8 without a byte 0.
 #[derive(Debug, Drop)]
 pub struct LinkTarget {
@@ -111,10 +130,8 @@ impl LinkTarget {
         if !is_link_target(text) {
             return Err(BadTarget::BadTarget);
         }
-        match Vec::from_slice(alloc, text) {
-            Ok(bytes) => Ok(LinkTarget { bytes }),
-            Err(_) => Err(BadTarget::Memory),
-        }
+        let bytes = Vec::from_slice(alloc, text)?;
+        Ok(LinkTarget { bytes })
     }
 
     /// The target that a text without a fault is, or want of memory.
@@ -197,7 +214,7 @@ fn has_host_bytes(text: &[u8]) -> bool
 pub fn is_host_name(text: &[u8]) -> bool
     ensures { result ≡ is_host_name text.now }
 {
-    begins_with_letter_or_digit(text) && text.len() <= 64 && has_host_bytes(text)
+    begins_with_letter_or_digit(text) && text.len() <= MAX_HOST_NAME_BYTES && has_host_bytes(text)
 }
 
 /// Whether a text is the target of a link.
@@ -205,5 +222,5 @@ pub fn is_host_name(text: &[u8]) -> bool
 pub fn is_link_target(text: &[u8]) -> bool
     ensures { result ≡ is_link_target text.now }
 {
-    !text.is_empty() && text.len() <= 4096 && is_text(text) && !text.contains(&0)
+    !text.is_empty() && text.len() <= MAX_TARGET_BYTES && is_text(text) && !text.contains(&0)
 }

@@ -5,11 +5,13 @@ ghost use Rattle.std.specs.Ordering.{eq_by_cmp, as_partial_cmp};
 ghost use Rattle.std.specs.Cmp.{partial_equiv_from_equiv, eq_by_cmp_equiv, partial_order_from_total};
 ghost use Rattle.std.specs.Str.{is_utf8};
 ghost use Rattle.std.specs.List.{list_any};
-ghost use Rattle.attr_records.specs.Paths.{path_cmp, path_cmp_total, rank, components, parent, is_within};
-ghost use Rattle.attr_records.specs.PathLaws.{components_cmp};
+ghost use Rattle.attr_records.specs.Paths.{path_cmp, rank, components, parent, is_within};
+ghost use Rattle.attr_records.specs.PathLaws.{path_cmp_total};
+ghost use Rattle.attr_records.specs.Paths.{components_cmp};
 ghost use Rattle.attr_records.specs.PathRules.{broken_path_rule, broken_component_rule, is_dot_component};
 ghost use Rattle.attr_records.specs.Parts.{other_components, left_to_scan};
 
+use crate::limits::{MAX_COMPONENT_BYTES, MAX_PATH_BYTES};
 use std::alloc::{AllocError, Global};
 use std::cmp::Ordering;
 use std::marker::Model;
@@ -35,6 +37,16 @@ pub enum BadPath {
     Memory,
 }
 
+impl From<AllocError> for BadPath {
+    ghost use Rattle.attr_records.specs.declared.paths.BadPath.TheVariants.{Memory};
+
+    ghost from_gives = { λ _ fault. fault ≡ Memory };
+
+    fn from(_error: AllocError) -> BadPath {
+        BadPath::Memory
+    }
+}
+
 /// A path: 1 to 4,096 bytes of UTF-8, components of 1 to 255 bytes joined by slashes, without a byte
 /// 0, and no component `.` or `..`. Paths are ordered component by component, each by its bytes.
 #[derive(Debug, Drop)]
@@ -56,13 +68,11 @@ impl PathName {
         ensures ok { IfOk result (λ path. (path ≡ bytes.now) × (broken_path_rule bytes.now ≡ None)) }
         ensures rule { IfErr result (λ fault. fault ≢ BadPath.Memory → broken_path_rule bytes.now ≡ Some fault) }
     {
-        match broken_path_rule(bytes) {
-            Some(rule) => Err(rule),
-            None => match Vec::from_slice(alloc, bytes) {
-                Ok(bytes) => Ok(PathName { bytes }),
-                Err(_) => Err(BadPath::Memory),
-            },
+        if let Some(rule) = broken_path_rule(bytes) {
+            return Err(rule);
         }
+        let bytes = Vec::from_slice(alloc, bytes)?;
+        Ok(PathName { bytes })
     }
 
     /// The path of bytes that break no rule, or want of memory.
@@ -89,7 +99,7 @@ impl PathName {
         Ok(PathName { bytes })
     }
 
-    /// The directory that the path lies in, None where it has one component.
+    /// The directory that the path lies in, None if it has one component.
     pub fn parent(&self) -> Option<&[u8]>
         ensures { option_copied result ≡ parent self.now }
     {
@@ -148,14 +158,14 @@ impl Ord for PathName {
     }
 }
 
-/// The place of a byte in the order of paths: the slash comes before every other byte.
+/// The rank of a byte in the order of paths: the slash comes before every other byte.
 fn rank(byte: u8) -> u16
     ensures { result ≡ rank byte }
 {
     if byte == b'/' { 0 } else { u16::from(byte) + 1 }
 }
 
-/// Whether both have eight bytes at the front, and the same.
+/// Whether both begin with the same eight bytes.
 fn begin_alike(a: &[u8], b: &[u8]) -> bool
     ensures alike { result ≡ true → take 8 a.now ≡ take 8 b.now }
     ensures long_a { result ≡ true → 8 ≤ length a.now }
@@ -170,17 +180,17 @@ fn begin_alike(a: &[u8], b: &[u8]) -> bool
     }
 }
 
-/// A place up to which both paths have the same bytes, found eight bytes at a time.
-fn shared_front(a: &[u8], b: &[u8]) -> usize
+/// An index up to which both paths have the same bytes, found eight bytes at a time.
+fn shared_prefix(a: &[u8], b: &[u8]) -> usize
     ensures within_a { result ≤ length a.now }
     ensures within_b { result ≤ length b.now }
     ensures same { path_cmp (drop result a.now) (drop result b.now) ≡ path_cmp a.now b.now }
 {
-    let mut front = 0;
-    while begin_alike(&a[front..], &b[front..]) {
-        front += 8;
+    let mut prefix = 0;
+    while begin_alike(&a[prefix..], &b[prefix..]) {
+        prefix += 8;
     }
-    front
+    prefix
 }
 
 /// Which of two paths comes first, byte by byte.
@@ -206,8 +216,8 @@ fn compare_bytes(a: &[u8], b: &[u8]) -> Ordering
 pub fn compare(a: &[u8], b: &[u8]) -> Ordering
     ensures { result ≡ path_cmp a.now b.now }
 {
-    let front = shared_front(a, b);
-    compare_bytes(&a[front..], &b[front..])
+    let prefix = shared_prefix(a, b);
+    compare_bytes(&a[prefix..], &b[prefix..])
 }
 
 /// The same order, said of the components: the first that differ decide, each by its bytes.
@@ -255,7 +265,7 @@ fn broken_component(path: &[u8]) -> Option<BadPath>
             return Some(BadPath::EmptyComponent);
         }
         has_dot |= is_dot(component);
-        has_long |= component.len() > 255;
+        has_long |= component.len() > MAX_COMPONENT_BYTES;
         rest = others;
     }
     if has_dot {
@@ -288,7 +298,7 @@ pub fn broken_path_rule(bytes: &[u8]) -> Option<BadPath>
     if bytes.is_empty() {
         return Some(BadPath::Empty);
     }
-    if bytes.len() > 4096 {
+    if bytes.len() > MAX_PATH_BYTES {
         return Some(BadPath::TooLong);
     }
     if bytes.contains(&0) {
@@ -297,7 +307,7 @@ pub fn broken_path_rule(bytes: &[u8]) -> Option<BadPath>
     broken_component(bytes)
 }
 
-/// What stands before the last slash of a path, None where there is none.
+/// What stands before the last slash of a path, None if there is none.
 pub fn parent(path: &[u8]) -> Option<&[u8]>
     ensures { option_copied result ≡ parent path.now }
 {

@@ -1,6 +1,6 @@
 use crate::{
-    Attr, BadHostName, BadPath, BadTarget, HostName, Item, LinkTarget, PathName, PutRule,
-    broken_put, broken_put_file, remove,
+    Attr, BadHostName, BadPath, BadTarget, Dir, File, HostName, Item, Link, LinkTarget, MAX_PATHS,
+    PathName, PutRule, broken_put, broken_put_file, remove,
 };
 use disk_trait::Bytes;
 use std::alloc::{AllocError, Global};
@@ -107,24 +107,25 @@ fn names_of_hosts_and_targets_of_links(rt: HostRuntime) -> Result<(), Fail> {
     Ok(())
 }
 
+// A tree of the directory `d` and the link `l` to it.
+fn small_tree(alloc: Global) -> Result<BTreeMap<PathName, Item>, Fail> {
+    let mut tree = BTreeMap::new(alloc);
+    let dir = Dir {
+        attr: Attr::dir_default(),
+    };
+    tree.insert(PathName::read(alloc, b"d")?, Item::Dir(dir))?;
+    let link = Link {
+        attr: Attr::link_default(),
+        target: LinkTarget::read(alloc, b"d")?,
+    };
+    tree.insert(PathName::read(alloc, b"l")?, Item::Link(link))?;
+    Ok(tree)
+}
+
 #[test]
 fn puts_break_the_first_rule(rt: HostRuntime) -> Result<(), Fail> {
     let alloc = rt.alloc();
-    let mut tree = BTreeMap::new(alloc);
-    tree.insert(
-        PathName::read(alloc, b"d")?,
-        Item::Dir {
-            attr: Attr::dir_default(),
-        },
-    )?;
-    let target = LinkTarget::read(alloc, b"d")?;
-    tree.insert(
-        PathName::read(alloc, b"l")?,
-        Item::Link {
-            attr: Attr::link_default(),
-            target,
-        },
-    )?;
+    let tree = small_tree(alloc)?;
     let cases: [(&[u8], u64, Option<PutRule>); 6] = [
         (b"d/f", 5, None),
         (b"l/f", 5, Some(PutRule::NoParent)),
@@ -137,14 +138,55 @@ fn puts_break_the_first_rule(rt: HostRuntime) -> Result<(), Fail> {
         let path = PathName::read(alloc, bytes)?;
         assert_eq!(rt; broken_put_file(alloc, &tree, &path, size)?, rule);
     }
-    let file = Item::File {
-        attr: Attr::file_default(),
+    Ok(())
+}
+
+#[test]
+fn a_copy_is_equal_and_a_removal_takes_all_below(rt: HostRuntime) -> Result<(), Fail> {
+    let alloc = rt.alloc();
+    let mut tree = small_tree(alloc)?;
+    let file = Item::File(File {
+        attr: Attr::new(0o640, 1, 2, -3, 999_999_999),
+        group: 7,
         bytes: Bytes::from_slice(alloc, b"hello")?,
-    };
+    });
     let path = PathName::read(alloc, b"d/f")?;
     assert_eq!(rt; broken_put(alloc, &tree, &path, &file)?, None);
-    tree.insert(path, file.copy(alloc)?)?;
+    let copy = file.copy(alloc)?;
+    assert!(rt; copy == file);
+    tree.insert(path, copy)?;
+    for item in tree.values() {
+        assert!(rt; item.copy(alloc)? == *item);
+    }
     remove(&mut tree, &PathName::read(alloc, b"d")?);
     assert_eq!(rt; tree.len(), 1);
+    Ok(())
+}
+
+// A path of five digits, the lowest first.
+fn numbered_path(alloc: Global, number: usize) -> Result<PathName, Fail> {
+    let mut digits = Vec::new(alloc);
+    let mut left = number;
+    for _ in 0..5 {
+        digits.push(b"0123456789abcdef"[left % 16])?;
+        left /= 16;
+    }
+    Ok(PathName::read(alloc, digits.as_slice())?)
+}
+
+#[test]
+fn a_full_tree_takes_no_other_path(rt: HostRuntime) -> Result<(), Fail> {
+    let alloc = rt.alloc();
+    let dir = Dir {
+        attr: Attr::dir_default(),
+    };
+    let mut tree = BTreeMap::new(alloc);
+    for number in 0..MAX_PATHS {
+        tree.insert(numbered_path(alloc, number)?, Item::Dir(dir))?;
+    }
+    let (first, other) = (numbered_path(alloc, 0)?, PathName::read(alloc, b"x")?);
+    assert_eq!(rt; broken_put(alloc, &tree, &first, &Item::Dir(dir))?, None);
+    let full = Some(PutRule::TooManyEntries);
+    assert_eq!(rt; broken_put(alloc, &tree, &other, &Item::Dir(dir))?, full);
     Ok(())
 }

@@ -2,18 +2,12 @@ ghost use Rattle.std.specs.Prelude.{◌≡◌, ℕ, List, length, IfOk};
 ghost use Rattle.attr_records.specs.Paths.{parent};
 ghost use Rattle.attr_records.specs.Items.{is_dir, is_large};
 ghost use Rattle.attr_records.specs.Trees.{without, is_dir_at, is_parent_in, broken_rule, broken_put};
-ghost use Rattle.attr_records.specs.Attributes.{Attributes};
 
-use crate::nodes::Item;
+use crate::limits::{MAX_FILE_BYTES, MAX_PATHS};
+use crate::nodes::{File, Item};
 use crate::paths::{PathName, is_within};
 use std::alloc::{AllocError, Global};
 use std::collections::BTreeMap;
-
-/// The most paths that a tree has.
-pub const MOST_PATHS: usize = 1_048_576;
-
-/// The most bytes that a file of a tree has.
-pub const MOST_FILE_BYTES: u64 = 67_108_864;
 
 /// Why a node may not be put at a path. The rules stand in the order in which they are judged.
 #[derive(Clone, Copy, Debug, PartialEq, Eq)]
@@ -68,7 +62,7 @@ fn broken_rule(
     if is_dir_at(tree, path) && !dir {
         return Ok(Some(PutRule::IsDirectory));
     }
-    if tree.len() >= MOST_PATHS && !tree.contains_key(path) {
+    if tree.len() >= MAX_PATHS && !tree.contains_key(path) {
         return Ok(Some(PutRule::TooManyEntries));
     }
     if large {
@@ -89,7 +83,7 @@ pub fn broken_put(
     Ok(broken_rule(alloc, tree, path, item.is_dir(), item.is_large())?)
 }
 
-/// The first rule that a put of a File of so many bytes breaks, or want of memory. It costs a logarithm
+/// The first rule that a put of a File of that size breaks, or want of memory. It costs a logarithm
 /// of the tree.
 pub fn broken_put_file(
     alloc: Global,
@@ -97,10 +91,10 @@ pub fn broken_put_file(
     path: &PathName,
     size: u64,
 ) -> Result<Option<PutRule>, AllocError>
-    ensures { IfOk result (λ rule. (attr : Attributes) (bytes : List ℕ) → length bytes ≡ size
-        → rule ≡ broken_put is_dir is_large tree.now.entries path.now (Item.File attr bytes)) }
+    ensures { IfOk result (λ rule. (file : File) → length file.bytes ≡ size
+        → rule ≡ broken_put is_dir is_large tree.now.entries path.now (Item.File file)) }
 {
-    Ok(broken_rule(alloc, tree, path, false, size > MOST_FILE_BYTES)?)
+    Ok(broken_rule(alloc, tree, path, false, size > MAX_FILE_BYTES)?)
 }
 
 /// Takes a path and all below it out of a tree.

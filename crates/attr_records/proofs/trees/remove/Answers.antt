@@ -5,4 +5,5 @@ use Rattle.attr_records.specs.Paths.{is_within}
 use Rattle.attr_records.proofs.trees.remove.Goals as goal
 
 pub returns : goal.returns
-returns c = filter_same_pairs _ (λ row. not (is_within c.args.path.now row.0)) _ (λ k v b w f' t. search rules) _ _ c.retain.ensures.filtered
+returns c =
+    filter_same_pairs _ (λ row. not (is_within c.args.path.now row.0)) _ (λ k v b w f' t. search rules) _ _ c.retain.ensures.filtered

@@ -1,7 +1,8 @@
 -- The parent of a path breaks no rule of paths.
 use Rattle.std.proofs.Common.{sym, ap, ◌∙◌}
 use Rattle.attr_records.specs.Paths.{parent}
-use Rattle.attr_records.specs.PathRules.{broken_path_rule, broken_path_rule-parent}
+use Rattle.attr_records.specs.PathRules.{broken_path_rule}
+use Rattle.attr_records.specs.PathRuleLaws.{broken_path_rule-parent}
 use Rattle.attr_records.proofs.paths.PathName.parent_path.Goals as goal
 
 pub invariant_of-result : goal.invariant_of-result
