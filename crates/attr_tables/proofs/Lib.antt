@@ -1,2 +1,1 @@
-mod BodySteps
-mod RowSteps
+mod RowLaws

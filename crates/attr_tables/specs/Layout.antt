@@ -1,25 +1,37 @@
--- The layout of a table's file, and the values that have one.
---     row_bytes      kind u8, path t16, then by kind; rows_bytes joins them
---     table_body, table_file      `RTB1`, the number of rows, the rows;  the same with its seal
---     IsRow, IsTable      the numbers are in their ranges, the texts keep their rules, the paths strictly rise
+-- The layouts of the rows of tables, and the values that have one. The first layout has no nanoseconds and no groups: both are 0.
+--     row_bytes      kind u8, path t16, then by kind
+--     IsRow      the numbers are in their ranges, the texts keep their rules
+--     IsTable      rows whose paths strictly rise, few enough to be counted
 use Rattle.std.specs.Prelude.{◌≡◌, ℕ, ◌<◌, ◌≤◌, true, List, [], ◌∷◌, ◌++◌, length, Option, Some, None, FitsSigned}
 use Rattle.std.specs.Int.{w8, w16, w32, w64}
 use Rattle.std.specs.List.{AllByRecursion}
-use Rattle.std.proofs.Common.{refl, sym, ap, ◌∙◌, append_assoc, arith}
-use Rattle.wire_bytes.specs.Layout.{number_bytes, signed_bytes, text_bytes, IsNumber, IsText}
-use Rattle.wire_bytes.specs.Seal.{sealed}
+use Rattle.wire_bytes.specs.Layout.{number_bytes, signed_bytes, text_bytes, IsNumber}
 use Rattle.disk_trait.specs.declared.ids.PoolId.{PoolId}
+use Rattle.ordered_lists.specs.Order.{IsInOrder, is_after}
 use Rattle.attr_records.specs.Attributes.{Attributes}
 use Rattle.attr_records.specs.Paths.{path_cmp}
-use Rattle.attr_records.specs.PathRules.{broken_path_rule, short_path}
-use Rattle.attr_records.specs.Names.{is_link_target, short_target}
-use Rattle.attr_records.specs.Order.{IsInOrder}
+use Rattle.attr_records.specs.PathRules.{broken_path_rule}
+use Rattle.attr_records.specs.Names.{is_link_target}
 use Rattle.attr_tables.specs.declared.records.Record.{Record}
 use Rattle.attr_tables.specs.declared.records.Record.TheVariants.{File, Dir, Link, Deleted}
+use Rattle.attr_tables.specs.declared.layouts.TableLayout.{TableLayout}
+use Rattle.attr_tables.specs.declared.layouts.TableLayout.TheVariants.{First, Second}
 
--- mode, uid, gid, mtime
-unfoldable pub attr_bytes : Attributes → List ℕ
-attr_bytes attr = number_bytes w32 attr.mode ++ (number_bytes w32 attr.uid ++ (number_bytes w32 attr.gid ++ signed_bytes w64 attr.mtime))
+-- ---- bytes
+
+abbrev pub nanos_bytes : TableLayout → ℕ → List ℕ
+nanos_bytes First nanos = []
+nanos_bytes Second nanos = number_bytes w32 nanos
+
+abbrev pub group_bytes : TableLayout → ℕ → List ℕ
+group_bytes First group = []
+group_bytes Second group = number_bytes w32 group
+
+-- mode, uid, gid, mtime, nanos
+unfoldable pub attr_bytes : TableLayout → Attributes → List ℕ
+attr_bytes layout attr =
+    number_bytes w32 attr.mode ++ (number_bytes w32 attr.uid ++
+    (number_bytes w32 attr.gid ++ (signed_bytes w64 attr.mtime ++ nanos_bytes layout attr.nanos)))
 
 -- the digest and the extension
 abbrev pub id_bytes : PoolId → List ℕ
@@ -31,41 +43,38 @@ content_bytes (Some id) = id_bytes id
 
 -- 0 Deleted, 1 File, 2 Dir, 3 Link
 abbrev pub kind_of : Record → ℕ
-kind_of (File attr size content) = 1
-kind_of (Dir attr) = 2
-kind_of (Link attr target) = 3
+kind_of (File file) = 1
+kind_of (Dir dir) = 2
+kind_of (Link link) = 3
 kind_of Deleted = 0
 
 -- what stands behind the path
-abbrev pub node_bytes : Record → List ℕ
-node_bytes (File attr size content) = attr_bytes attr ++ (number_bytes w64 size ++ content_bytes content)
-node_bytes (Dir attr) = attr_bytes attr
-node_bytes (Link attr target) = attr_bytes attr ++ text_bytes w16 target
-node_bytes Deleted = []
+abbrev pub node_bytes : TableLayout → Record → List ℕ
+node_bytes layout (File file) = attr_bytes layout file.attr ++
+    (group_bytes layout file.group ++ (number_bytes w64 file.size ++ content_bytes file.content))
+node_bytes layout (Dir dir) = attr_bytes layout dir.attr
+node_bytes layout (Link link) = attr_bytes layout link.attr ++ text_bytes w16 link.target
+node_bytes layout Deleted = []
 
-unfoldable pub row_bytes : List ℕ × Record → List ℕ
-row_bytes row = number_bytes w8 (kind_of row.1) ++ (text_bytes w16 row.0 ++ node_bytes row.1)
+unfoldable pub row_bytes : TableLayout → List ℕ × Record → List ℕ
+row_bytes layout row = number_bytes w8 (kind_of row.1) ++ (text_bytes w16 row.0 ++ node_bytes layout row.1)
 
-abbrev pub rows_bytes : List (List ℕ × Record) → List ℕ
-rows_bytes [] = []
-rows_bytes (row ∷ rows) = row_bytes row ++ rows_bytes rows
+-- ---- values
 
--- RTB1
-abbrev pub magic : List ℕ
-magic = 82 ∷ 84 ∷ 66 ∷ 49 ∷ []
+abbrev pub IsNanos : TableLayout → ℕ → Type 0
+IsNanos First nanos = nanos ≡ 0
+IsNanos Second nanos = nanos ≤ 999999999
 
-unfoldable pub table_body : List (List ℕ × Record) → List ℕ
-table_body rows = magic ++ (number_bytes w32 (length rows) ++ rows_bytes rows)
+abbrev pub IsGroup : TableLayout → ℕ → Type 0
+IsGroup First group = group ≡ 0
+IsGroup Second group = IsNumber w32 group
 
--- the file of a table
-abbrev pub table_file : List (List ℕ × Record) → List ℕ
-table_file rows = sealed (table_body rows)
-
-pub record IsAttr (attr : Attributes) : Type 0 where
+pub record IsAttr (layout : TableLayout) (attr : Attributes) : Type 0 where
   pub mode : attr.mode ≤ 4095
   pub uid : IsNumber w32 attr.uid
   pub gid : IsNumber w32 attr.gid
   pub mtime : FitsSigned w64 attr.mtime
+  pub nanos : IsNanos layout attr.nanos
 
 pub record IsId (id : PoolId) : Type 0 where
   pub digest : length id.digest ≡ 16
@@ -83,38 +92,33 @@ IsPath path = broken_path_rule path ≡ None
 abbrev pub IsTarget : List ℕ → Type 0
 IsTarget target = is_link_target target ≡ true
 
-abbrev pub IsNode : Record → Type 0
-IsNode (File attr size content) = IsAttr attr × IsNumber w64 size × IsContent size content
-IsNode (Dir attr) = IsAttr attr
-IsNode (Link attr target) = IsAttr attr × IsTarget target
-IsNode Deleted = Unit {0}
+abbrev pub IsNode : TableLayout → Record → Type 0
+IsNode layout (File file) = IsAttr layout file.attr × IsGroup layout file.group × IsNumber w64 file.size × IsContent file.size file.content
+IsNode layout (Dir dir) = IsAttr layout dir.attr
+IsNode layout (Link link) = IsAttr layout link.attr × IsTarget link.target
+IsNode layout Deleted = Unit {0}
 
-pub record IsRow (row : List ℕ × Record) : Type 0 where
+pub record IsRow (layout : TableLayout) (row : List ℕ × Record) : Type 0 where
   pub path : IsPath row.0
-  pub node : IsNode row.1
+  pub node : IsNode layout row.1
 
--- rows in order, each of them in its ranges
-pub record AreRows (rows : List (List ℕ × Record)) : Type 0 where
+-- ---- rows
+
+-- the paths and what is said of each
+abbrev pub Rows : Type 0
+Rows = List (List ℕ × Record)
+
+-- a row whose path comes after those of the rows before it
+abbrev pub IsNext : TableLayout → Rows → List ℕ × Record → Type 0
+IsNext layout before row = IsRow layout row × (is_after path_cmp before row.0 ≡ true)
+
+-- rows that have a file
+pub record IsTable (layout : TableLayout) (rows : Rows) : Type 0 where
   pub in_order : IsInOrder path_cmp rows
-  pub each : AllByRecursion IsRow rows
-
--- the same, few enough to be counted
-pub record IsTable (rows : List (List ℕ × Record)) : Type 0 where
-  pub in_turn : AreRows rows
+  pub each : AllByRecursion (IsRow layout) rows
   pub count : IsNumber w32 (length rows)
 
--- the bytes of rows and of those behind them
-pub rows_bytes-append : (rows more : List (List ℕ × Record)) → rows_bytes (rows ++ more) ≡ rows_bytes rows ++ rows_bytes more
-rows_bytes-append [] more = refl
-rows_bytes-append (row ∷ rows) more = ap (λ bytes. row_bytes row ++ bytes) (rows_bytes-append rows more) ∙ sym (append_assoc (row_bytes row) (rows_bytes rows) (rows_bytes more))
-
-pub AllByRecursion-append : {X : Type 0} (P : X → Type 0) (xs ys : List X) → AllByRecursion P xs → AllByRecursion P ys → AllByRecursion P (xs ++ ys)
-AllByRecursion-append P [] ys a b = b
-AllByRecursion-append P (x ∷ xs) ys a b = (a.0, AllByRecursion-append P xs ys a.1 b)
-
--- a path and a target are short enough to be counted in two bytes
-pub counted_path : (path : List ℕ) → IsPath path → IsText w16 path
-counted_path path kept = let n : length path ≤ 4096 = short_path path kept in omega arith
-
-pub counted_target : (target : List ℕ) → IsTarget target → IsText w16 target
-counted_target target kept = let n : length target ≤ 4096 = short_target target kept in omega arith
+-- RTB1 or RTB2
+abbrev pub magic_of : TableLayout → List ℕ
+magic_of First = 82 ∷ 84 ∷ 66 ∷ 49 ∷ []
+magic_of Second = 82 ∷ 84 ∷ 66 ∷ 50 ∷ []

@@ -1,6 +1,6 @@
-pub mod Breaks
 pub mod Layout
 pub mod RawRows
+pub mod RecordLaws
 pub mod Records
-pub mod Rows
-pub mod Steps
+pub mod TableLaws
+pub mod Tables

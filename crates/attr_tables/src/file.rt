@@ -1,114 +1,146 @@
 //! Reads the file of a table.
 
-ghost use Rattle.std.specs.Prelude.{◌≡◌, ◌+◌, ◌++◌, ◌∷◌, [], List, ℕ, true, length, IfOk, IfErr, MatchResult};
-ghost use Rattle.wire_bytes.specs.Reading.{left, Passes};
-ghost use Rattle.attr_records.specs.Paths.{path_cmp};
-ghost use Rattle.attr_tables.specs.declared.records.Record.{Record};
-ghost use Rattle.attr_tables.specs.Rows.{is_behind};
-ghost use Rattle.attr_tables.specs.Breaks.{IsFaultAt, IsFaultOfRows, IsFaultOfBody, IsFaultOf};
-ghost use Rattle.attr_tables.specs.Layout.{row_bytes, rows_bytes, table_body, table_file, IsRow, AreRows, IsTable};
+ghost use Rattle.std.specs.Prelude.{⊤, ◌≡◌, Some, None};
+ghost use Rattle.std.specs.Int.{w32};
+ghost use Rattle.wire_bytes.specs.Layout.{IsNumber};
+ghost use Rattle.wire_bytes.specs.Grammar.{field, number, items_of};
+ghost use Rattle.wire_bytes.specs.GrammarReading.{ReadsOrBreaks, ReadsSealed};
+ghost use Rattle.attr_tables.specs.Layout.{row_bytes, magic_of, IsRow, IsNext};
+ghost use Rattle.attr_tables.specs.Tables.{table_grammar, offset_of};
 
+use crate::layouts::TableLayout;
 use crate::reading::{own_row, read_row};
+use crate::rows::Row;
 use crate::table::{PushFault, Table};
-use std::alloc::Global;
-use wire_bytes::{Reader, open_sealed};
+use std::alloc::{AllocError, Global};
+use wire_bytes::{BadSeal, FieldFault, Reader, TrailingBytes};
 
 /// Why a file is no table's, or want of memory.
 #[derive(Clone, Copy, Debug, PartialEq, Eq)]
 pub enum TableFault {
     /// The file breaks the layout; the offset is that of the first byte of the header's field or of the
-    /// row that breaks it, of the place where a missing row should begin, of the first byte that is too
-    /// much, or of the seal, which is judged first: the length less 16, or 0 in a shorter file.
+    /// row that breaks it, of where a missing row should begin, of the first byte that is too much, or of
+    /// the seal, which is judged first: the length less 16, or 0 in a shorter file.
     BadTable(usize),
     /// There was no memory for the table.
     Memory,
 }
 
-/// Reads the next row, and puts it behind the others.
-fn read_next(alloc: Global, reader: &mut Reader, table: &mut Table) -> Result<(), TableFault>
-    ensures found { IfOk result (λ _. (row : List ℕ × Record) × IsRow row × (is_behind path_cmp table.old row.0 ≡ true)
-        × (table.new ≡ table.old ++ row ∷ []) × Passes reader.old reader.new (row_bytes row)) }
-    ensures back { (row : List ℕ × Record) (more : List ℕ) → IsRow row → is_behind path_cmp table.old row.0 ≡ true
-        → left reader.old ≡ row_bytes row ++ more
-        → MatchResult result (λ _. (table.new ≡ table.old ++ row ∷ []) × (left reader.new ≡ more)) (λ fault. fault ≡ TableFault.Memory) }
-    ensures place { IfErr result (IsFaultAt reader.old.offset) }
-{
-    let start = reader.offset();
-    let raw = match read_row(reader) {
-        Ok(raw) => raw,
-        Err(_) => return Err(TableFault::BadTable(start)),
-    };
-    let row = match own_row(alloc, &raw) {
-        Ok(row) => row,
-        Err(_) => return Err(TableFault::Memory),
-    };
-    match table.push(row) {
-        Ok(()) => Ok(()),
-        Err(PushFault::NotRising) => Err(TableFault::BadTable(start)),
-        Err(PushFault::Memory) => Err(TableFault::Memory),
+impl From<FieldFault> for TableFault {
+    ghost use Rattle.wire_bytes.specs.GrammarReading.{fault_offset};
+    ghost use Rattle.attr_tables.specs.Tables.{offset_of};
+
+    ghost from_gives = { λ fault e. offset_of e ≡ fault_offset fault };
+
+    fn from(fault: FieldFault) -> TableFault {
+        match fault {
+            FieldFault::Ended(offset) | FieldFault::Foreign(offset) => TableFault::BadTable(offset),
+        }
     }
 }
 
-/// Reads so many rows.
-fn read_rows(alloc: Global, reader: &mut Reader, count: u32) -> Result<Table, TableFault>
-    ensures found { IfOk result (λ rows. AreRows rows × (length rows ≡ count) × Passes reader.old reader.new (rows_bytes rows)) }
-    ensures back { (rows : List (List ℕ × Record)) (more : List ℕ) → AreRows rows → length rows ≡ count
-        → left reader.old ≡ rows_bytes rows ++ more
-        → MatchResult result (λ table. (table ≡ rows) × (left reader.new ≡ more)) (λ fault. fault ≡ TableFault.Memory) }
-    ensures why { IfErr result (IsFaultOfRows (left reader.old) count reader.old.offset) }
+impl From<BadSeal> for TableFault {
+    ghost use Rattle.attr_tables.specs.Tables.{offset_of};
+
+    ghost from_gives = { λ fault e. offset_of e ≡ Some fault.0 };
+
+    fn from(fault: BadSeal) -> TableFault {
+        TableFault::BadTable(fault.0)
+    }
+}
+
+impl From<TrailingBytes> for TableFault {
+    ghost use Rattle.attr_tables.specs.Tables.{offset_of};
+
+    ghost from_gives = { λ fault e. offset_of e ≡ Some fault.0 };
+
+    fn from(fault: TrailingBytes) -> TableFault {
+        TableFault::BadTable(fault.0)
+    }
+}
+
+impl From<AllocError> for TableFault {
+    ghost use Rattle.attr_tables.specs.Tables.{offset_of};
+
+    ghost from_gives = { λ _ e. offset_of e ≡ None };
+
+    fn from(_fault: AllocError) -> TableFault {
+        TableFault::Memory
+    }
+}
+
+/// A table, and the layout that it was read in.
+#[derive(Debug, Drop)]
+pub struct TableFile {
+    pub layout: TableLayout,
+    pub table: Table,
+}
+
+/// Reads the four bytes that tell the layout.
+fn read_layout(reader: &mut Reader) -> Result<TableLayout, TableFault>
+    ensures { ReadsOrBreaks offset_of (λ layout. layout) (field (λ _. ⊤) magic_of) reader.old result reader.new }
+{
+    match reader.read_magic(b"RTB2") {
+        Ok(()) => Ok(TableLayout::Second),
+        Err(_) => {
+            reader.read_magic(b"RTB1")?;
+            Ok(TableLayout::First)
+        }
+    }
+}
+
+/// Reads a row, wherever its path stands in the order.
+fn read_next(alloc: Global, reader: &mut Reader, layout: TableLayout) -> Result<Row, TableFault>
+    ensures { ReadsOrBreaks offset_of (λ row. row) (field (IsRow layout) (row_bytes layout)) reader.old result reader.new }
+{
+    let start = reader.offset();
+    let raw = match read_row(reader, layout) {
+        Ok(raw) => raw,
+        Err(_) => return Err(TableFault::BadTable(start)),
+    };
+    let row = own_row(alloc, &raw)?;
+    Ok(row)
+}
+
+/// Reads this number of rows.
+fn read_rows(
+    alloc: Global,
+    reader: &mut Reader,
+    layout: TableLayout,
+    count: u32,
+) -> Result<Table, TableFault>
+    ensures { ReadsOrBreaks offset_of (λ table. table) (items_of (IsNext layout) (row_bytes layout) count) reader.old result reader.new }
 {
     let mut table = Table::new(alloc);
     for _i in 0..count {
-        match read_next(alloc, reader, &mut table) {
+        let start = reader.offset();
+        let row = read_next(alloc, reader, layout)?;
+        match table.push(row) {
             Ok(()) => {}
-            Err(fault) => return Err(fault),
+            Err(PushFault::NotRising) => return Err(TableFault::BadTable(start)),
+            Err(PushFault::Memory) => return Err(TableFault::Memory),
         }
     }
     Ok(table)
 }
 
 /// Reads the body of a table's file.
-#[tactic(auto, unfolding(crate::specs::Layout::table_body))]
-fn read_body(alloc: Global, body: &[u8]) -> Result<Table, TableFault>
-    ensures found { IfOk result (λ rows. IsTable rows × (body.now ≡ table_body rows)) }
-    ensures back { (rows : List (List ℕ × Record)) → IsTable rows → body.now ≡ table_body rows
-        → MatchResult result (λ table. table ≡ rows) (λ fault. fault ≡ TableFault.Memory) }
-    ensures why { IfErr result (IsFaultOfBody body.now) }
+fn read_body(alloc: Global, reader: &mut Reader) -> Result<TableFile, TableFault>
+    ensures { ReadsOrBreaks offset_of (λ file. file) table_grammar reader.old result reader.new }
 {
-    let mut reader = Reader::new(body);
-    match reader.read_magic(b"RTB1") {
-        Ok(()) => {}
-        Err(_) => return Err(TableFault::BadTable(0)),
-    }
-    let count = match reader.read_u32() {
-        Ok(count) => count,
-        Err(_) => return Err(TableFault::BadTable(4)),
-    };
-    let table = match read_rows(alloc, &mut reader, count) {
-        Ok(table) => table,
-        Err(fault) => return Err(fault),
-    };
-    if !reader.is_at_end() {
-        return Err(TableFault::BadTable(reader.offset()));
-    }
-    Ok(table)
+    let layout = read_layout(reader)?;
+    let count = reader.read_u32()?;
+    let table = read_rows(alloc, reader, layout, count)?;
+    Ok(TableFile { layout, table })
 }
 
-/// The table whose file the bytes are; refused exactly where they are no table's file, or for want of memory.
-pub fn read_table(alloc: Global, bytes: &[u8]) -> Result<Table, TableFault>
-    // The bytes are the file of the table that is given.
-    ensures found { IfOk result (λ rows. IsTable rows × (bytes.now ≡ table_file rows)) }
-    // The file of each table is read.
-    ensures back { (rows : List (List ℕ × Record)) → IsTable rows → bytes.now ≡ table_file rows
-        → MatchResult result (λ table. table ≡ rows) (λ fault. fault ≡ TableFault.Memory) }
-    // A refusal names the first place where the bytes break the layout.
-    ensures why { IfErr result (IsFaultOf bytes.now) }
+/// The table whose file the bytes are, in either layout; refused exactly where they are no table's file, with the
+/// first offset at which they break the layout, or for want of memory.
+pub fn read_table(alloc: Global, bytes: &[u8]) -> Result<TableFile, TableFault>
+    ensures { ReadsSealed offset_of (λ file. file) table_grammar bytes.now result }
 {
-    match open_sealed(bytes) {
-        Ok(body) => match read_body(alloc, body) {
-            Ok(table) => Ok(table),
-            Err(fault) => Err(fault),
-        },
-        Err(fault) => Err(TableFault::BadTable(fault.0)),
-    }
+    let mut reader = Reader::of_sealed(bytes)?;
+    let file = read_body(alloc, &mut reader)?;
+    reader.finish()?;
+    Ok(file)
 }

@@ -1,33 +1,75 @@
 //! Reads the rows of a table, without taking memory: what is read lends from the file.
 
-ghost use Rattle.std.specs.Prelude.{◌≡◌, IfOk};
-ghost use Rattle.std.specs.Int.{w16};
+ghost use Rattle.std.specs.Prelude.{◌≡◌, ◌≤◌, IfOk};
+ghost use Rattle.std.specs.Int.{w16, w32};
 ghost use Rattle.wire_bytes.specs.Kind.{Reads};
-ghost use Rattle.wire_bytes.specs.Layout.{text_bytes};
+ghost use Rattle.wire_bytes.specs.Layout.{number_bytes, text_bytes};
 ghost use Rattle.attr_tables.specs.RawRows.{node_of, row_of, IsNodeOf};
-ghost use Rattle.attr_tables.specs.Layout.{attr_bytes, id_bytes, content_bytes, node_bytes, row_bytes, IsAttr, IsId, IsContent, IsPath, IsTarget, IsNode, IsRow};
+ghost use Rattle.attr_tables.specs.Layout.{nanos_bytes, group_bytes, attr_bytes, id_bytes, content_bytes, node_bytes, row_bytes, IsNanos, IsGroup, IsAttr, IsId, IsContent, IsPath, IsTarget, IsNode, IsRow};
 
-use crate::records::Record;
+use crate::layouts::TableLayout;
+use crate::records::{Record, StoredFile};
 use crate::rows::Row;
-use attr_records::{Attr, LinkTarget, PathName, broken_path_rule, is_link_target};
+use attr_records::{
+    Attr, Dir, Link, LinkTarget, MAX_MODE, MAX_NANOS, PathName, broken_path_rule, is_link_target,
+};
 use disk_trait::PoolId;
 use std::alloc::{AllocError, Global};
 use wire_bytes::{FieldFault, Reader};
 
-/// Reads attributes: mode, uid, gid, mtime.
-#[tactic(auto, unfolding(crate::specs::Layout::attr_bytes))]
-fn read_attr(reader: &mut Reader) -> Result<Attr, FieldFault>
-    ensures { Reads (λ attr. attr) IsAttr attr_bytes reader.old result reader.new }
+/// Reads a mode.
+fn read_mode(reader: &mut Reader) -> Result<u16, FieldFault>
+    ensures { Reads (λ mode. mode) (λ mode. mode ≤ 4095) (number_bytes w32) reader.old result reader.new }
 {
     let start = reader.offset();
     let mode = reader.read_u32()?;
+    if mode > u32::from(MAX_MODE) {
+        return Err(FieldFault::Foreign(start));
+    }
+    Ok(mode as u16)
+}
+
+/// Reads the nanoseconds behind an mtime.
+fn read_nanos(reader: &mut Reader, layout: TableLayout) -> Result<u32, FieldFault>
+    ensures { Reads (λ nanos. nanos) (IsNanos layout) (nanos_bytes layout) reader.old result reader.new }
+{
+    match layout {
+        TableLayout::First => Ok(0),
+        TableLayout::Second => {
+            let start = reader.offset();
+            let nanos = reader.read_u32()?;
+            if nanos > MAX_NANOS {
+                return Err(FieldFault::Foreign(start));
+            }
+            Ok(nanos)
+        }
+    }
+}
+
+/// Reads attributes: mode, uid, gid, mtime, nanos.
+#[tactic(auto, unfolding(crate::specs::Layout::attr_bytes))]
+fn read_attr(reader: &mut Reader, layout: TableLayout) -> Result<Attr, FieldFault>
+    ensures { Reads (λ attr. attr) (IsAttr layout) (attr_bytes layout) reader.old result reader.new }
+{
+    let mode = read_mode(reader)?;
     let uid = reader.read_u32()?;
     let gid = reader.read_u32()?;
     let mtime = reader.read_i64()?;
-    if mode > 4095 {
-        return Err(FieldFault::Foreign(start));
+    let nanos = read_nanos(reader, layout)?;
+    Ok(Attr::new(mode, uid, gid, mtime, nanos))
+}
+
+/// Reads the group of a File.
+fn read_group(reader: &mut Reader, layout: TableLayout) -> Result<u32, FieldFault>
+    ensures { Reads (λ group. group) (IsGroup layout) (group_bytes layout) reader.old result reader.new }
+{
+    match layout {
+        TableLayout::First => Ok(0),
+        TableLayout::Second => {
+            let group = reader.read_u32()?;
+            Ok(group)
+        }
     }
-    Ok(Attr::new(mode as u16, uid, gid, mtime))
 }
 
 /// Reads a name in the pool: digest and extension.
@@ -50,26 +92,24 @@ fn read_content(reader: &mut Reader, size: u64) -> Result<Option<PoolId>, FieldF
     Ok(Some(id))
 }
 
-/// What stands behind the path of a row, with a link's target as it stands in the file.
+/// A link, with its target as it stands in the file.
+#[derive(Drop)]
+pub struct RawTarget<'a> {
+    attr: Attr,
+    target: &'a [u8],
+}
+
+/// What stands behind the path of a row.
 #[derive(Drop)]
 pub enum RawNode<'a> {
-    File {
-        attr: Attr,
-        size: u64,
-        content: Option<PoolId>,
-    },
-    Dir {
-        attr: Attr,
-    },
-    Link {
-        attr: Attr,
-        target: &'a [u8],
-    },
+    File(StoredFile),
+    Dir(Dir),
+    Link(RawTarget<'a>),
     Deleted,
 }
 
 /// Reads the target of a link.
-#[tactic(auto, using(crate::specs::Layout::counted_target))]
+#[tactic(auto, using(crate::proofs::RowLaws::counted_target))]
 fn read_target<'a>(reader: &mut Reader<'a>) -> Result<&'a [u8], FieldFault>
     ensures { Reads (λ target. target.now) IsTarget (text_bytes w16) reader.old result reader.new }
 {
@@ -82,7 +122,7 @@ fn read_target<'a>(reader: &mut Reader<'a>) -> Result<&'a [u8], FieldFault>
 }
 
 /// Reads a path.
-#[tactic(auto, using(crate::specs::Layout::counted_path))]
+#[tactic(auto, using(crate::proofs::RowLaws::counted_path))]
 fn read_path<'a>(reader: &mut Reader<'a>) -> Result<&'a [u8], FieldFault>
     ensures { Reads (λ path. path.now) IsPath (text_bytes w16) reader.old result reader.new }
 {
@@ -95,29 +135,35 @@ fn read_path<'a>(reader: &mut Reader<'a>) -> Result<&'a [u8], FieldFault>
 }
 
 /// Reads what stands behind the path of a row of a kind.
-fn read_node<'a>(reader: &mut Reader<'a>, kind: u8) -> Result<RawNode<'a>, FieldFault>
-    ensures { Reads node_of (IsNodeOf kind) node_bytes reader.old result reader.new }
+fn read_node<'a>(
+    reader: &mut Reader<'a>,
+    layout: TableLayout,
+    kind: u8,
+) -> Result<RawNode<'a>, FieldFault>
+    ensures { Reads node_of (IsNodeOf layout kind) (node_bytes layout) reader.old result reader.new }
 {
     match kind {
         0 => Ok(RawNode::Deleted),
         1 => {
-            let attr = read_attr(reader)?;
+            let attr = read_attr(reader, layout)?;
+            let group = read_group(reader, layout)?;
             let size = reader.read_u64()?;
             let content = read_content(reader, size)?;
-            Ok(RawNode::File {
+            Ok(RawNode::File(StoredFile {
                 attr,
+                group,
                 size,
                 content,
-            })
+            }))
         }
         2 => {
-            let attr = read_attr(reader)?;
-            Ok(RawNode::Dir { attr })
+            let attr = read_attr(reader, layout)?;
+            Ok(RawNode::Dir(Dir { attr }))
         }
         3 => {
-            let attr = read_attr(reader)?;
+            let attr = read_attr(reader, layout)?;
             let target = read_target(reader)?;
-            Ok(RawNode::Link { attr, target })
+            Ok(RawNode::Link(RawTarget { attr, target }))
         }
         _ => Err(FieldFault::Foreign(reader.offset())),
     }
@@ -131,13 +177,13 @@ pub struct RawRow<'a> {
 }
 
 /// Reads a row: kind, path, and what stands behind it.
-#[tactic(auto, using(crate::specs::RawRows::small_kind), unfolding(crate::specs::Layout::row_bytes))]
-pub fn read_row<'a>(reader: &mut Reader<'a>) -> Result<RawRow<'a>, FieldFault>
-    ensures { Reads row_of IsRow row_bytes reader.old result reader.new }
+#[tactic(auto, using(crate::proofs::RowLaws::small_kind), unfolding(crate::specs::Layout::row_bytes))]
+pub fn read_row<'a>(reader: &mut Reader<'a>, layout: TableLayout) -> Result<RawRow<'a>, FieldFault>
+    ensures { Reads row_of (IsRow layout) (row_bytes layout) reader.old result reader.new }
 {
     let kind = reader.read_u8()?;
     let path = read_path(reader)?;
-    match read_node(reader, kind) {
+    match read_node(reader, layout, kind) {
         Ok(node) => Ok(RawRow { path, node }),
         Err(fault) => Err(fault),
     }
@@ -145,32 +191,24 @@ pub fn read_row<'a>(reader: &mut Reader<'a>) -> Result<RawRow<'a>, FieldFault>
 
 /// The record of what stands behind a path, or want of memory.
 fn own_node(alloc: Global, raw: &RawNode) -> Result<Record, AllocError>
-    requires { IsNode (node_of raw.now) }
+    requires { (layout : TableLayout) × IsNode layout (node_of raw.now) }
     ensures { IfOk result (λ node. node ≡ node_of raw.now) }
 {
     match raw {
-        RawNode::File {
-            attr,
-            size,
-            content,
-        } => Ok(Record::File {
-            attr: *attr,
-            size: *size,
-            content: *content,
-        }),
-        RawNode::Dir { attr } => Ok(Record::Dir { attr: *attr }),
-        RawNode::Link { attr, target } => Ok(Record::Link {
-            attr: *attr,
-            target: LinkTarget::from_valid(alloc, target)?,
-        }),
+        RawNode::File(file) => Ok(Record::File(*file)),
+        RawNode::Dir(dir) => Ok(Record::Dir(*dir)),
+        RawNode::Link(link) => Ok(Record::Link(Link {
+            attr: link.attr,
+            target: LinkTarget::from_valid(alloc, link.target)?,
+        })),
         RawNode::Deleted => Ok(Record::Deleted),
     }
 }
 
 /// The row that stands in the file, or want of memory.
-#[tactic(auto, using(crate::specs::RawRows::sound_node))]
+#[tactic(auto, using(crate::proofs::RowLaws::sound_node))]
 pub fn own_row(alloc: Global, raw: &RawRow) -> Result<Row, AllocError>
-    requires { IsRow (row_of raw.now) }
+    requires { (layout : TableLayout) × IsRow layout (row_of raw.now) }
     ensures { IfOk result (λ row. row ≡ row_of raw.now) }
 {
     let path = PathName::from_valid(alloc, raw.path)?;

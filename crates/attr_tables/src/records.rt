@@ -1,24 +1,25 @@
 ghost use Rattle.std.specs.Prelude.{◌≡◌, ◌↔◌, IfOk, IsTrue};
 
-use attr_records::{Attr, LinkTarget, MOST_FILE_BYTES};
+use attr_records::{Attr, Dir, Link, MAX_FILE_BYTES};
 use disk_trait::PoolId;
 use std::alloc::{AllocError, Global};
+
+/// A file whose bytes are kept under a content id; none where it has no bytes. Files of one group other than 0 are hard
+/// links of one file, as the client says.
+#[derive(Clone, Copy, Debug, PartialEq)]
+pub struct StoredFile {
+    pub attr: Attr,
+    pub group: u32,
+    pub size: u64,
+    pub content: Option<PoolId>,
+}
 
 /// What a table says of a path. A File has a content exactly where its size isn't 0; a row sees to it.
 #[derive(Debug, Drop)]
 pub enum Record {
-    File {
-        attr: Attr,
-        size: u64,
-        content: Option<PoolId>,
-    },
-    Dir {
-        attr: Attr,
-    },
-    Link {
-        attr: Attr,
-        target: LinkTarget,
-    },
+    File(StoredFile),
+    Dir(Dir),
+    Link(Link),
     /// Nothing is at the path.
     Deleted,
 }
@@ -31,26 +32,9 @@ impl Record {
         ensures { result ≡ is_same_record self.now other.now }
     {
         match (self, other) {
-            (
-                Record::File {
-                    attr,
-                    size,
-                    content,
-                },
-                Record::File {
-                    attr: other_attr,
-                    size: other_size,
-                    content: other_content,
-                },
-            ) => *attr == *other_attr && *size == *other_size && *content == *other_content,
-            (Record::Dir { attr }, Record::Dir { attr: other_attr }) => *attr == *other_attr,
-            (
-                Record::Link { attr, target },
-                Record::Link {
-                    attr: other_attr,
-                    target: other_target,
-                },
-            ) => *attr == *other_attr && *target == *other_target,
+            (Record::File(file), Record::File(other)) => *file == *other,
+            (Record::Dir(dir), Record::Dir(other)) => *dir == *other,
+            (Record::Link(link), Record::Link(other)) => *link == *other,
             (Record::Deleted, Record::Deleted) => true,
             _ => false,
         }
@@ -66,7 +50,7 @@ impl Record {
     pub fn is_dir(&self) -> bool
         ensures { result ≡ is_dir self.now }
     {
-        matches!(self, Record::Dir { .. })
+        matches!(self, Record::Dir(_))
     }
 
     /// Whether it is a File of more bytes than a tree takes.
@@ -74,7 +58,7 @@ impl Record {
         ensures { result ≡ is_large self.now }
     {
         match self {
-            Record::File { size, .. } => *size > MOST_FILE_BYTES,
+            Record::File(file) => file.size > MAX_FILE_BYTES,
             _ => false,
         }
     }
@@ -84,20 +68,9 @@ impl Record {
         ensures { IfOk result (λ copy. copy ≡ self.now) }
     {
         match self {
-            Record::File {
-                attr,
-                size,
-                content,
-            } => Ok(Record::File {
-                attr: *attr,
-                size: *size,
-                content: *content,
-            }),
-            Record::Dir { attr } => Ok(Record::Dir { attr: *attr }),
-            Record::Link { attr, target } => Ok(Record::Link {
-                attr: *attr,
-                target: target.copy(alloc)?,
-            }),
+            Record::File(file) => Ok(Record::File(*file)),
+            Record::Dir(dir) => Ok(Record::Dir(*dir)),
+            Record::Link(link) => Ok(Record::Link(link.copy(alloc)?)),
             Record::Deleted => Ok(Record::Deleted),
         }
     }

@@ -3,7 +3,9 @@ ghost use Rattle.attr_tables.specs.Records.{IsSound};
 
 use crate::records::Record;
 use attr_records::PathName;
+use ordered_lists::Entry;
 use std::alloc::{AllocError, Global};
+use std::cmp::Ordering;
 use std::marker::Model;
 
 /// A path and what a table says of it.
@@ -62,5 +64,26 @@ impl Row {
             path: self.path.copy(alloc)?,
             node: self.node.copy(alloc)?,
         })
+    }
+}
+
+impl Entry for Row {
+    ghost use Rattle.std.specs.Prelude.{List, ℕ};
+    ghost use Rattle.attr_records.specs.Paths.{path_cmp};
+    ghost use Rattle.attr_records.specs.PathLaws.{path_cmp_total};
+    ghost use Rattle.attr_tables.specs.declared.records.Record.{Record};
+
+    ghost Key = { List ℕ };
+
+    ghost Held = { Record };
+
+    ghost entry = { λ row. row };
+
+    ghost order = { path_cmp };
+
+    ghost total = { path_cmp_total };
+
+    fn compare(&self, other: &Row) -> Ordering {
+        self.path.cmp(&other.path)
     }
 }

@@ -1,15 +1,14 @@
 ghost use Rattle.std.specs.Prelude.{◌≡◌, ◌↔◌, [], ◌∷◌, ◌++◌, true, false, length, IsTrue, OnOk, OnErr, IfOk, IfErr, Some};
 ghost use Rattle.std.specs.Option.{option_copied};
 ghost use Rattle.attr_records.specs.Paths.{path_cmp};
-ghost use Rattle.attr_records.specs.Order.{IsInOrder};
+ghost use Rattle.ordered_lists.specs.Order.{IsInOrder};
 ghost use Rattle.attr_records.specs.Trees.{node_at};
-ghost use Rattle.attr_tables.specs.Rows.{is_behind};
+ghost use Rattle.ordered_lists.specs.Order.{is_after};
 
 use crate::records::Record;
 use crate::rows::Row;
 use attr_records::{PathName, compare};
 use std::alloc::{AllocError, Global};
-use std::cmp::Ordering;
 use std::marker::Model;
 
 /// What rows in order say of a path, by halving them.
@@ -17,23 +16,15 @@ pub fn find<'a>(rows: &'a [Row], path: &[u8]) -> Option<&'a Record>
     requires { IsInOrder path_cmp rows.now }
     ensures { option_copied result ≡ node_at rows.now path.now }
 {
-    let mut low = 0;
-    let mut high = rows.len();
-    while low < high {
-        let middle = low + (high - low) / 2;
-        let row = &rows[middle];
-        match compare(row.path().as_slice(), path) {
-            Ordering::Less => low = middle + 1,
-            Ordering::Greater => high = middle,
-            Ordering::Equal => return Some(row.node()),
-        }
+    match ordered_lists::find(rows, |row: &Row| compare(row.path().as_slice(), path)) {
+        Some(row) => Some(row.node()),
+        None => None,
     }
-    None
 }
 
-/// Whether a path comes behind that of the last row, if there is one.
-pub fn is_behind(rows: &[Row], path: &PathName) -> bool
-    ensures { result ≡ is_behind path_cmp rows.now path.now }
+/// Whether a path comes after that of the last row, if there is one.
+pub fn is_after(rows: &[Row], path: &PathName) -> bool
+    ensures { result ≡ is_after path_cmp rows.now path.now }
 {
     match rows {
         [] => true,
@@ -41,10 +32,10 @@ pub fn is_behind(rows: &[Row], path: &PathName) -> bool
     }
 }
 
-/// Why a row was not put behind the others.
+/// Why a row was not appended.
 #[derive(Clone, Copy, Debug, PartialEq, Eq)]
 pub enum PushFault {
-    /// Its path doesn't come behind that of the last row.
+    /// Its path doesn't come after that of the last row.
     NotRising,
     /// There was no memory for it.
     Memory,
@@ -59,7 +50,7 @@ pub struct Table {
 impl Model for Table {
     ghost use Rattle.std.specs.Prelude.{List, ℕ};
     ghost use Rattle.attr_records.specs.Paths.{path_cmp};
-    ghost use Rattle.attr_records.specs.Order.{IsInOrder};
+    ghost use Rattle.ordered_lists.specs.Order.{IsInOrder};
     ghost use Rattle.attr_tables.specs.declared.records.Record.{Record};
 
     ghost Value = { List (List ℕ × Record) };
@@ -121,15 +112,15 @@ impl Table {
         find(self.rows.as_slice(), path.as_slice())
     }
 
-    /// Puts a row behind the others; refused exactly where its path doesn't come behind theirs, or for want
+    /// Appends a row; refused exactly if its path doesn't come after theirs, or for want
     /// of memory.
     pub fn push(&mut self, row: Row) -> Result<(), PushFault>
         ensures ok { OnOk result (self.new ≡ self.old ++ row ∷ []) }
-        ensures rising { OnOk result (is_behind path_cmp self.old row.0 ≡ true) }
+        ensures rising { OnOk result (is_after path_cmp self.old row.0 ≡ true) }
         ensures err { OnErr result (self.new ≡ self.old) }
-        ensures not_rising { IfErr result (λ fault. fault ≡ PushFault.NotRising → is_behind path_cmp self.old row.0 ≡ false) }
+        ensures not_rising { IfErr result (λ fault. fault ≡ PushFault.NotRising → is_after path_cmp self.old row.0 ≡ false) }
     {
-        if !is_behind(self.rows.as_slice(), row.path()) {
+        if !is_after(self.rows.as_slice(), row.path()) {
             return Err(PushFault::NotRising);
         }
         if self.rows.reserve(1).is_err() {

@@ -1,26 +1,25 @@
--- Where the header, the rows or the end break the layout.
-use Rattle.attr_tables.proofs.BodySteps.{no_table_without_magic, why_no_magic, no_table, why_no_table, no_table_behind, why_too_much}
-use Rattle.std.proofs.lemmas.Bool.{false≢true}
+-- The layout, the number of rows, and the rows.
+use Rattle.std.proofs.Common.{◌∙◌}
+use Rattle.wire_bytes.specs.Grammar.{sees_counted}
+use Rattle.wire_bytes.specs.GrammarLaws.{field_finds, field_refuses, refused_again, refused_by, then_finds, then_refuses, first_refuses, seen_finds, seen_refuses}
+use Rattle.attr_tables.specs.TableLaws.{sees_table}
 use Rattle.attr_tables.proofs.file.read_body.Goals as goal
 
-pub returns-in-Err-clause-back : goal.returns-in-Err-clause-back
-returns-in-Err-clause-back c = λ rows table is. absurd (no_table_without_magic _ _ _ _ c.new-reader.ensures c.in-Err.ensures.field.reads rows is)
+pub returns-in_err-layout : goal.returns-in_err-layout
+returns-in_err-layout c = refused_again _ _ _ c.from_residual.ensures.1 (seen_refuses sees_table (first_refuses _ c.in_err-layout.ensures))
 
-pub returns-in-Err-clause-why : goal.returns-in-Err-clause-why
-returns-in-Err-clause-why c = why_no_magic _ _ _ _ c.new-reader.ensures c.in-Err.ensures.field.reads
+pub returns-in_err-count : goal.returns-in_err-count
+returns-in_err-count c =
+    refused_by _ _ _ c.from_residual-in_err-count.ensures.1
+    (λ e told. seen_refuses sees_table (then_refuses _ c.in_ok-layout.ensures (seen_refuses (sees_counted _ _ _ _)
+    (first_refuses _ (field_refuses c.in_err-count.ensures.field.reads (told ∙ c.in_err-count.ensures.here))))))
 
-pub returns-in-Err-read_rows-clause-back : goal.returns-in-Err-read_rows-clause-back
-returns-in-Err-read_rows-clause-back c =
-    no_table _ _ _ _ _ c.new-reader.ensures c.in-Ok.ensures.field.reads c.in-Ok-read_u32.ensures.field.reads _ c.in-Err-read_rows.ensures.back
+pub returns-in_err-table : goal.returns-in_err-table
+returns-in_err-table c =
+    refused_again _ _ _ c.from_residual-in_err-table.ensures.1
+    (seen_refuses sees_table (then_refuses _ c.in_ok-layout.ensures
+    (seen_refuses (sees_counted _ _ _ _) (then_refuses _ (field_finds c.in_ok-count.ensures.field.reads) c.in_err-table.ensures))))
 
-pub returns-in-Err-read_rows-clause-why : goal.returns-in-Err-read_rows-clause-why
-returns-in-Err-read_rows-clause-why c =
-    why_no_table _ _ _ _ _ c.new-reader.ensures c.in-Ok.ensures.field.reads c.in-Ok-read_u32.ensures.field.reads _ c.in-Err-read_rows.ensures.why
-
-pub returns-then-not-is_at_end-clause-back : goal.returns-then-not-is_at_end-clause-back
-returns-then-not-is_at_end-clause-back c = λ rows table is.
-    absurd (no_table_behind _ _ _ _ _ c.new-reader.ensures c.in-Ok.ensures.field.reads c.in-Ok-read_u32.ensures.field.reads _ _ c.in-Ok-read_rows.ensures.found (λ e. false≢true (c.if-not-is_at_end.ensures.1 e)) c.in-Ok-read_rows.ensures.back rows table is)
-
-pub returns-then-not-is_at_end-clause-why : goal.returns-then-not-is_at_end-clause-why
-returns-then-not-is_at_end-clause-why c =
-    why_too_much _ _ _ _ _ c.new-reader.ensures c.in-Ok.ensures.field.reads c.in-Ok-read_u32.ensures.field.reads _ _ c.in-Ok-read_rows.ensures.found (λ e. false≢true (c.if-not-is_at_end.ensures.1 e)) _ c.offset.ensures.value
+pub returns : goal.returns
+returns c = seen_finds sees_table (then_finds _ c.in_ok-layout.ensures
+    (seen_finds (sees_counted _ _ _ _) (then_finds _ (field_finds c.in_ok-count.ensures.field.reads) c.in_ok-table.ensures)))

@@ -1,6 +1,7 @@
 -- A path is short enough to be counted in two bytes.
 use Rattle.std.proofs.Common.{◌≡◌, ℕ, ◌<◌, ◌≤◌, List, length, None, ap, ◌∙◌, arith}
-use Rattle.attr_records.specs.PathRules.{broken_path_rule, short_path}
+use Rattle.attr_records.specs.PathRules.{broken_path_rule}
+use Rattle.attr_records.specs.PathRuleLaws.{short_path}
 use Rattle.attr_tables.proofs.writing.put_row.Goals as goal
 
 short : (path given : List ℕ) → given ≡ path → broken_path_rule path ≡ None → length given < 65536

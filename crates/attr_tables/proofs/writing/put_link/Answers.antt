@@ -1,7 +1,8 @@
 -- A link's target is short enough to be counted in two bytes.
 use Rattle.std.proofs.Common.{◌≡◌, ℕ, ◌<◌, ◌≤◌, List, length, true, ap, ◌∙◌, arith}
-use Rattle.attr_records.specs.Names.{is_link_target, short_target}
-use Rattle.attr_tables.proofs.writing.put_node.Goals as goal
+use Rattle.attr_records.specs.Names.{is_link_target}
+use Rattle.attr_records.specs.NameLaws.{short_target}
+use Rattle.attr_tables.proofs.writing.put_link.Goals as goal
 
 short : (text given : List ℕ) → given ≡ text → is_link_target text ≡ true → length given < 65536
 short text given e target = let n : length given ≤ 4096 = short_target given (ap is_link_target e ∙ target) in omega arith
