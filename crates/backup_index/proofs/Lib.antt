@@ -1,7 +1,5 @@
-mod FieldLaws
-mod HeadLaws
-mod IndexLaws
+mod EditLaws
+mod Founds
+mod IndexPrint
 mod ItemWrites
-mod LineLaws
-mod NameLaws
-mod PartSteps
+mod Magics

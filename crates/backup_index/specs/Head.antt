@@ -1,63 +1,56 @@
--- The layout of the head file, the values that have one, and where bytes break it.
---     head_body, head_file      `RHD1`, the epoch, the number of hosts, their names;  the same with its seal
+-- The head file.
 --     IsHead      the epoch is a number, the names are those of hosts, few enough and different
---     HeadBreaks      the first place where a body breaks the layout
-use Rattle.std.specs.Prelude.{⊤, ℕ, ◌≤◌, List, [], ◌∷◌, ◌++◌, length}
+--     head_grammar      `RHD1`, the epoch, the number of hosts, their names
+use Rattle.std.specs.Prelude.{ℕ, ◌≤◌, List, [], ◌∷◌, length}
 use Rattle.std.specs.Int.{w8, w32, w64}
 use Rattle.std.specs.List.{AllByRecursion}
-use Rattle.wire_bytes.specs.Layout.{number_bytes, text_bytes, IsNumber}
-use Rattle.wire_bytes.specs.Seal.{sealed}
-use Rattle.backup_rules.specs.Breaks.{FieldBreaks, ItemsBreak, items_bytes, AreCounted}
-use Rattle.backup_index.specs.declared.names.TheConstants.{MOST_HOSTS}
+use Rattle.std.proofs.Common.{refl, sym, subst}
+use Rattle.wire_bytes.specs.Layout.{text_bytes, IsNumber}
+use Rattle.wire_bytes.specs.Grammar.{Grammar, field, number, magic, followed_by, items_of, Sees, seen_as}
 use Rattle.backup_index.specs.declared.head.HeadFile.{HeadFile}
 use Rattle.backup_index.specs.Names.{AreNames, IsHostName, IsFreshName}
-
--- RHD1
-abbrev pub head_magic : List ℕ
-head_magic = 82 ∷ 72 ∷ 68 ∷ 49 ∷ []
-
-abbrev pub names_bytes : List (List ℕ) → List ℕ
-names_bytes names = items_bytes (text_bytes w8) names
-
--- what stands before the names: the epoch and the number of hosts
-pub record IsFront (front : ℕ × ℕ) : Type 0 where
-  pub epoch : IsNumber w64 front.0
-  pub count : front.1 ≤ MOST_HOSTS
-
-abbrev pub front_bytes : ℕ × ℕ → List ℕ
-front_bytes front = head_magic ++ (number_bytes w64 front.0 ++ number_bytes w32 front.1)
-
-abbrev pub front_of : HeadFile → ℕ × ℕ
-front_of head = (head.epoch, length head.names)
-
-unfoldable pub head_body : HeadFile → List ℕ
-head_body head = front_bytes (front_of head) ++ names_bytes head.names
-
--- the file of a head
-abbrev pub head_file : HeadFile → List ℕ
-head_file head = sealed (head_body head)
+use Rattle.backup_index.specs.NameLaws.{differ_none, names_in_turn, names_differ, names_each}
 
 pub record IsHead (head : HeadFile) : Type 0 where
   pub epoch : IsNumber w64 head.epoch
   pub names : AreNames head.names
   pub each : AllByRecursion IsHostName head.names
 
--- at the first four bytes, the epoch, the number of hosts, or behind
-abbrev pub FrontBreaks : (ℕ × ℕ → List ℕ → ℕ → Type 0) → List ℕ → ℕ → Type 0
-FrontBreaks more =
-    FieldBreaks (λ (_ : Unit {0}). ⊤) (λ _. head_magic) (λ _.
-    FieldBreaks (IsNumber w64) (number_bytes w64) (λ epoch.
-    FieldBreaks (λ count. count ≤ MOST_HOSTS) (number_bytes w32) (λ count.
-    more (epoch, count))))
+-- RHD1
+abbrev pub head_magic : List ℕ
+head_magic = 82 ∷ 72 ∷ 68 ∷ 49 ∷ []
+
+abbrev pub IsHostCount : ℕ → Type 0
+IsHostCount count = count ≤ 1024
 
 -- so many names, each of which is none of those before it
-abbrev pub AreNamesOf : ℕ → List (List ℕ) → Type 0
-AreNamesOf count names = AreCounted IsFreshName count names
+abbrev pub names_grammar : ℕ → Grammar (List (List ℕ))
+names_grammar count = items_of IsFreshName (text_bytes w8) count
 
--- at one of so many names, or behind them
-abbrev pub NamesBreak : ℕ → (List (List ℕ) → List ℕ → ℕ → Type 0) → List ℕ → ℕ → Type 0
-NamesBreak count more = ItemsBreak IsFreshName (text_bytes w8) more count []
+abbrev pub HeadParts : Type 0
+HeadParts = Unit {0} × (ℕ × (ℕ × List (List ℕ)))
 
--- the first place where bytes break the layout of a head, or of what follows it
-unfoldable pub HeadBreaks : (HeadFile → List ℕ → ℕ → Type 0) → List ℕ → ℕ → Type 0
-HeadBreaks more = FrontBreaks (λ front. NamesBreak front.1 (λ names. more (record { epoch = front.0; names = names })))
+abbrev pub head_parts : Grammar HeadParts
+head_parts = followed_by (magic head_magic) (λ _. followed_by (number w64 (IsNumber w64)) (λ _. followed_by (number w32 IsHostCount) names_grammar))
+
+abbrev pub parts_of_head : HeadFile → HeadParts
+parts_of_head head = (tt, (head.epoch, (length head.names, head.names)))
+
+abbrev pub head_of : HeadParts → HeadFile
+head_of parts = record { epoch = parts.1.0; names = parts.1.1.1 }
+
+pub sees_head : Sees head_parts IsHead parts_of_head head_of
+unfolding field followed_by items_of
+sees_head = record {
+  fits = λ head is. (tt, (is.epoch, (is.names.few, (names_in_turn [] head.names is.names.differ is.each, refl))));
+  made = λ head is. refl;
+  makes = λ parts fits. record {
+    epoch = fits.1.0;
+    names = record { few = subst IsHostCount (sym fits.1.1.1.1) fits.1.1.0; differ = names_differ [] parts.1.1.1 differ_none fits.1.1.1.0 };
+    each = names_each [] parts.1.1.1 fits.1.1.1.0;
+  };
+  parted = λ parts fits i. (tt, (parts.1.0, (fits.1.1.1.1 i, parts.1.1.1)));
+}
+
+abbrev pub head_grammar : Grammar HeadFile
+head_grammar = seen_as head_parts IsHead parts_of_head head_of sees_head

@@ -1,6 +1,10 @@
 pub mod Faults
-pub mod Head
-pub mod Index
-pub mod Lines
 pub mod Names
-pub mod Parts
+pub mod NameLaws
+pub mod Head
+pub mod Lines
+pub mod LineLaws
+pub mod Index
+pub mod IndexLaws
+pub mod Stored
+pub mod Edits

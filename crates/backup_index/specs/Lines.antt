@@ -11,7 +11,6 @@ use Rattle.std.proofs.Common.{cond, refl, ap, ◌∙◌}
 use Rattle.std.proofs.lemmas.Bool.{ltb-false, leb-false, le-ltb, lt-leb, false≢true}
 use Rattle.backup_rules.specs.declared.lines.Line.{Line}
 use Rattle.backup_rules.specs.Layout.{IsLine}
-use Rattle.backup_index.specs.declared.lines.TheConstants.{MOST_NUMBERS}
 use Rattle.backup_index.specs.declared.lines.IndexRule.{IndexRule}
 use Rattle.backup_index.specs.declared.lines.IndexRule.TheVariants.{NextTooLarge, NotRising, NotBelowNext, LastNotFilled}
 
@@ -29,7 +28,7 @@ LinesFrom low next [] = Unit {0}
 LinesFrom low next (line ∷ lines) = Follows low next (is_none lines) line × LinesFrom (line.number + 1) next lines
 
 pub record IsSound (next : ℕ) (lines : List Line) : Type 0 where
-  pub bound : next ≤ MOST_NUMBERS
+  pub bound : next ≤ 4294967296
   pub in_turn : LinesFrom 0 next lines
 
 -- ---- the first rule that is broken
@@ -50,7 +49,7 @@ broken_lines low next [] = None
 broken_lines low next (line ∷ lines) = or_else (broken_line low next (is_none lines) line) (broken_lines (line.number + 1) next lines)
 
 abbrev pub broken_index : ℕ → List Line → Option IndexRule
-broken_index next lines = if nat_lt MOST_NUMBERS next then Some NextTooLarge else broken_lines 0 next lines
+broken_index next lines = if nat_lt 4294967296 next then Some NextTooLarge else broken_lines 0 next lines
 
 last_filled : (is_last filled : Bool) → cond (is_last && not filled) (Some LastNotFilled) None ≡ None → is_last ≡ true → filled ≡ true
 last_filled false filled is last = absurd (false≢true last)
@@ -93,15 +92,15 @@ none_from_lines low next (line ∷ lines) is =
     ap (λ r. or_else r (broken_lines (line.number + 1) next lines)) (none_from_follows low next (is_none lines) line is.0) ∙ none_from_lines (line.number + 1) next lines is.1
 
 pub sound_from_none : (next : ℕ) (lines : List Line) → broken_index next lines ≡ None → IsSound next lines
-sound_from_none next lines is = step (nat_lt MOST_NUMBERS next) refl is
+sound_from_none next lines is = step (nat_lt 4294967296 next) refl is
   where
-    step : (b : Bool) → nat_lt MOST_NUMBERS next ≡ b → cond b (Some NextTooLarge) (broken_lines 0 next lines) ≡ None → IsSound next lines
+    step : (b : Bool) → nat_lt 4294967296 next ≡ b → cond b (Some NextTooLarge) (broken_lines 0 next lines) ≡ None → IsSound next lines
     step true e is = cc
-    step false e is = record { bound = ltb-false MOST_NUMBERS next e; in_turn = lines_from_none 0 next lines is }
+    step false e is = record { bound = ltb-false 4294967296 next e; in_turn = lines_from_none 0 next lines is }
 
 pub none_from_sound : (next : ℕ) (lines : List Line) → IsSound next lines → broken_index next lines ≡ None
 none_from_sound next lines is =
-    ap (λ b. cond b (Some NextTooLarge) (broken_lines 0 next lines)) (le-ltb MOST_NUMBERS next is.bound) ∙ none_from_lines 0 next lines is.in_turn
+    ap (λ b. cond b (Some NextTooLarge) (broken_lines 0 next lines)) (le-ltb 4294967296 next is.bound) ∙ none_from_lines 0 next lines is.in_turn
 
 -- ---- in a file
 

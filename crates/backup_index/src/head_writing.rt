@@ -1,9 +1,13 @@
 //! Writes the head file.
 
 ghost use Rattle.std.specs.Prelude.{◌≡◌, ◌++◌, OnOk, IfOk};
+ghost use Rattle.std.specs.Int.{w8};
 ghost use Rattle.std.specs.List.{AllByRecursion};
+ghost use Rattle.wire_bytes.specs.Layout.{text_bytes};
+ghost use Rattle.wire_bytes.specs.Breaks.{items_bytes};
+ghost use Rattle.wire_bytes.specs.Seal.{sealed};
 ghost use Rattle.backup_index.specs.Names.{IsHostName};
-ghost use Rattle.backup_index.specs.Head.{head_file, names_bytes, IsHead};
+ghost use Rattle.backup_index.specs.Head.{IsHead, head_grammar};
 
 use crate::head::HeadFile;
 use attr_records::HostName;
@@ -13,7 +17,7 @@ use wire_bytes::{put_bytes, put_text8, put_u32, put_u64, seal};
 
 /// Writes names, one behind the other.
 fn put_names(out: &mut Vec<u8>, names: &[HostName]) -> Result<(), AllocError>
-    ensures ok { OnOk result (out.new.items ≡ out.old.items ++ names_bytes names.now) }
+    ensures ok { OnOk result (out.new.items ≡ out.old.items ++ items_bytes (text_bytes w8) names.now) }
     ensures fits { OnOk result (AllByRecursion IsHostName names.now) }
 {
     for name in names {
@@ -23,9 +27,9 @@ fn put_names(out: &mut Vec<u8>, names: &[HostName]) -> Result<(), AllocError>
 }
 
 /// The file of a head, or want of memory.
-#[tactic(auto, unfolding(crate::specs::Head::head_body))]
+#[tactic(auto, unfolding(wire_bytes::specs::Grammar::field, wire_bytes::specs::Grammar::followed_by, wire_bytes::specs::Grammar::seen_as, wire_bytes::specs::Grammar::items_of))]
 pub fn write_head_file(alloc: Global, head: &HeadFile) -> Result<Bytes, AllocError>
-    ensures file { IfOk result (λ bytes. bytes ≡ head_file head.now) }
+    ensures file { IfOk result (λ bytes. bytes ≡ sealed ((head_grammar).print head.now)) }
     ensures fits { OnOk result (IsHead head.now) }
 {
     let count = head.names.len() as u32;

@@ -1,10 +1,14 @@
 //! The index of a host: what is known of it, and a line for each of its backups.
 
-ghost use Rattle.std.specs.Prelude.{◌≡◌, ◌≤◌, None, Some, IfOk, IfErr, OnOk};
-ghost use Rattle.backup_index.specs.Lines.{broken_line, broken_index, IsSound};
+ghost use Rattle.std.specs.Prelude.{◌≡◌, ◌↔◌, ◌≤◌, ◌<◌, ◌+◌, [], ◌∷◌, ◌++◌, true, false, length, get_or, slice_set, None, Some, IsTrue, IfOk, IfErr, OnOk, OnErr};
+ghost use Rattle.backup_index.specs.Stored.{index_of_parts};
+ghost use Rattle.backup_index.specs.Lines.{Follows, broken_line, broken_index, IsSound};
+ghost use Rattle.backup_index.specs.Edits.{IsAppendFault};
 ghost use Rattle.backup_index.specs.Index.{Index, index_of};
 
-use crate::lines::{IndexRule, LineList, MOST_NUMBERS};
+use crate::limits::MAX_NEXT;
+use crate::lines::{AppendFault, IndexRule, LineList};
+use crate::parts::HostParts;
 use attr_records::HostName;
 use backup_rules::{Line, Rules};
 use std::marker::Model;
@@ -30,7 +34,7 @@ pub fn broken_line(low: u64, next: u64, is_last: bool, line: &Line) -> Option<In
 pub fn broken_index(next: u64, lines: &[Line]) -> Option<IndexRule>
     ensures { result ≡ broken_index next lines.now }
 {
-    if next > MOST_NUMBERS {
+    if next > MAX_NEXT {
         return Some(IndexRule::NextTooLarge);
     }
     let mut low = 0u64;
@@ -42,6 +46,22 @@ pub fn broken_index(next: u64, lines: &[Line]) -> Option<IndexRule>
         low = u64::from(line.number) + 1;
     }
     None
+}
+
+/// The number above one.
+fn number_behind(number: u32) -> u64
+    ensures value { result ≡ number + 1 }
+    ensures small { number < 4294967296 }
+{
+    u64::from(number) + 1
+}
+
+/// Whether a line may stand at this index of so many lines: the last is to be filled.
+fn may_stand(len: usize, index: usize, filled: bool) -> bool
+    requires { index < len }
+    ensures { IsTrue result ↔ (index + 1 ≡ len → filled ≡ true) }
+{
+    filled || len - index != 1
 }
 
 /// What the store knows of a host. The numbers of its lines strictly rise and are below the next one, which is at most
@@ -153,11 +173,97 @@ impl HostIndex {
         self.next
     }
 
+    /// Its parts, with all lines in the first piece.
+    pub fn parts(&self) -> HostParts<'_>
+        ensures parts { index_of_parts result ≡ self.now }
+        ensures lines { result.lines.now ≡ self.now.lines }
+        ensures none { result.more.now ≡ [] }
+        ensures sound { IsSound result.next (result.lines.now ++ result.more.now) }
+    {
+        HostParts {
+            host: self.host,
+            name: &self.name,
+            rules: &self.rules,
+            good: self.good,
+            bad: self.bad,
+            next: self.next,
+            lines: self.lines.lines(),
+            more: &[],
+        }
+    }
+
     /// A line for each backup, by rising numbers.
     pub fn lines(&self) -> &LineList
         ensures lines { result.now ≡ self.now.lines }
         ensures sound { IsSound self.now.next self.now.lines }
     {
         &self.lines
+    }
+
+    /// Gives the host other rules.
+    pub fn set_rules(&mut self, rules: Rules)
+        ensures { self.new ≡ record self.old { rules = rules } }
+    {
+        self.rules = rules;
+    }
+
+    /// Gives it other numbers of contacts.
+    pub fn set_contacts(&mut self, good: u32, bad: u32)
+        ensures { self.new ≡ record self.old { good = good; bad = bad } }
+    {
+        self.good = good;
+        self.bad = bad;
+    }
+
+    /// Gives it other lines and another next number; refused by the first rule that they break, and then it is as it was.
+    pub fn set_lines(&mut self, next: u64, lines: LineList) -> Result<(), IndexRule>
+        ensures ok { OnOk result (self.new ≡ record self.old { next = next; lines = lines }) }
+        ensures err { OnErr result (self.new ≡ self.old) }
+        ensures broken { IfErr result (λ rule. broken_index next lines ≡ Some rule) }
+    {
+        match broken_index(next, lines.lines()) {
+            Some(rule) => Err(rule),
+            None => {
+                self.next = next;
+                self.lines = lines;
+                Ok(())
+            }
+        }
+    }
+
+    /// Puts a line behind the others, with a number that isn't below the next one; the next number is then the one above
+    /// it. Refused by the rule that this line breaks, or for want of memory, and then it is as it was.
+    pub fn append(&mut self, line: Line) -> Result<(), AppendFault>
+        ensures ok { OnOk result (self.new ≡ record self.old { next = line.number + 1; lines = self.old.lines ++ line ∷ [] }) }
+        ensures follows { OnOk result (Follows self.old.next (line.number + 1) true line) }
+        ensures err { OnErr result (self.new ≡ self.old) }
+        ensures broken { IfErr result (λ fault. IsAppendFault self.old.next line fault) }
+    {
+        let next = number_behind(line.number);
+        match broken_line(self.next, next, true, &line) {
+            Some(rule) => Err(AppendFault::Broken(rule)),
+            None => {
+                self.lines.push(line)?;
+                self.next = next;
+                Ok(())
+            }
+        }
+    }
+
+    /// Puts a line in the place of one with the same number; refused where it is the last and isn't filled, and then the
+    /// index is as it was.
+    pub fn replace(&mut self, index: usize, line: Line) -> Result<(), IndexRule>
+        requires within { index < length self.old.lines }
+        requires same { (get_or self.old.lines index line).number ≡ line.number }
+        ensures ok { OnOk result (self.new ≡ record self.old { lines = slice_set self.old.lines index line }) }
+        ensures err { OnErr result (self.new ≡ self.old) }
+        ensures kept { OnOk result (index + 1 ≡ length self.old.lines → line.filled ≡ true) }
+        ensures broken { IfErr result (λ rule. (rule ≡ IndexRule.LastNotFilled) × ((index + 1 ≡ length self.old.lines → line.filled ≡ true) → ⊥)) }
+    {
+        if !may_stand(self.lines.len(), index, line.filled) {
+            return Err(IndexRule::LastNotFilled);
+        }
+        self.lines.set(index, line);
+        Ok(())
     }
 }

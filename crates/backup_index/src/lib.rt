@@ -9,14 +9,17 @@ mod head_writing;
 mod index;
 mod index_reading;
 mod index_writing;
+mod layouts;
+mod limits;
 mod lines;
 mod names;
+mod parts;
 #[cfg(test)]
 mod tests;
 
 pub use backup_rules::{
-    KeepCounts, Kind, Line, OutOfRange, Period, Periods, PeriodsFault, RuleChange, Rules, Setting,
-    fill_rule,
+    KeepCounts, Kind, Line, OutOfRange, Period, Periods, PeriodsFault, RuleChange, Rules, SETTINGS,
+    Setting, fill_rule,
 };
 pub use fault::IndexFault;
 pub use head::HeadFile;
@@ -25,5 +28,8 @@ pub use head_writing::write_head_file;
 pub use index::{HostIndex, broken_index};
 pub use index_reading::read_host_index;
 pub use index_writing::write_host_index;
-pub use lines::{IndexRule, LineList, MOST_NUMBERS};
-pub use names::{MOST_HOSTS, NameList, NameRefusal};
+pub use layouts::IndexLayout;
+pub use limits::{MAX_HOSTS, MAX_NEXT};
+pub use lines::{AppendFault, IndexRule, LineList};
+pub use names::{NameList, NameRefusal};
+pub use parts::HostParts;

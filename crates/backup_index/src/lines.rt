@@ -1,15 +1,12 @@
 //! The lines of a host's backups, and the rules that they keep.
 
-ghost use Rattle.std.specs.Prelude.{◌≡◌, ◌↔◌, [], ◌∷◌, ◌++◌, length, IsTrue, IfOk, OnOk, OnErr};
+ghost use Rattle.std.specs.Prelude.{◌≡◌, ◌↔◌, [], ◌∷◌, ◌++◌, ◌<◌, length, slice_set, IsTrue, IfOk, OnOk, OnErr};
 
 use backup_rules::Line;
 use std::alloc::{AllocError, Global};
 use std::error::Error;
 use std::fmt;
 use std::marker::Model;
-
-/// 2^32: the numbers of a host's backups are below it, and the next number is at most this.
-pub const MOST_NUMBERS: u64 = 4_294_967_296;
 
 /// Why lines make no index of a host.
 #[derive(Clone, Copy, Debug, PartialEq, Eq)]
@@ -36,6 +33,37 @@ impl fmt::Display for IndexRule {
 }
 
 impl Error for IndexRule {}
+
+/// Why a line was not put behind the others.
+#[derive(Clone, Copy, Debug, PartialEq, Eq)]
+pub enum AppendFault {
+    /// The line breaks this rule.
+    Broken(IndexRule),
+    /// There was no memory for it.
+    Memory,
+}
+
+impl fmt::Display for AppendFault {
+    fn fmt<W: fmt::Write>(&self, f: &mut fmt::Formatter<W>) -> fmt::Result {
+        match self {
+            AppendFault::Broken(rule) => write!(f, "{rule}"),
+            AppendFault::Memory => write!(f, "no memory for the line"),
+        }
+    }
+}
+
+impl Error for AppendFault {}
+
+impl From<AllocError> for AppendFault {
+    ghost use Rattle.std.specs.Prelude.{◌≡◌};
+    ghost use Rattle.backup_index.specs.declared.lines.AppendFault.TheVariants.{Memory};
+
+    ghost from_gives = { λ _ fault. fault ≡ Memory };
+
+    fn from(_fault: AllocError) -> AppendFault {
+        AppendFault::Memory
+    }
+}
 
 /// Lines of a host's backups.
 #[derive(Debug, Drop)]
@@ -88,6 +116,14 @@ impl LineList {
     {
         self.lines.push(line)?;
         Ok(())
+    }
+
+    /// Puts a line in the place of another.
+    pub fn set(&mut self, index: usize, line: Line)
+        requires { index < length self.old }
+        ensures { self.new ≡ slice_set self.old index line }
+    {
+        self.lines[index] = line;
     }
 
     /// An equal list, or want of memory.

@@ -4,14 +4,12 @@ ghost use Rattle.std.specs.Prelude.{◌≡◌, ◌↔◌, ◌≤◌, ◌<◌, []
 ghost use Rattle.std.specs.Option.{option_copied};
 ghost use Rattle.backup_index.specs.Names.{has_name, AreNames};
 
+use crate::limits::MAX_HOSTS;
 use attr_records::HostName;
 use std::alloc::{AllocError, Global};
 use std::error::Error;
 use std::fmt;
 use std::marker::Model;
-
-/// The most hosts that a store has.
-pub const MOST_HOSTS: usize = 1024;
 
 /// Why a name was not put behind the others.
 #[derive(Clone, Copy, Debug, PartialEq, Eq)]
@@ -35,6 +33,17 @@ impl fmt::Display for NameRefusal {
 }
 
 impl Error for NameRefusal {}
+
+impl From<AllocError> for NameRefusal {
+    ghost use Rattle.std.specs.Prelude.{◌≡◌};
+    ghost use Rattle.backup_index.specs.declared.names.NameRefusal.TheVariants.{Memory};
+
+    ghost from_gives = { λ _ refusal. refusal ≡ Memory };
+
+    fn from(_fault: AllocError) -> NameRefusal {
+        NameRefusal::Memory
+    }
+}
 
 /// The names of at most 1,024 hosts, no two of which are one, in the order in which they were added.
 #[derive(Debug, Drop)]
@@ -73,7 +82,7 @@ impl NameList {
 
     pub fn len(&self) -> usize
         ensures value { result ≡ length self.now }
-        ensures few { result ≤ MOST_HOSTS }
+        ensures few { result ≤ 1024 }
     {
         self.names.len()
     }
@@ -100,7 +109,7 @@ impl NameList {
 
     /// Puts a name behind the others, which don't have it and leave room for it; refused for want of memory.
     pub fn add(&mut self, name: HostName) -> Result<(), AllocError>
-        requires room { length self.old < MOST_HOSTS }
+        requires room { length self.old < 1024 }
         requires fresh { has_name self.old name ≡ false }
         ensures ok { OnOk result (self.new ≡ self.old ++ name ∷ []) }
         ensures err { OnErr result (self.new ≡ self.old) }
@@ -116,23 +125,21 @@ impl NameList {
     /// (in this order), or for want of memory.
     pub fn push(&mut self, name: HostName) -> Result<(), NameRefusal>
         ensures ok { OnOk result (self.new ≡ self.old ++ name ∷ []) }
-        ensures room { OnOk result (length self.old < MOST_HOSTS) }
+        ensures room { OnOk result (length self.old < 1024) }
         ensures fresh { OnOk result (has_name self.old name ≡ false) }
         ensures err { OnErr result (self.new ≡ self.old) }
-        ensures too_many { IfErr result (λ why. why ≡ NameRefusal.TooMany → length self.old ≡ MOST_HOSTS) }
+        ensures too_many { IfErr result (λ why. why ≡ NameRefusal.TooMany → length self.old ≡ 1024) }
         ensures twice { IfErr result (λ why. why ≡ NameRefusal.Twice → has_name self.old name ≡ true) }
-        ensures order { IfErr result (λ why. why ≡ NameRefusal.Twice → length self.old < MOST_HOSTS) }
+        ensures order { IfErr result (λ why. why ≡ NameRefusal.Twice → length self.old < 1024) }
     {
-        if self.len() == MOST_HOSTS {
+        if self.len() == MAX_HOSTS {
             return Err(NameRefusal::TooMany);
         }
         if self.contains(&name) {
             return Err(NameRefusal::Twice);
         }
-        match self.add(name) {
-            Ok(()) => Ok(()),
-            Err(_) => Err(NameRefusal::Memory),
-        }
+        self.add(name)?;
+        Ok(())
     }
 
     /// An equal list, or want of memory.

@@ -1,6 +1,7 @@
 use crate::{
-    HeadFile, HostIndex, IndexFault, IndexRule, Kind, Line, LineList, MOST_HOSTS, NameList,
-    NameRefusal, Rules, read_head_file, read_host_index, write_head_file, write_host_index,
+    HeadFile, HostIndex, IndexFault, IndexLayout, IndexRule, Kind, Line, LineList, MAX_HOSTS,
+    NameList, NameRefusal, Rules, read_head_file, read_host_index, write_head_file,
+    write_host_index,
 };
 use attr_records::HostName;
 use std::alloc::{AllocError, Global};
@@ -9,111 +10,24 @@ use wire_bytes::seal;
 
 // The body of the head of a store in its third epoch, with the hosts `a` and `b-1`.
 const HEAD: &[u8; 22] = b"RHD1\x00\x00\x00\x00\x00\x00\x00\x03\x00\x00\x00\x02\x01a\x03b-1";
-// The MD5 (RFC 1321) of the body.
+// The MD5 (RFC 1321) of the body, as Python's `hashlib` computes it; so are those below.
 const HEAD_SEAL: &[u8; 16] = b"\xf4\xae\x71\x55\x00\x08\xdf\x4c\xd3\xfa\x89\x15\x1b\x08\xe8\x7a";
-// Where the body breaks when it is cut off behind so many bytes.
-const HEAD_CUTS: [usize; 22] = [
-    0, 0, 0, 0, 4, 4, 4, 4, 4, 4, 4, 4, 12, 12, 12, 12, 16, 16, 18, 18, 18, 18,
-];
+// Where its fields and names begin.
+const HEAD_STARTS: [usize; 5] = [0, 4, 12, 16, 18];
 
-const FRONT: &[u8] = b"RHD1\x00\x00\x00\x00\x00\x00\x00\x03\x00\x00";
+// The body of the index of the host `a`, whose number is 7, with the default rules and two backups, in the second layout.
+const INDEX: &[u8; 144] =
+    b"\x52\x48\x49\x32\x00\x00\x00\x07\x01\x61\x00\x00\x00\x00\x00\x09\x30\x60\x00\x01\x47\x60\x01\x00\x00\x00\x01\x00\x00\x00\x01\x00\x00\x00\xb4\x00\x00\x00\x06\x00\x00\x00\x01\x00\x00\x00\x1e\x00\x00\x00\x07\x00\x00\x00\x03\x01\x01\xa4\x04\x92\x3e\x00\x00\x00\x00\x01\x00\x00\x00\x01\x00\x00\x00\x00\x00\x00\x00\x02\x00\x00\x00\x01\x00\x00\x00\x00\x00\x00\x00\x03\x00\x00\x00\x00\x00\x00\x00\x02\x00\x00\x00\x00\x00\x00\x00\x00\x00\x00\x03\xe8\x00\x00\x00\x00\x00\x00\x04\x24\x01\x00\x00\x00\x00\x00\x02\x00\x00\x00\x00\x00\x00\x07\xd0\x00\x00\x00\x00\x00\x00\x08\x0c\x02\x01\x01";
 
-fn sealed(alloc: Global, parts: [&[u8]; 2]) -> Result<Vec<u8>, AllocError> {
-    let mut body = Vec::new(alloc);
-    for part in parts {
-        body.extend_from_slice(part)?;
-    }
-    seal(body)
-}
-
-#[test]
-fn head_of_two_hosts_is_written_and_read(rt: HostRuntime) -> Result<(), Fail> {
-    let alloc = rt.alloc();
-    let mut names = NameList::new(alloc);
-    names.push(HostName::read(alloc, b"a")?)?;
-    names.push(HostName::read(alloc, b"b-1")?)?;
-    let head = HeadFile { epoch: 3, names };
-    let mut expected = Vec::from_slice(alloc, HEAD)?;
-    expected.extend_from_slice(HEAD_SEAL)?;
-    let written = write_head_file(alloc, &head)?;
-    assert_eq!(rt; written.as_slice(), expected.as_slice());
-    let read = read_head_file(alloc, expected.as_slice())?;
-    assert_eq!(rt; read.epoch, 3);
-    assert_eq!(rt; read.names.len(), 2);
-    let again = HeadFile {
-        epoch: read.epoch,
-        names: read.names.copy(alloc)?,
-    };
-    assert_eq!(rt;
-        write_head_file(alloc, &again)?.as_slice(),
-        expected.as_slice()
-    );
-    Ok(())
-}
-
-#[test]
-fn heads_that_break_the_layout(rt: HostRuntime) -> Result<(), Fail> {
-    let alloc = rt.alloc();
-    let cases: [([&[u8]; 2], Option<usize>); 7] = [
-        ([FRONT, b"\x00\x02\x01a\x01b"], None),
-        ([FRONT, b"\x00\x00"], None),
-        ([FRONT, b"\x00\x02\x01a\x01a"], Some(18)),
-        ([FRONT, b"\x04\x01"], Some(12)),
-        ([FRONT, b"\x00\x01\x01A"], Some(16)),
-        ([FRONT, b"\x00\x01\x00"], Some(16)),
-        ([FRONT, b"\x00\x01\x01a\x00"], Some(18)),
-    ];
-    for (parts, place) in cases {
-        let file = sealed(alloc, parts)?;
-        let fault = place.map(IndexFault::BadIndex);
-        assert_eq!(rt; read_head_file(alloc, file.as_slice()).err(), fault);
-    }
-    for (len, place) in HEAD_CUTS.iter().enumerate() {
-        let file = sealed(alloc, [&HEAD[..len], b""])?;
-        let fault = IndexFault::BadIndex(*place);
-        assert_eq!(rt; read_head_file(alloc, file.as_slice()).err(), Some(fault));
-    }
-    let unsealed = [(b"".as_slice(), 0), (HEAD.as_slice(), 6)];
-    for (file, place) in unsealed {
-        assert_eq!(rt;
-            read_head_file(alloc, file).err(),
-            Some(IndexFault::BadIndex(place))
-        );
-    }
-    Ok(())
-}
-
-#[test]
-fn as_many_names_as_there_may_be(rt: HostRuntime) -> Result<(), Fail> {
-    let alloc = rt.alloc();
-    let mut names = NameList::new(alloc);
-    for number in 0..MOST_HOSTS {
-        let text = format!(in alloc; "h{number}")?;
-        names.push(HostName::read(alloc, text.as_bytes())?)?;
-    }
-    let one_more = names.push(HostName::read(alloc, b"more")?);
-    assert_eq!(rt; one_more, Err(NameRefusal::TooMany));
-    let head = HeadFile { epoch: 0, names };
-    let file = write_head_file(alloc, &head)?;
-    let read = read_head_file(alloc, file.as_slice())?;
-    assert_eq!(rt; read.names.len(), 1024);
-    let mut few = NameList::new(alloc);
-    few.push(HostName::read(alloc, b"a")?)?;
-    let twice = few.push(HostName::read(alloc, b"a")?);
-    assert_eq!(rt; twice, Err(NameRefusal::Twice));
-    assert_eq!(rt; few.len(), 1);
-    Ok(())
-}
-
-// The body of the index of the host `a`, whose number is 7, with the default rules and two backups.
-const INDEX: &[u8; 131] =
-    b"RHI1\x00\x00\x00\x07\x01a\x00\x00\x00\x00\x00\x090`\x00\x01G`\x01\x00\x00\x00\x01\x00\x00\x00\x01\x00\x00\x00\xb4\x00\x00\x00\x06\x00\x00\x00\x01\x00\x00\x00\x1e\x00\x00\x00\x07\x00\x00\x00\x03\x01\x01\xa4\x04\x92>\x00\x00\x00\x02\x00\x00\x00\x01\x00\x00\x00\x00\x00\x00\x00\x03\x00\x00\x00\x00\x00\x00\x00\x02\x00\x00\x00\x00\x00\x00\x00\x00\x00\x00\x03\xe8\x00\x00\x00\x00\x00\x00\x04$\x01\x00\x00\x00\x00\x00\x02\x00\x00\x00\x00\x00\x00\x07\xd0\x00\x00\x00\x00\x00\x00\x08\x0c\x02\x01\x01";
-// The MD5 of the body.
-const INDEX_SEAL: &[u8; 16] = b"\x4c\xdc\xb4\x20\x47\x7f\x3d\xf0\x84\xdc\xaa\x13\xea\x38\xb2\x32";
+const INDEX_SEAL: &[u8; 16] = b"\x12\x20\x16\x96\xb2\xbb\xdf\x7b\x80\x71\x28\x2b\xa8\x05\x7b\x1b";
 // Where its fields and items begin.
-const FIELDS: [usize; 23] = [
-    0, 4, 8, 10, 14, 18, 22, 23, 27, 31, 35, 39, 43, 47, 51, 55, 56, 61, 65, 69, 77, 85, 108,
+const INDEX_STARTS: [usize; 27] = [
+    0, 4, 8, 10, 14, 18, 22, 23, 27, 31, 35, 39, 43, 47, 51, 55, 56, 61, 65, 66, 70, 74, 78, 82,
+    90, 98, 121,
 ];
+
+// The seal of the same in the first layout, which has 1 for the 2 of its magic and not the 13 bytes of old backups.
+const FIRST_SEAL: &[u8; 16] = b"\x4c\xdc\xb4\x20\x47\x7f\x3d\xf0\x84\xdc\xaa\x13\xea\x38\xb2\x32";
 
 const FULL: Line = Line {
     number: 0,
@@ -121,6 +35,15 @@ const FULL: Line = Line {
     end: 1060,
     kind: Kind::Full,
     filled: false,
+    keep: false,
+};
+
+const FILLED: Line = Line {
+    number: 0,
+    start: 1000,
+    end: 1060,
+    kind: Kind::Full,
+    filled: true,
     keep: false,
 };
 
@@ -133,91 +56,263 @@ const INCR: Line = Line {
     keep: true,
 };
 
-fn index_of(
-    alloc: Global,
-    next: u64,
-    lines: &[Line],
-) -> Result<Result<HostIndex, IndexRule>, Fail> {
-    let mut list = LineList::new(alloc);
-    for line in lines {
-        list.push(*line)?;
-    }
-    let name = HostName::read(alloc, b"a")?;
-    let rules = Rules::defaults(alloc)?;
-    Ok(HostIndex::new(7, name, rules, 2, 1, next, list))
+fn expect(holds: bool, text: &'static str) -> Result<(), Fail> {
+    if holds { Ok(()) } else { Err(Fail::new(text)) }
 }
 
-// The index with another byte at a place, sealed.
-fn with_byte(alloc: Global, place: usize, value: u8) -> Result<Vec<u8>, AllocError> {
-    let mut body = Vec::new(alloc);
-    for (at, byte) in INDEX.iter().enumerate() {
-        body.push(if at == place { value } else { *byte })?;
+// The bytes one behind the other.
+fn joined(alloc: Global, parts: &[&[u8]]) -> Result<Vec<u8>, AllocError> {
+    let mut bytes = Vec::new(alloc);
+    for part in parts {
+        bytes.extend_from_slice(part)?;
+    }
+    Ok(bytes)
+}
+
+fn head_offset(alloc: Global, file: &[u8]) -> Result<usize, Fail> {
+    match read_head_file(alloc, file) {
+        Err(IndexFault::BadIndex(offset)) => Ok(offset),
+        _ => Err(Fail::new("no break of a head")),
+    }
+}
+
+fn index_offset(alloc: Global, file: &[u8]) -> Result<usize, Fail> {
+    match read_host_index(alloc, file) {
+        Err(IndexFault::BadIndex(offset)) => Ok(offset),
+        _ => Err(Fail::new("no break of an index")),
+    }
+}
+
+// The offset where the last field or item begins of so many bytes.
+fn start_of(starts: &[usize], len: usize) -> usize {
+    let mut last = 0;
+    for start in starts {
+        if *start <= len {
+            last = *start;
+        }
+    }
+    last
+}
+
+fn expect_head_cut(alloc: Global, len: usize) -> Result<(), Fail> {
+    let file = seal(joined(alloc, &[&HEAD[..len.min(22)]])?)?;
+    let offset = head_offset(alloc, file.as_slice())?;
+    expect(offset == start_of(&HEAD_STARTS, len), "another offset")
+}
+
+fn expect_index_cut(alloc: Global, len: usize) -> Result<(), Fail> {
+    let file = seal(joined(alloc, &[&INDEX[..len.min(144)]])?)?;
+    let offset = index_offset(alloc, file.as_slice())?;
+    expect(offset == start_of(&INDEX_STARTS, len), "another offset")
+}
+
+// What stands behind the first fourteen bytes of a head, and where the whole breaks.
+struct Head(&'static [u8], usize);
+
+const HEADS: [Head; 5] = [
+    Head(b"\x00\x02\x01a\x01a", 18),
+    Head(b"\x04\x01", 12),
+    Head(b"\x00\x01\x01A", 16),
+    Head(b"\x00\x01\x00", 16),
+    Head(b"\x00\x01\x01a\x00", 18),
+];
+
+fn expect_bad_head(alloc: Global, head: &Head) -> Result<(), Fail> {
+    let file = seal(joined(alloc, &[&HEAD[..14], head.0])?)?;
+    expect(
+        head_offset(alloc, file.as_slice())? == head.1,
+        "another offset",
+    )
+}
+
+// An index of a byte, the byte that is put there, and where the index of a host breaks then: its magic, its name, a
+// setting, a period, an old count, the next number (above 2^32, then one too few), the number of lines, a kind, a flag, a
+// number that doesn't rise, the last line not filled.
+struct Byte(usize, u8, usize);
+
+const BYTES: [Byte; 13] = [
+    Byte(0, b'r', 0),
+    Byte(3, b'3', 0),
+    Byte(9, b'A', 8),
+    Byte(10, 1, 10),
+    Byte(60, 0, 56),
+    Byte(65, 17, 65),
+    Byte(85, 1, 82),
+    Byte(89, 2, 121),
+    Byte(97, 1, 98),
+    Byte(97, 3, 144),
+    Byte(118, 3, 98),
+    Byte(124, 0, 121),
+    Byte(142, 0, 121),
+];
+
+fn with_byte(alloc: Global, byte: &Byte) -> Result<Vec<u8>, AllocError> {
+    let mut body = INDEX.to_vec(alloc)?;
+    if let Some(changed) = body.get_mut(byte.0) {
+        *changed = byte.1;
     }
     seal(body)
 }
 
-#[test]
-fn index_of_two_backups_is_written_and_read(rt: HostRuntime) -> Result<(), Fail> {
-    let alloc = rt.alloc();
-    let mut expected = Vec::from_slice(alloc, INDEX)?;
-    expected.extend_from_slice(INDEX_SEAL)?;
-    let index = index_of(alloc, 3, &[FULL, INCR])??;
-    let written = write_host_index(alloc, &index)?;
-    assert_eq!(rt; written.as_slice(), expected.as_slice());
-    let read = read_host_index(alloc, expected.as_slice())?;
-    assert_eq!(rt;
-        (read.host(), read.good(), read.bad(), read.next()),
-        (7, 2, 1, 3)
-    );
-    assert!(rt; read.lines().lines() == [FULL, INCR].as_slice());
-    let again = write_host_index(alloc, &read)?;
-    assert_eq!(rt; again.as_slice(), expected.as_slice());
-    Ok(())
+fn expect_bad_byte(alloc: Global, byte: &Byte) -> Result<(), Fail> {
+    let file = with_byte(alloc, byte)?;
+    expect(
+        index_offset(alloc, file.as_slice())? == byte.2,
+        "another offset",
+    )
 }
 
-#[test]
-fn indexes_that_are_cut_off(rt: HostRuntime) -> Result<(), Fail> {
-    let alloc = rt.alloc();
-    let mut place = 0;
-    for len in 0..INDEX.len() {
-        if FIELDS.contains(&len) {
-            place = len;
-        }
-        let file = sealed(alloc, [&INDEX[..len], b""])?;
-        let fault = IndexFault::BadIndex(place);
-        assert_eq!(rt; read_host_index(alloc, file.as_slice()).err(), Some(fault));
+fn name_of(alloc: Global, text: &[u8]) -> Result<HostName, Fail> {
+    Ok(HostName::read(alloc, text)?)
+}
+
+fn list_of(alloc: Global, lines: &[Line]) -> Result<LineList, AllocError> {
+    let mut list = LineList::new(alloc);
+    for line in lines {
+        list.push(*line)?;
     }
-    let file = sealed(alloc, [INDEX, b"\x00"])?;
-    let fault = IndexFault::BadIndex(131);
-    assert_eq!(rt; read_host_index(alloc, file.as_slice()).err(), Some(fault));
-    Ok(())
+    list.copy(alloc)
+}
+
+// An index without lines.
+fn empty_index(alloc: Global) -> Result<HostIndex, Fail> {
+    let name = name_of(alloc, b"a")?;
+    let rules = Rules::defaults(alloc)?;
+    Ok(HostIndex::new(7, name, rules, 0, 0, 0, LineList::new(alloc))?)
+}
+
+fn expect_index_bytes(alloc: Global, index: &HostIndex) -> Result<(), Fail> {
+    let expected = joined(alloc, &[INDEX, INDEX_SEAL])?;
+    let written = write_host_index(alloc, &index.parts())?;
+    expect(written.as_slice() == expected.as_slice(), "other bytes")
+}
+
+fn expect_index_read(alloc: Global, file: &[u8], layout: IndexLayout) -> Result<(), Fail> {
+    let (found, index) = read_host_index(alloc, file)?;
+    expect(found == layout, "another layout")?;
+    expect_index_bytes(alloc, &index)
+}
+
+// The next number, lines, and the rule that they break.
+struct Broken(u64, &'static [Line], IndexRule);
+
+const BROKEN: [Broken; 4] = [
+    Broken(4_294_967_297, &[], IndexRule::NextTooLarge),
+    Broken(3, &[INCR, INCR], IndexRule::NotRising),
+    Broken(2, &[INCR], IndexRule::NotBelowNext),
+    Broken(1, &[FULL], IndexRule::LastNotFilled),
+];
+
+fn expect_broken(alloc: Global, broken: &Broken) -> Result<(), Fail> {
+    let mut index = empty_index(alloc)?;
+    match index.set_lines(broken.0, list_of(alloc, broken.1)?) {
+        Err(rule) => expect(rule == broken.2 && index.next() == 0, "another rule"),
+        Ok(()) => Err(Fail::new("no rule is broken")),
+    }
 }
 
 #[test]
-fn indexes_of_one_other_byte(rt: HostRuntime) -> Result<(), Fail> {
+fn head_of_two_hosts_is_written_and_read(rt: HostRuntime) -> Result<(), Fail> {
     let alloc = rt.alloc();
-    // Place, byte, and where it breaks: the magic, the name, a setting, a period, the next number (2^32 and more, then
-    // one too few), the number of lines, a kind, a flag, a number that doesn't rise, the last line not filled.
-    let cases: [(usize, u8, Option<usize>); 14] = [
-        (0, b'r', Some(0)),
-        (9, b'A', Some(8)),
-        (10, 1, Some(10)),
-        (60, 0, Some(56)),
-        (72, 1, Some(69)),
-        (76, 2, Some(108)),
-        (84, 1, Some(85)),
-        (84, 3, Some(131)),
-        (105, 3, Some(85)),
-        (106, 2, Some(85)),
-        (111, 0, Some(108)),
-        (129, 0, Some(108)),
-        (130, 0, None),
-        (88, 1, None),
-    ];
-    for (place, value, breaks) in cases {
-        let file = with_byte(alloc, place, value)?;
-        let fault = breaks.map(IndexFault::BadIndex);
-        assert_eq!(rt; read_host_index(alloc, file.as_slice()).err(), fault);
+    let expected = joined(alloc, &[HEAD, HEAD_SEAL])?;
+    let read = read_head_file(alloc, expected.as_slice())?;
+    expect(read.epoch == 3 && read.names.len() == 2, "another head")?;
+    let head = HeadFile {
+        epoch: 3,
+        names: read.names.copy(alloc)?,
+    };
+    let written = write_head_file(alloc, &head)?;
+    expect(written.as_slice() == expected.as_slice(), "other bytes")
+}
+
+#[test]
+fn heads_break_at_the_field_that_is_cut(rt: HostRuntime) -> Result<(), Fail> {
+    let alloc = rt.alloc();
+    for len in 0..22 {
+        expect_head_cut(alloc, len)?;
+    }
+    for head in &HEADS {
+        expect_bad_head(alloc, head)?;
+    }
+    expect(head_offset(alloc, b"")? == 0, "an offset in nothing")?;
+    expect(head_offset(alloc, HEAD)? == 6, "another seal")
+}
+
+#[test]
+fn no_more_names_than_there_may_be(rt: HostRuntime) -> Result<(), Fail> {
+    let alloc = rt.alloc();
+    let mut names = NameList::new(alloc);
+    for number in 0..MAX_HOSTS {
+        let text = format!(in alloc; "h{number}")?;
+        names.push(name_of(alloc, text.as_bytes())?)?;
+    }
+    let one_more = names.push(name_of(alloc, b"more")?);
+    expect(one_more == Err(NameRefusal::TooMany), "one name more")?;
+    let file = write_head_file(alloc, &HeadFile { epoch: 0, names })?;
+    let read = read_head_file(alloc, file.as_slice())?;
+    expect(read.names.len() == 1024, "another number of names")
+}
+
+#[test]
+fn no_name_comes_twice(rt: HostRuntime) -> Result<(), Fail> {
+    let alloc = rt.alloc();
+    let mut names = NameList::new(alloc);
+    names.push(name_of(alloc, b"a")?)?;
+    let twice = names.push(name_of(alloc, b"a")?);
+    expect(twice == Err(NameRefusal::Twice), "a name twice")?;
+    expect(names.len() == 1, "another number of names")
+}
+
+#[test]
+fn an_index_is_edited_and_written(rt: HostRuntime) -> Result<(), Fail> {
+    let alloc = rt.alloc();
+    let mut index = empty_index(alloc)?;
+    index.set_rules(Rules::defaults(alloc)?);
+    index.set_contacts(2, 1);
+    index.append(FILLED)?;
+    index.append(INCR)?;
+    index.replace(0, FULL)?;
+    expect_index_bytes(alloc, &index)
+}
+
+#[test]
+fn edits_that_break_a_rule(rt: HostRuntime) -> Result<(), Fail> {
+    let mut index = empty_index(rt.alloc())?;
+    expect(index.append(FULL).is_err(), "the last isn't filled")?;
+    index.append(FILLED)?;
+    expect(index.replace(0, FULL).is_err(), "the last isn't filled")?;
+    expect(index.append(FILLED).is_err(), "a number twice")?;
+    expect(index.next() == 1, "another next number")
+}
+
+#[test]
+fn indexes_of_both_layouts_are_read(rt: HostRuntime) -> Result<(), Fail> {
+    let alloc = rt.alloc();
+    let second = joined(alloc, &[INDEX, INDEX_SEAL])?;
+    expect_index_read(alloc, second.as_slice(), IndexLayout::Second)?;
+    let body = INDEX.as_slice();
+    let early = &body[4..61];
+    let late = &body[74..];
+    let first = joined(alloc, &[b"RHI1", early, late, FIRST_SEAL])?;
+    expect_index_read(alloc, first.as_slice(), IndexLayout::First)
+}
+
+#[test]
+fn indexes_break_at_the_field_that_is_cut(rt: HostRuntime) -> Result<(), Fail> {
+    let alloc = rt.alloc();
+    for len in 0..144 {
+        expect_index_cut(alloc, len)?;
+    }
+    let longer = seal(joined(alloc, &[INDEX, b"\x00"])?)?;
+    let offset = index_offset(alloc, longer.as_slice())?;
+    expect(offset == 144, "another offset")
+}
+
+#[test]
+fn indexes_break_at_one_other_byte(rt: HostRuntime) -> Result<(), Fail> {
+    let alloc = rt.alloc();
+    for byte in &BYTES {
+        expect_bad_byte(alloc, byte)?;
     }
     Ok(())
 }
@@ -225,15 +320,9 @@ fn indexes_of_one_other_byte(rt: HostRuntime) -> Result<(), Fail> {
 #[test]
 fn lines_that_make_no_index(rt: HostRuntime) -> Result<(), Fail> {
     let alloc = rt.alloc();
-    let cases: [(u64, &[Line], IndexRule); 4] = [
-        (4_294_967_297, &[], IndexRule::NextTooLarge),
-        (3, &[INCR, INCR], IndexRule::NotRising),
-        (2, &[INCR], IndexRule::NotBelowNext),
-        (1, &[FULL], IndexRule::LastNotFilled),
-    ];
-    for (next, lines, rule) in cases {
-        assert_eq!(rt; index_of(alloc, next, lines)?.err(), Some(rule));
+    for broken in &BROKEN {
+        expect_broken(alloc, broken)?;
     }
-    assert_eq!(rt; index_of(alloc, 4_294_967_296, &[])?.err(), None);
-    Ok(())
+    let mut index = empty_index(alloc)?;
+    Ok(index.set_lines(4_294_967_296, LineList::new(alloc))?)
 }

@@ -1,4 +1,4 @@
--- A cycle divides a number exactly where the remainder is 0.
+-- The fill rule by the remainder is that by what divides.
 use Rattle.std.proofs.Common.{◌≡◌, ℕ, ◌/◌, ◌%◌, ◌<◌, inl, inr, nat_eq, true, ap, ◌∙◌, ◌↔◌, arith, eq-eqb}
 use Rattle.std.specs.Prelude.{IsTrue}
 use Rattle.std.proofs.lemmas.Bool.{eqb-true}

@@ -1,4 +1,5 @@
-mod Changing
 mod Dividing
-mod ListSteps
-mod NumberSteps
+mod NumberLaws
+mod Prefixes
+mod RangeLaws
+mod RunSteps

@@ -1,45 +1,31 @@
--- The layouts of rules and of a backup's line, and the lines that have one (the rules that have one are IsRules).
---     rules_bytes      the settings in their order
---     line_bytes, IsLine      number, start, end, kind, the two flags: 23 bytes
-use Rattle.std.specs.Prelude.{ℕ, List, ◌++◌, length}
-use Rattle.std.specs.Int.{w8, w16, w32, w64}
+-- The layouts of rules and of a backup's line.
+--     rules_grammar      the settings in their order: the first layout has none of old backups, the second has all
+--     line_bytes, IsLine      number, start, end, kind, the two flags: 23 bytes;  the lines that have this layout
+use Rattle.std.specs.Prelude.{ℕ, List, ◌++◌, Option, Some, None}
+use Rattle.std.specs.Int.{w8, w32, w64}
 use Rattle.wire_bytes.specs.Layout.{number_bytes, flag_bytes, IsNumber}
+use Rattle.wire_bytes.specs.Grammar.{Grammar, followed_by, seen_as}
 use Rattle.backup_rules.specs.declared.lines.Kind.{Kind}
 use Rattle.backup_rules.specs.declared.lines.Kind.TheVariants.{Full, Incr}
 use Rattle.backup_rules.specs.declared.lines.Line.{Line}
-use Rattle.backup_rules.specs.declared.groups.Times.{Times}
-use Rattle.backup_rules.specs.declared.groups.Keeping.{Keeping}
-use Rattle.backup_rules.specs.declared.groups.Contacts.{Contacts}
-use Rattle.backup_rules.specs.Breaks.{items_bytes}
-use Rattle.backup_rules.specs.Values.{Span, RuleSet}
-use Rattle.backup_rules.specs.Groups.{times_of, keeping_of, contacts_of}
-
-unfoldable pub times_bytes : Times → List ℕ
-times_bytes times = number_bytes w32 times.fill_cycle ++ (number_bytes w32 times.full_period ++ number_bytes w32 times.incr_period)
-
-unfoldable pub keeping_bytes : Keeping → List ℕ
-keeping_bytes keeping =
-    number_bytes w32 keeping.full_keep_cnt_min ++ (number_bytes w32 keeping.full_age_max ++ (number_bytes w32 keeping.incr_keep_cnt
-    ++ (number_bytes w32 keeping.incr_keep_cnt_min ++ number_bytes w32 keeping.incr_age_max)))
-
-unfoldable pub contacts_bytes : Contacts → List ℕ
-contacts_bytes contacts = number_bytes w32 contacts.blackout_good_cnt ++ number_bytes w32 contacts.blackout_bad_ping_limit
-
--- their number, and each as a number
-unfoldable pub counts_bytes : List ℕ → List ℕ
-counts_bytes counts = number_bytes w8 (length counts) ++ items_bytes (number_bytes w32) counts
-
-unfoldable pub period_bytes : Span → List ℕ
-period_bytes period = number_bytes w16 period.begin ++ (number_bytes w16 period.end ++ number_bytes w8 period.weekdays)
-
-unfoldable pub periods_bytes : List Span → List ℕ
-periods_bytes periods = number_bytes w8 (length periods) ++ items_bytes period_bytes periods
+use Rattle.backup_rules.specs.declared.layouts.RulesLayout.{RulesLayout}
+use Rattle.backup_rules.specs.declared.layouts.RulesLayout.TheVariants.{First, Second}
+use Rattle.backup_rules.specs.declared.faults.RulesFault.{RulesFault}
+use Rattle.backup_rules.specs.declared.faults.RulesFault.TheVariants.{BadRules, Memory}
+use Rattle.backup_rules.specs.Values.{RuleSet}
+use Rattle.backup_rules.specs.Ranges.{IsRules}
+use Rattle.backup_rules.specs.Parts.{early_grammar, old_grammar, none_old, early_of, old_of, rules_of}
+use Rattle.backup_rules.specs.PartLaws.{IsWithoutOld, sees_first, sees_second}
 
 -- the settings in their order
-unfoldable pub rules_bytes : RuleSet → List ℕ
-rules_bytes rules =
-    times_bytes (times_of rules) ++ (counts_bytes rules.full_keep_cnt ++ (keeping_bytes (keeping_of rules)
-    ++ (contacts_bytes (contacts_of rules) ++ periods_bytes rules.blackout_periods)))
+abbrev pub rules_grammar : RulesLayout → Grammar RuleSet
+rules_grammar First = seen_as early_grammar IsWithoutOld early_of (λ early. rules_of early none_old) sees_first
+rules_grammar Second = seen_as (followed_by early_grammar (λ _. old_grammar)) IsRules (λ rules. (early_of rules, old_of rules)) (λ p. rules_of p.0 p.1) sees_second
+
+-- the offset that a fault tells
+abbrev pub offset_of : RulesFault → Option ℕ
+offset_of (BadRules offset) = Some offset
+offset_of Memory = None
 
 -- 1 full, 2 incremental
 abbrev pub kind_number : Kind → ℕ

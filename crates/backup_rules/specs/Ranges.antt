@@ -1,36 +1,12 @@
 -- The ranges of the settings.
---     least, most      of the settings that are one number
---     IsKeepCounts, IsPeriod, ArePeriods      of the two lists, and of their items
+--     IsOf      of a setting that is one number
+--     IsKeepCounts, IsPeriod, ArePeriods      of the lists, and of their items
 --     IsRules, IsChange      each setting is in its range;  each that is named
-use Rattle.std.specs.Prelude.{◌≢◌, ℕ, ◌≤◌, List, length, IfSome}
-use Rattle.std.specs.List.{AllByRecursion}
+use Rattle.std.specs.Prelude.{◌≡◌, ◌≢◌, ℕ, ◌≤◌, nat_le, nat_eq, Bool, ◌&&◌, not, if◌then◌else◌, List, length, Option, Some, None, IfSome}
+use Rattle.std.specs.List.{AllByRecursion, list_all}
 use Rattle.backup_rules.specs.declared.settings.Setting.{Setting}
-use Rattle.backup_rules.specs.declared.settings.Setting.TheVariants.{FillCycle, FullPeriod, IncrPeriod, FullKeepCntMin, FullAgeMax, IncrKeepCnt, IncrKeepCntMin, IncrAgeMax, BlackoutGoodCnt, BlackoutBadPingLimit}
-use Rattle.backup_rules.specs.Values.{Span, RuleSet, RuleChanges}
-
-abbrev pub least : Setting → ℕ
-least FillCycle = 0
-least FullPeriod = 1
-least IncrPeriod = 1
-least FullKeepCntMin = 0
-least FullAgeMax = 1
-least IncrKeepCnt = 0
-least IncrKeepCntMin = 0
-least IncrAgeMax = 1
-least BlackoutGoodCnt = 0
-least BlackoutBadPingLimit = 1
-
-abbrev pub most : Setting → ℕ
-most FillCycle = 3650
-most FullPeriod = 315360000
-most IncrPeriod = 315360000
-most FullKeepCntMin = 1000000
-most FullAgeMax = 36500
-most IncrKeepCnt = 1000000
-most IncrKeepCntMin = 1000000
-most IncrAgeMax = 36500
-most BlackoutGoodCnt = 1000000
-most BlackoutBadPingLimit = 1000000
+use Rattle.backup_rules.specs.Settings.{least, most}
+use Rattle.backup_rules.specs.Values.{Span, RuleSet, RuleChanges, number_at, named_at}
 
 abbrev pub IsWithin : ℕ → ℕ → ℕ → Type 0
 IsWithin low high n = (low ≤ n) × (n ≤ high)
@@ -38,6 +14,16 @@ IsWithin low high n = (low ≤ n) × (n ≤ high)
 -- a number in the range of a setting
 abbrev pub IsOf : Setting → ℕ → Type 0
 IsOf setting = IsWithin (least setting) (most setting)
+
+-- a number for each setting, in its range
+pub record AreNumbers (numbers : List ℕ) : Type 0 where
+  pub counted : length numbers ≡ 12
+  pub each : (setting : Setting) → IsOf setting (number_at numbers setting)
+
+-- a number in its range for each setting that is named
+pub record AreNamed (named : List (Option ℕ)) : Type 0 where
+  pub counted : length named ≡ 12
+  pub each : (setting : Setting) → IfSome (named_at named setting) (IsOf setting)
 
 -- how many fulls are kept at one distance
 abbrev pub IsKeepCount : ℕ → Type 0
@@ -64,30 +50,30 @@ pub record ArePeriods (periods : List Span) : Type 0 where
 
 -- each setting is in its range
 pub record IsRules (rules : RuleSet) : Type 0 where
-  pub fill_cycle : IsOf FillCycle rules.fill_cycle
-  pub full_period : IsOf FullPeriod rules.full_period
-  pub incr_period : IsOf IncrPeriod rules.incr_period
+  pub numbers : AreNumbers rules.numbers
   pub full_keep_cnt : IsKeepCounts rules.full_keep_cnt
-  pub full_keep_cnt_min : IsOf FullKeepCntMin rules.full_keep_cnt_min
-  pub full_age_max : IsOf FullAgeMax rules.full_age_max
-  pub incr_keep_cnt : IsOf IncrKeepCnt rules.incr_keep_cnt
-  pub incr_keep_cnt_min : IsOf IncrKeepCntMin rules.incr_keep_cnt_min
-  pub incr_age_max : IsOf IncrAgeMax rules.incr_age_max
-  pub blackout_good_cnt : IsOf BlackoutGoodCnt rules.blackout_good_cnt
-  pub blackout_bad_ping_limit : IsOf BlackoutBadPingLimit rules.blackout_bad_ping_limit
   pub blackout_periods : ArePeriods rules.blackout_periods
+  pub old_full_keep_cnt : IsKeepCounts rules.old_full_keep_cnt
 
 -- each setting that the change names is in its range
 pub record IsChange (change : RuleChanges) : Type 0 where
-  pub fill_cycle : IfSome change.fill_cycle (IsOf FillCycle)
-  pub full_period : IfSome change.full_period (IsOf FullPeriod)
-  pub incr_period : IfSome change.incr_period (IsOf IncrPeriod)
+  pub numbers : AreNamed change.numbers
   pub full_keep_cnt : IfSome change.full_keep_cnt IsKeepCounts
-  pub full_keep_cnt_min : IfSome change.full_keep_cnt_min (IsOf FullKeepCntMin)
-  pub full_age_max : IfSome change.full_age_max (IsOf FullAgeMax)
-  pub incr_keep_cnt : IfSome change.incr_keep_cnt (IsOf IncrKeepCnt)
-  pub incr_keep_cnt_min : IfSome change.incr_keep_cnt_min (IsOf IncrKeepCntMin)
-  pub incr_age_max : IfSome change.incr_age_max (IsOf IncrAgeMax)
-  pub blackout_good_cnt : IfSome change.blackout_good_cnt (IsOf BlackoutGoodCnt)
-  pub blackout_bad_ping_limit : IfSome change.blackout_bad_ping_limit (IsOf BlackoutBadPingLimit)
   pub blackout_periods : IfSome change.blackout_periods ArePeriods
+  pub old_full_keep_cnt : IfSome change.old_full_keep_cnt IsKeepCounts
+
+-- ---- the same as tests
+
+abbrev pub are_keep_counts : List ℕ → Bool
+are_keep_counts counts = nat_le 1 (length counts) && nat_le (length counts) 16 && list_all (λ n. nat_le n 1000) counts
+
+abbrev pub is_period : Span → Bool
+is_period period =
+    nat_le period.begin 1439 && nat_le period.end 1439 && not (nat_eq period.begin period.end) && nat_le 1 period.weekdays && nat_le period.weekdays 127
+
+-- the same numbers, or the same period, where they are in range
+abbrev pub if_keep_counts : List ℕ → Option (List ℕ)
+if_keep_counts counts = if are_keep_counts counts then Some counts else None
+
+abbrev pub if_period : Span → Option Span
+if_period period = if is_period period then Some period else None

@@ -1,5 +1,7 @@
 -- The rules of a host, a change of them and a blackout period, as values.
-use Rattle.std.specs.Prelude.{ℕ, List, Option}
+use Rattle.std.specs.Prelude.{ℕ, List, Option, None, get_or}
+use Rattle.backup_rules.specs.declared.settings.Setting.{Setting}
+use Rattle.backup_rules.specs.Settings.{index_of}
 
 -- Minutes of the day from begin up to end, on some weekdays: bit w of the number stands for weekday w, and 0 is Sunday.
 pub record Span : Type 0 where
@@ -7,32 +9,36 @@ pub record Span : Type 0 where
   pub end : ℕ
   pub weekdays : ℕ
 
--- the settings of a host, in their order
+-- the rules of a host: the settings that are one number, in their order, and those that are lists
 pub record RuleSet : Type 0 where
-  pub fill_cycle : ℕ
-  pub full_period : ℕ
-  pub incr_period : ℕ
+  pub numbers : List ℕ
   pub full_keep_cnt : List ℕ
-  pub full_keep_cnt_min : ℕ
-  pub full_age_max : ℕ
-  pub incr_keep_cnt : ℕ
-  pub incr_keep_cnt_min : ℕ
-  pub incr_age_max : ℕ
-  pub blackout_good_cnt : ℕ
-  pub blackout_bad_ping_limit : ℕ
   pub blackout_periods : List Span
+  pub old_full_keep_cnt : List ℕ
 
 -- a new value for each setting that a change names
 pub record RuleChanges : Type 0 where
-  pub fill_cycle : Option ℕ
-  pub full_period : Option ℕ
-  pub incr_period : Option ℕ
+  pub numbers : List (Option ℕ)
   pub full_keep_cnt : Option (List ℕ)
-  pub full_keep_cnt_min : Option ℕ
-  pub full_age_max : Option ℕ
-  pub incr_keep_cnt : Option ℕ
-  pub incr_keep_cnt_min : Option ℕ
-  pub incr_age_max : Option ℕ
-  pub blackout_good_cnt : Option ℕ
-  pub blackout_bad_ping_limit : Option ℕ
   pub blackout_periods : Option (List Span)
+  pub old_full_keep_cnt : Option (List ℕ)
+
+-- the number that stands at a setting
+abbrev pub number_at : List ℕ → Setting → ℕ
+number_at numbers setting = get_or numbers (index_of setting) 0
+
+-- the new number that is named for a setting
+abbrev pub named_at : List (Option ℕ) → Setting → Option ℕ
+named_at named setting = get_or named (index_of setting) None
+
+-- a setting of one number
+abbrev pub number_of : RuleSet → Setting → ℕ
+number_of rules setting = number_at rules.numbers setting
+
+-- the rules that are made of these parts
+abbrev pub rules_from : List ℕ → List ℕ → List Span → List ℕ → RuleSet
+rules_from numbers counts periods old_counts = record { numbers = numbers; full_keep_cnt = counts; blackout_periods = periods; old_full_keep_cnt = old_counts }
+
+-- the change that is made of these parts
+abbrev pub change_from : List (Option ℕ) → Option (List ℕ) → Option (List Span) → Option (List ℕ) → RuleChanges
+change_from named counts periods old_counts = record { numbers = named; full_keep_cnt = counts; blackout_periods = periods; old_full_keep_cnt = old_counts }

@@ -1,12 +1,12 @@
 ghost use Rattle.std.specs.Prelude.{◌≡◌, Some, OnOk, OnErr, IfOk, IfErr};
 ghost use Rattle.std.specs.Option.{option_copied};
+ghost use Rattle.backup_rules.specs.Values.{named_at};
 ghost use Rattle.backup_rules.specs.Ranges.{IsOf, IsChange};
-ghost use Rattle.backup_rules.specs.Groups.{changed_times, changed_keeping, changed_contacts};
 ghost use Rattle.backup_rules.specs.Changes.{no_change, with_number};
 
 use crate::counts::KeepCounts;
 use crate::faults::OutOfRange;
-use crate::groups::{Contacts, Keeping, Times};
+use crate::numbers::Named;
 use crate::periods::Periods;
 use crate::settings::Setting;
 use std::alloc::{AllocError, Global};
@@ -15,31 +15,22 @@ use std::marker::Model;
 /// New values for some settings, each in its range.
 #[derive(Debug, Drop)]
 pub struct RuleChange {
-    fill_cycle: Option<u32>,
-    full_period: Option<u32>,
-    incr_period: Option<u32>,
+    numbers: Named,
     full_keep_cnt: Option<KeepCounts>,
-    full_keep_cnt_min: Option<u32>,
-    full_age_max: Option<u32>,
-    incr_keep_cnt: Option<u32>,
-    incr_keep_cnt_min: Option<u32>,
-    incr_age_max: Option<u32>,
-    blackout_good_cnt: Option<u32>,
-    blackout_bad_ping_limit: Option<u32>,
     blackout_periods: Option<Periods>,
+    old_full_keep_cnt: Option<KeepCounts>,
 }
 
 impl Model for RuleChange {
     ghost use Rattle.backup_rules.specs.Values.{RuleChanges};
+    ghost use Rattle.backup_rules.specs.Values.{change_from};
+    ghost use Rattle.backup_rules.specs.Ranges.{IsChange};
 
     ghost Value = { RuleChanges };
 
-    ghost use Rattle.backup_rules.specs.Named.{change_of};
-    ghost use Rattle.backup_rules.specs.Ranges.{IsChange};
+    ghost view = { λ c. change_from c.numbers c.full_keep_cnt c.blackout_periods c.old_full_keep_cnt };
 
-    ghost view = { change_of };
-
-    ghost invariant = { λ c. IsChange (change_of c) };
+    ghost invariant = { λ c. IsChange (change_from c.numbers c.full_keep_cnt c.blackout_periods c.old_full_keep_cnt) };
 }
 
 /// Equal numbers, where there are some.
@@ -66,27 +57,20 @@ fn copied_periods(alloc: Global, periods: &Option<Periods>) -> Result<Option<Per
 }
 
 impl RuleChange {
-    /// A change that names no setting.
+    /// A change that names no setting; takes no memory.
     pub fn none() -> RuleChange
         ensures { result ≡ no_change }
     {
         RuleChange {
-            fill_cycle: None,
-            full_period: None,
-            incr_period: None,
+            numbers: Named::none(),
             full_keep_cnt: None,
-            full_keep_cnt_min: None,
-            full_age_max: None,
-            incr_keep_cnt: None,
-            incr_keep_cnt_min: None,
-            incr_age_max: None,
-            blackout_good_cnt: None,
-            blackout_bad_ping_limit: None,
             blackout_periods: None,
+            old_full_keep_cnt: None,
         }
     }
 
-    /// Names a setting of one number; refused exactly where the number is out of its range.
+    /// Names a setting of one number; refused exactly where the number is out of its range, and then the change is as
+    /// it was.
     pub fn set(&mut self, setting: Setting, value: u32) -> Result<(), OutOfRange>
         ensures ok { OnOk result (self.new ≡ with_number self.old setting value) }
         ensures in_range { OnOk result (IsOf setting value) }
@@ -96,18 +80,7 @@ impl RuleChange {
         if !setting.takes(value) {
             return Err(OutOfRange(setting));
         }
-        match setting {
-            Setting::FillCycle => self.fill_cycle = Some(value),
-            Setting::FullPeriod => self.full_period = Some(value),
-            Setting::IncrPeriod => self.incr_period = Some(value),
-            Setting::FullKeepCntMin => self.full_keep_cnt_min = Some(value),
-            Setting::FullAgeMax => self.full_age_max = Some(value),
-            Setting::IncrKeepCnt => self.incr_keep_cnt = Some(value),
-            Setting::IncrKeepCntMin => self.incr_keep_cnt_min = Some(value),
-            Setting::IncrAgeMax => self.incr_age_max = Some(value),
-            Setting::BlackoutGoodCnt => self.blackout_good_cnt = Some(value),
-            Setting::BlackoutBadPingLimit => self.blackout_bad_ping_limit = Some(value),
-        }
+        self.numbers.put(setting, value);
         Ok(())
     }
 
@@ -127,24 +100,31 @@ impl RuleChange {
         self.blackout_periods = Some(periods);
     }
 
+    /// Names OldFullKeepCnt.
+    pub fn set_old_full_keep_cnt(&mut self, counts: KeepCounts)
+        ensures { self.new ≡ record self.old { old_full_keep_cnt = Some counts } }
+    {
+        let _ = counts.as_slice();
+        self.old_full_keep_cnt = Some(counts);
+    }
+
     /// An equal change, or want of memory.
     pub fn copy(&self, alloc: Global) -> Result<RuleChange, AllocError>
         ensures { IfOk result (λ copy. copy ≡ self.now) }
     {
         Ok(RuleChange {
+            numbers: self.numbers,
             full_keep_cnt: copied_counts(alloc, &self.full_keep_cnt)?,
             blackout_periods: copied_periods(alloc, &self.blackout_periods)?,
-            fill_cycle: self.fill_cycle,
-            full_period: self.full_period,
-            incr_period: self.incr_period,
-            full_keep_cnt_min: self.full_keep_cnt_min,
-            full_age_max: self.full_age_max,
-            incr_keep_cnt: self.incr_keep_cnt,
-            incr_keep_cnt_min: self.incr_keep_cnt_min,
-            incr_age_max: self.incr_age_max,
-            blackout_good_cnt: self.blackout_good_cnt,
-            blackout_bad_ping_limit: self.blackout_bad_ping_limit,
+            old_full_keep_cnt: copied_counts(alloc, &self.old_full_keep_cnt)?,
         })
+    }
+
+    /// The new number of a setting, if it is named.
+    pub fn number(&self, setting: Setting) -> Option<u32>
+        ensures { result ≡ named_at self.now.numbers setting }
+    {
+        self.numbers.get(setting)
     }
 
     pub fn full_keep_cnt(&self) -> Option<&KeepCounts>
@@ -159,40 +139,16 @@ impl RuleChange {
         self.blackout_periods.as_ref()
     }
 
-    // The settings before FullKeepCnt after the change.
-    pub(crate) fn times(&self, old: Times) -> Times
-        ensures value { result ≡ changed_times self.now old }
-        ensures in_range { IsChange self.now }
+    pub fn old_full_keep_cnt(&self) -> Option<&KeepCounts>
+        ensures { option_copied result ≡ self.now.old_full_keep_cnt }
     {
-        Times {
-            fill_cycle: self.fill_cycle.unwrap_or(old.fill_cycle),
-            full_period: self.full_period.unwrap_or(old.full_period),
-            incr_period: self.incr_period.unwrap_or(old.incr_period),
-        }
+        self.old_full_keep_cnt.as_ref()
     }
 
-    // The settings of keeping behind it after the change.
-    pub(crate) fn keeping(&self, old: Keeping) -> Keeping
-        ensures { result ≡ changed_keeping self.now old }
+    // The settings of one number that the change names.
+    pub(crate) fn numbers(&self) -> &Named
+        ensures { result.now ≡ self.now.numbers }
     {
-        Keeping {
-            full_keep_cnt_min: self.full_keep_cnt_min.unwrap_or(old.full_keep_cnt_min),
-            full_age_max: self.full_age_max.unwrap_or(old.full_age_max),
-            incr_keep_cnt: self.incr_keep_cnt.unwrap_or(old.incr_keep_cnt),
-            incr_keep_cnt_min: self.incr_keep_cnt_min.unwrap_or(old.incr_keep_cnt_min),
-            incr_age_max: self.incr_age_max.unwrap_or(old.incr_age_max),
-        }
-    }
-
-    // The numbers of contacts after the change.
-    pub(crate) fn contacts(&self, old: Contacts) -> Contacts
-        ensures { result ≡ changed_contacts self.now old }
-    {
-        Contacts {
-            blackout_good_cnt: self.blackout_good_cnt.unwrap_or(old.blackout_good_cnt),
-            blackout_bad_ping_limit: self
-                .blackout_bad_ping_limit
-                .unwrap_or(old.blackout_bad_ping_limit),
-        }
+        &self.numbers
     }
 }

@@ -1,14 +1,14 @@
-ghost use Rattle.std.specs.Prelude.{◌≡◌, ◌↔◌, [], ◌∷◌, IsTrue, IfOk, IfSome, IfNone};
-ghost use Rattle.std.specs.List.{AllByRecursion};
-ghost use Rattle.backup_rules.specs.Ranges.{IsKeepCount, IsKeepCounts};
+ghost use Rattle.std.specs.Prelude.{◌≡◌, ◌↔◌, [], ◌∷◌, nat_le, IsTrue, IfOk, IfSome, IfNone};
+ghost use Rattle.std.specs.List.{list_all};
+ghost use Rattle.backup_rules.specs.Ranges.{IsKeepCounts, are_keep_counts, if_keep_counts};
 
 use std::alloc::{AllocError, Global};
 use std::marker::Model;
 
-/// The most numbers that there may be.
-const MOST_COUNTS: usize = 16;
+/// How many numbers there may be.
+pub const MAX_COUNTS: usize = 16;
 /// The greatest of them.
-const MOST_KEPT: u32 = 1_000;
+pub const MAX_COUNT: u32 = 1_000;
 
 /// The numbers of filled backups that are kept at growing distances: 1 to 16 numbers of 0 to 1,000.
 #[derive(Debug, Drop)]
@@ -29,25 +29,32 @@ impl Model for KeepCounts {
 
 /// Whether each number is at most 1,000.
 fn are_small(counts: &[u32]) -> bool
-    ensures { IsTrue result ↔ AllByRecursion IsKeepCount counts.now }
+    ensures { result ≡ list_all (λ n. nat_le n 1000) counts.now }
 {
-    counts.iter().all(|&count| count <= MOST_KEPT)
+    counts.iter().all(|&count| count <= MAX_COUNT)
+}
+
+/// Whether there are 1 to 16 numbers, each of them small.
+fn are_keep_counts(counts: &[u32]) -> bool
+    ensures { result ≡ are_keep_counts counts.now }
+{
+    !counts.is_empty() && counts.len() <= MAX_COUNTS && are_small(counts)
 }
 
 impl KeepCounts {
     /// These numbers, which takes no memory; None where there are none or too many, or one is too great.
+    #[tactic(auto, using(crate::proofs::RangeLaws::in_range_where_true, crate::proofs::RangeLaws::true_in_range))]
     pub fn from_vec(counts: Vec<u32>) -> Option<KeepCounts>
         ensures some { IfSome result (λ kept. kept ≡ counts.items) }
         ensures in_range { IfSome result IsKeepCounts }
         ensures none { IfNone result (IsKeepCounts counts.items → ⊥) }
+        ensures value { result ≡ if_keep_counts counts.items }
     {
-        if counts.is_empty() || counts.len() > MOST_COUNTS {
-            return None;
+        if are_keep_counts(counts.as_slice()) {
+            Some(KeepCounts { counts })
+        } else {
+            None
         }
-        if !are_small(counts.as_slice()) {
-            return None;
-        }
-        Some(KeepCounts { counts })
     }
 
     /// Numbers that are known to be in range.

@@ -1,6 +1,7 @@
 //! What is wrong with settings, and with bytes that were to be rules.
 
 use crate::settings::Setting;
+use std::alloc::{AllocError, AllocFailed};
 use std::error::Error;
 use std::fmt;
 
@@ -38,3 +39,25 @@ impl fmt::Display for RulesFault {
 }
 
 impl Error for RulesFault {}
+
+impl<T: Drop> From<AllocFailed<T>> for RulesFault {
+    ghost use Rattle.std.specs.Prelude.{◌≡◌};
+    ghost use Rattle.backup_rules.specs.declared.faults.RulesFault.TheVariants.{Memory};
+
+    ghost from_gives = { λ _ fault. fault ≡ Memory };
+
+    fn from(_fault: AllocFailed<T>) -> RulesFault {
+        RulesFault::Memory
+    }
+}
+
+impl From<AllocError> for RulesFault {
+    ghost use Rattle.std.specs.Prelude.{◌≡◌};
+    ghost use Rattle.backup_rules.specs.declared.faults.RulesFault.TheVariants.{Memory};
+
+    ghost from_gives = { λ _ fault. fault ≡ Memory };
+
+    fn from(_fault: AllocError) -> RulesFault {
+        RulesFault::Memory
+    }
+}

@@ -5,8 +5,9 @@
 mod change;
 mod counts;
 mod faults;
-mod groups;
+mod layouts;
 mod lines;
+mod numbers;
 mod periods;
 mod reading;
 mod rules;
@@ -16,11 +17,12 @@ mod tests;
 mod writing;
 
 pub use change::RuleChange;
-pub use counts::KeepCounts;
+pub use counts::{KeepCounts, MAX_COUNT, MAX_COUNTS};
 pub use faults::{OutOfRange, RulesFault};
+pub use layouts::RulesLayout;
 pub use lines::{Kind, Line, fill_rule};
-pub use periods::{Period, Periods, PeriodsFault};
+pub use periods::{MAX_PERIODS, Period, Periods, PeriodsFault};
 pub use reading::{read_line, read_rules};
 pub use rules::Rules;
-pub use settings::Setting;
+pub use settings::{SETTING_COUNT, SETTINGS, Setting};
 pub use writing::{put_line, put_rules};

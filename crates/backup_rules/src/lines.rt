@@ -1,7 +1,10 @@
 ghost use Rattle.std.specs.Prelude.{◌≡◌, ◌↔◌, IsTrue};
-ghost use Rattle.backup_rules.specs.Fill.{IsLeftFilled};
+ghost use Rattle.backup_rules.specs.declared.settings.Setting.TheVariants.{FillCycle};
+ghost use Rattle.backup_rules.specs.Values.{number_of};
+ghost use Rattle.backup_rules.specs.Fill.{stays_filled, IsLeftFilled};
 
 use crate::rules::Rules;
+use crate::settings::Setting;
 
 /// Whether a dump takes all of a tree, or what differs from the backup before.
 #[derive(Clone, Copy, Debug, PartialEq, Eq)]
@@ -23,11 +26,13 @@ pub struct Line {
     pub keep: bool,
 }
 
-/// Whether the newest backup stays filled when a newer one is committed.
+/// Whether the newest backup stays filled when a newer one is committed: without a cycle a full does, under a cycle a
+/// backup whose number the cycle divides.
 pub fn fill_rule(line: &Line, rules: &Rules) -> bool
-    ensures { IsTrue result ↔ IsLeftFilled rules.now.fill_cycle line.now.kind line.now.number }
+    ensures value { result ≡ stays_filled rules.now line.now }
+    ensures divides { IsTrue result ↔ IsLeftFilled (number_of rules.now FillCycle) line.now.kind line.now.number }
 {
-    match rules.fill_cycle() {
+    match rules.number(Setting::FillCycle) {
         0 => line.kind == Kind::Full,
         cycle => line.number % cycle == 0,
     }

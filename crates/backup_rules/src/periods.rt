@@ -1,14 +1,14 @@
 ghost use Rattle.std.specs.Prelude.{◌≡◌, ◌≤◌, [], ◌∷◌, ◌++◌, length, OnOk, OnErr, IfOk, IfErr, IfSome, IfNone};
-ghost use Rattle.backup_rules.specs.Ranges.{IsPeriod, ArePeriods};
+ghost use Rattle.backup_rules.specs.Ranges.{IsPeriod, ArePeriods, if_period};
 ghost use Rattle.backup_rules.specs.Changes.{default_period};
 
-use std::alloc::{AllocError, Global};
+use std::alloc::{AllocError, AllocFailed, Global};
 use std::error::Error;
 use std::fmt;
 use std::marker::Model;
 
-/// The most periods that there may be.
-const MOST_PERIODS: usize = 16;
+/// How many periods there may be.
+pub const MAX_PERIODS: usize = 16;
 
 /// The last minute of a day.
 const LAST_MINUTE: u16 = 1_439;
@@ -43,6 +43,7 @@ impl Period {
     pub fn new(begin: u16, end: u16, weekdays: u8) -> Option<Period>
         ensures some { IfSome result (λ period. period ≡ record { begin = begin; end = end; weekdays = weekdays }) }
         ensures in_range { IfSome result IsPeriod }
+        ensures value { result ≡ if_period (record { begin = begin; end = end; weekdays = weekdays }) }
         ensures none { IfNone result (IsPeriod (record { begin = begin; end = end; weekdays = weekdays }) → ⊥) }
     {
         if begin > LAST_MINUTE || end > LAST_MINUTE || begin == end {
@@ -114,6 +115,17 @@ impl fmt::Display for PeriodsFault {
 
 impl Error for PeriodsFault {}
 
+impl<T: Drop> From<AllocFailed<T>> for PeriodsFault {
+    ghost use Rattle.std.specs.Prelude.{◌≡◌};
+    ghost use Rattle.backup_rules.specs.declared.periods.PeriodsFault.TheVariants.{Memory};
+
+    ghost from_gives = { λ _ fault. fault ≡ Memory };
+
+    fn from(_fault: AllocFailed<T>) -> PeriodsFault {
+        PeriodsFault::Memory
+    }
+}
+
 /// At most sixteen blackout periods.
 #[derive(Debug, Drop)]
 pub struct Periods {
@@ -166,13 +178,11 @@ impl Periods {
         ensures full { IfErr result (λ fault. fault ≡ PeriodsFault.Full → length self.old ≡ 16) }
     {
         let _ = &period.weekdays;
-        if self.periods.len() == MOST_PERIODS {
+        if self.periods.len() == MAX_PERIODS {
             return Err(PeriodsFault::Full);
         }
-        match self.periods.push(period) {
-            Ok(()) => Ok(()),
-            Err(_) => Err(PeriodsFault::Memory),
-        }
+        self.periods.push(period)?;
+        Ok(())
     }
 
     pub fn as_slice(&self) -> &[Period]

@@ -1,19 +1,22 @@
-//! Reads rules and lines. Only the two lists of rules take memory.
+//! Reads rules and lines. Only the lists of rules take memory.
 
-ghost use Rattle.std.specs.Prelude.{◌≡◌, ◌↔◌, [], ⊤, IsTrue, IfErr};
+ghost use Rattle.std.specs.Prelude.{◌≡◌, ◌↔◌, ◌≤◌, ◌+◌, take, drop, ⊤, IsTrue, IfErr, OnOk, OnErr};
 ghost use Rattle.std.specs.Int.{w8, w32};
 ghost use Rattle.wire_bytes.specs.Kind.{Reads};
 ghost use Rattle.wire_bytes.specs.Layout.{number_bytes};
-ghost use Rattle.backup_rules.specs.Breaks.{ReadsOrBreaks, FieldBreaks, ItemsBreak, AreCounted, items_bytes};
-ghost use Rattle.backup_rules.specs.Ranges.{IsWithin, IsOf, IsKeepCount, IsKeepCounts, IsPeriod, ArePeriods, IsRules};
-ghost use Rattle.backup_rules.specs.Groups.{AreTimes, AreKeeping, AreContacts};
-ghost use Rattle.backup_rules.specs.Layout.{times_bytes, counts_bytes, keeping_bytes, contacts_bytes, period_bytes, periods_bytes, rules_bytes, kind_bytes, line_bytes, IsLine};
-ghost use Rattle.backup_rules.specs.Places.{offset_of, NumberBreaks, TimesBreak, CountsBreak, KeepingBreak, ContactsBreak, PeriodsBreak, RulesBreak};
+ghost use Rattle.wire_bytes.specs.Grammar.{field, number, items_of};
+ghost use Rattle.wire_bytes.specs.GrammarReading.{ReadsOrBreaks};
+ghost use Rattle.backup_rules.specs.declared.layouts.RulesLayout.TheVariants.{First, Second};
+ghost use Rattle.backup_rules.specs.Ranges.{IsWithin, IsOf, AreNumbers, IsKeepCount, IsPeriod};
+ghost use Rattle.backup_rules.specs.Runs.{run};
+ghost use Rattle.backup_rules.specs.Parts.{run_grammar, counts_grammar, period_bytes, periods_grammar, early_grammar, old_grammar};
+ghost use Rattle.backup_rules.specs.Layout.{offset_of, rules_grammar, kind_bytes, line_bytes, IsLine};
 
-use crate::counts::KeepCounts;
+use crate::counts::{KeepCounts, MAX_COUNT};
 use crate::faults::RulesFault;
-use crate::groups::{Contacts, Keeping, Times};
+use crate::layouts::RulesLayout;
 use crate::lines::{Kind, Line};
+use crate::numbers::Numbers;
 use crate::periods::{Period, Periods};
 use crate::rules::Rules;
 use crate::settings::Setting;
@@ -21,8 +24,9 @@ use std::alloc::Global;
 use wire_bytes::{FieldFault, Reader};
 
 /// Reads a setting of one number.
+#[tactic(auto, unfolding(wire_bytes::specs::Grammar::field))]
 fn read_setting(reader: &mut Reader, setting: Setting) -> Result<u32, RulesFault>
-    ensures { ReadsOrBreaks offset_of (λ n. n) (IsOf setting) (number_bytes w32) (NumberBreaks setting) reader.old result reader.new }
+    ensures { ReadsOrBreaks offset_of (λ n. n) (number w32 (IsOf setting)) reader.old result reader.new }
 {
     let start = reader.offset();
     match reader.read_u32() {
@@ -31,48 +35,26 @@ fn read_setting(reader: &mut Reader, setting: Setting) -> Result<u32, RulesFault
     }
 }
 
-/// Reads the settings before FullKeepCnt.
-fn read_times(reader: &mut Reader) -> Result<Times, RulesFault>
-    ensures { ReadsOrBreaks offset_of (λ times. times) AreTimes times_bytes TimesBreak reader.old result reader.new }
+/// Reads so many settings, from the one of this index on.
+fn read_run(
+    reader: &mut Reader,
+    numbers: &mut Numbers,
+    first: usize,
+    count: usize,
+) -> Result<(), RulesFault>
+    requires { first + count ≤ 12 }
+    ensures run { ReadsOrBreaks offset_of (λ _. run first count numbers.new) (run_grammar first count) reader.old result reader.new }
+    ensures before { take first numbers.new ≡ take first numbers.old }
+    ensures behind { drop (first + count) numbers.new ≡ drop (first + count) numbers.old }
+    ensures in_range { AreNumbers numbers.new }
 {
-    let fill_cycle = read_setting(reader, Setting::FillCycle)?;
-    let full_period = read_setting(reader, Setting::FullPeriod)?;
-    let incr_period = read_setting(reader, Setting::IncrPeriod)?;
-    Ok(Times {
-        fill_cycle,
-        full_period,
-        incr_period,
-    })
-}
-
-/// Reads the settings of keeping behind FullKeepCnt.
-fn read_keeping(reader: &mut Reader) -> Result<Keeping, RulesFault>
-    ensures { ReadsOrBreaks offset_of (λ keeping. keeping) AreKeeping keeping_bytes KeepingBreak reader.old result reader.new }
-{
-    let full_keep_cnt_min = read_setting(reader, Setting::FullKeepCntMin)?;
-    let full_age_max = read_setting(reader, Setting::FullAgeMax)?;
-    let incr_keep_cnt = read_setting(reader, Setting::IncrKeepCnt)?;
-    let incr_keep_cnt_min = read_setting(reader, Setting::IncrKeepCntMin)?;
-    let incr_age_max = read_setting(reader, Setting::IncrAgeMax)?;
-    Ok(Keeping {
-        full_keep_cnt_min,
-        full_age_max,
-        incr_keep_cnt,
-        incr_keep_cnt_min,
-        incr_age_max,
-    })
-}
-
-/// Reads the numbers of contacts.
-fn read_contacts(reader: &mut Reader) -> Result<Contacts, RulesFault>
-    ensures { ReadsOrBreaks offset_of (λ contacts. contacts) AreContacts contacts_bytes ContactsBreak reader.old result reader.new }
-{
-    let blackout_good_cnt = read_setting(reader, Setting::BlackoutGoodCnt)?;
-    let blackout_bad_ping_limit = read_setting(reader, Setting::BlackoutBadPingLimit)?;
-    Ok(Contacts {
-        blackout_good_cnt,
-        blackout_bad_ping_limit,
-    })
+    let _ = numbers.get(Setting::FillCycle);
+    for i in 0..count {
+        let setting = Setting::at(first + i);
+        let value = read_setting(reader, setting)?;
+        numbers.put(setting, value);
+    }
+    Ok(())
 }
 
 /// Whether a list of at least so many items, and at most sixteen, may have this number of them.
@@ -83,64 +65,53 @@ fn may_count(count: u8, least: u8) -> bool
 }
 
 /// Reads the number of a list's items.
+#[tactic(auto, unfolding(wire_bytes::specs::Grammar::field))]
 fn read_count(reader: &mut Reader, least: u8) -> Result<u8, RulesFault>
-    ensures { ReadsOrBreaks offset_of (λ n. n) (IsWithin least 16) (number_bytes w8) (FieldBreaks (IsWithin least 16) (number_bytes w8)) reader.old result reader.new }
+    ensures { ReadsOrBreaks offset_of (λ n. n) (number w8 (IsWithin least 16)) reader.old result reader.new }
 {
     let start = reader.offset();
-    let count = match reader.read_u8() {
-        Ok(count) => count,
-        Err(_) => return Err(RulesFault::BadRules(start)),
-    };
-    if !may_count(count, least) {
-        return Err(RulesFault::BadRules(start));
+    match reader.read_u8() {
+        Ok(count) if may_count(count, least) => Ok(count),
+        _ => Err(RulesFault::BadRules(start)),
     }
-    Ok(count)
 }
 
-/// Reads a number of FullKeepCnt.
-fn read_kept(reader: &mut Reader) -> Result<u32, FieldFault>
-    ensures { Reads (λ n. n) IsKeepCount (number_bytes w32) reader.old result reader.new }
+/// Reads a number of filled backups.
+#[tactic(auto, unfolding(wire_bytes::specs::Grammar::field))]
+fn read_kept(reader: &mut Reader) -> Result<u32, RulesFault>
+    ensures { ReadsOrBreaks offset_of (λ n. n) (number w32 IsKeepCount) reader.old result reader.new }
 {
     let start = reader.offset();
-    let kept = reader.read_u32()?;
-    if kept > 1_000 {
-        return Err(FieldFault::Foreign(start));
+    match reader.read_u32() {
+        Ok(kept) if kept <= MAX_COUNT => Ok(kept),
+        _ => Err(RulesFault::BadRules(start)),
     }
-    Ok(kept)
 }
 
-/// Reads so many numbers of FullKeepCnt.
+/// Reads so many numbers of filled backups.
 fn read_kept_counts(alloc: Global, reader: &mut Reader, count: u8) -> Result<Vec<u32>, RulesFault>
-    ensures { ReadsOrBreaks offset_of (λ counts. counts.items) (AreCounted (λ before. IsKeepCount) count) (items_bytes (number_bytes w32))
-        (λ more. ItemsBreak (λ before. IsKeepCount) (number_bytes w32) more count []) reader.old result reader.new }
+    ensures { ReadsOrBreaks offset_of (λ counts. counts.items) (items_of (λ _. IsKeepCount) (number_bytes w32) count) reader.old result reader.new }
 {
     let mut counts = Vec::new(alloc);
     for _i in 0..count {
-        let start = reader.offset();
-        let kept = match read_kept(reader) {
-            Ok(kept) => kept,
-            Err(_) => return Err(RulesFault::BadRules(start)),
-        };
-        match counts.push(kept) {
-            Ok(()) => {}
-            Err(_) => return Err(RulesFault::Memory),
-        }
+        let kept = read_kept(reader)?;
+        counts.push(kept)?;
     }
     Ok(counts)
 }
 
-/// Reads FullKeepCnt.
+/// Reads a list of numbers of filled backups.
 fn read_keep_counts(alloc: Global, reader: &mut Reader) -> Result<KeepCounts, RulesFault>
-    ensures { ReadsOrBreaks offset_of (λ counts. counts) IsKeepCounts counts_bytes CountsBreak reader.old result reader.new }
+    ensures { ReadsOrBreaks offset_of (λ counts. counts) counts_grammar reader.old result reader.new }
 {
     let count = read_count(reader, 1)?;
     let counts = read_kept_counts(alloc, reader, count)?;
     Ok(KeepCounts::from_valid(counts))
 }
 
-/// Reads a blackout period.
-#[tactic(auto, unfolding(crate::specs::Layout::period_bytes))]
-fn read_period(reader: &mut Reader) -> Result<Period, FieldFault>
+/// Reads the minutes and weekdays of a period.
+#[tactic(auto, unfolding(crate::specs::Parts::period_bytes))]
+fn read_span(reader: &mut Reader) -> Result<Period, FieldFault>
     ensures { Reads (λ period. period) IsPeriod period_bytes reader.old result reader.new }
 {
     let start = reader.offset();
@@ -153,49 +124,113 @@ fn read_period(reader: &mut Reader) -> Result<Period, FieldFault>
     }
 }
 
+/// Reads a blackout period.
+#[tactic(auto, unfolding(wire_bytes::specs::Grammar::field))]
+fn read_period(reader: &mut Reader) -> Result<Period, RulesFault>
+    ensures { ReadsOrBreaks offset_of (λ period. period) (field IsPeriod period_bytes) reader.old result reader.new }
+{
+    let start = reader.offset();
+    match read_span(reader) {
+        Ok(period) => Ok(period),
+        Err(_) => Err(RulesFault::BadRules(start)),
+    }
+}
+
 /// Reads so many blackout periods.
 fn read_counted_periods(
     alloc: Global,
     reader: &mut Reader,
     count: u8,
 ) -> Result<Vec<Period>, RulesFault>
-    ensures { ReadsOrBreaks offset_of (λ periods. periods.items) (AreCounted (λ before. IsPeriod) count) (items_bytes period_bytes)
-        (λ more. ItemsBreak (λ before. IsPeriod) period_bytes more count []) reader.old result reader.new }
+    ensures { ReadsOrBreaks offset_of (λ periods. periods.items) (items_of (λ _. IsPeriod) period_bytes count) reader.old result reader.new }
 {
     let mut periods = Vec::new(alloc);
     for _i in 0..count {
-        let start = reader.offset();
-        let period = match read_period(reader) {
-            Ok(period) => period,
-            Err(_) => return Err(RulesFault::BadRules(start)),
-        };
-        match periods.push(period) {
-            Ok(()) => {}
-            Err(_) => return Err(RulesFault::Memory),
-        }
+        let period = read_period(reader)?;
+        periods.push(period)?;
     }
     Ok(periods)
 }
 
 /// Reads BlackoutPeriods.
 fn read_periods(alloc: Global, reader: &mut Reader) -> Result<Periods, RulesFault>
-    ensures { ReadsOrBreaks offset_of (λ periods. periods) ArePeriods periods_bytes PeriodsBreak reader.old result reader.new }
+    ensures { ReadsOrBreaks offset_of (λ periods. periods) periods_grammar reader.old result reader.new }
 {
     let count = read_count(reader, 0)?;
     let periods = read_counted_periods(alloc, reader, count)?;
     Ok(Periods::from_valid(periods))
 }
 
-/// The rules that stand next; refused exactly where none stand there, or for want of memory.
-pub fn read_rules(alloc: Global, reader: &mut Reader) -> Result<Rules, RulesFault>
-    ensures { ReadsOrBreaks offset_of (λ rules. rules) IsRules rules_bytes RulesBreak reader.old result reader.new }
+/// Reads the settings up to BlackoutPeriods.
+fn read_early(
+    alloc: Global,
+    reader: &mut Reader,
+    numbers: &mut Numbers,
+) -> Result<(KeepCounts, Periods), RulesFault>
+    ensures early { ReadsOrBreaks offset_of (λ lists. (run 0 3 numbers.new, (lists.0, (run 3 7 numbers.new, lists.1)))) early_grammar reader.old result reader.new }
+    ensures behind { OnOk result (drop 10 numbers.new ≡ drop 10 numbers.old) }
+    ensures in_range { AreNumbers numbers.new }
 {
-    let times = read_times(reader)?;
+    read_run(reader, numbers, 0, 3)?;
     let full_keep_cnt = read_keep_counts(alloc, reader)?;
-    let keeping = read_keeping(reader)?;
-    let contacts = read_contacts(reader)?;
+    read_run(reader, numbers, 3, 7)?;
     let blackout_periods = read_periods(alloc, reader)?;
-    Ok(Rules::from_parts(times, full_keep_cnt, keeping, contacts, blackout_periods))
+    Ok((full_keep_cnt, blackout_periods))
+}
+
+/// Reads the settings of old backups.
+fn read_old(
+    alloc: Global,
+    reader: &mut Reader,
+    numbers: &mut Numbers,
+) -> Result<KeepCounts, RulesFault>
+    ensures old { ReadsOrBreaks offset_of (λ counts. (run 10 1 numbers.new, (counts, run 11 1 numbers.new))) old_grammar reader.old result reader.new }
+    ensures before { OnOk result (take 10 numbers.new ≡ take 10 numbers.old) }
+    ensures in_range { AreNumbers numbers.new }
+{
+    read_run(reader, numbers, 10, 1)?;
+    let old_full_keep_cnt = read_keep_counts(alloc, reader)?;
+    read_run(reader, numbers, 11, 1)?;
+    Ok(old_full_keep_cnt)
+}
+
+/// Reads rules without settings of old backups.
+fn read_first(alloc: Global, reader: &mut Reader) -> Result<Rules, RulesFault>
+    ensures { ReadsOrBreaks offset_of (λ rules. rules) (rules_grammar First) reader.old result reader.new }
+{
+    let mut numbers = Numbers::defaults();
+    let (full_keep_cnt, blackout_periods) = read_early(alloc, reader, &mut numbers)?;
+    let old_full_keep_cnt = KeepCounts::one(alloc)?;
+    Ok(Rules::from_parts(numbers, full_keep_cnt, blackout_periods, old_full_keep_cnt))
+}
+
+/// Reads rules with all settings.
+fn read_second(alloc: Global, reader: &mut Reader) -> Result<Rules, RulesFault>
+    ensures { ReadsOrBreaks offset_of (λ rules. rules) (rules_grammar Second) reader.old result reader.new }
+{
+    let mut numbers = Numbers::defaults();
+    let (full_keep_cnt, blackout_periods) = read_early(alloc, reader, &mut numbers)?;
+    let old_full_keep_cnt = read_old(alloc, reader, &mut numbers)?;
+    Ok(Rules::from_parts(numbers, full_keep_cnt, blackout_periods, old_full_keep_cnt))
+}
+
+/// The rules that stand next in this layout; refused exactly where none stand there, or for want of memory, and then the
+/// reader stands where it stood.
+pub fn read_rules(
+    alloc: Global,
+    reader: &mut Reader,
+    layout: RulesLayout,
+) -> Result<Rules, RulesFault>
+    ensures read { ReadsOrBreaks offset_of (λ rules. rules) (rules_grammar layout) reader.old result reader.new }
+    ensures same { OnErr result (reader.new ≡ reader.old) }
+{
+    let mut ahead = reader.copy();
+    let rules = match layout {
+        RulesLayout::First => read_first(alloc, &mut ahead)?,
+        RulesLayout::Second => read_second(alloc, &mut ahead)?,
+    };
+    *reader = ahead;
+    Ok(rules)
 }
 
 /// Reads a kind.
@@ -231,14 +266,19 @@ fn read_line_fields(reader: &mut Reader) -> Result<Line, FieldFault>
     })
 }
 
-/// The line that stands next; refused, as foreign at its first byte, exactly where none stands there.
+/// The line that stands next; refused, as foreign at its first byte, exactly where none stands there, and then the reader
+/// stands where it stood.
 pub fn read_line(reader: &mut Reader) -> Result<Line, FieldFault>
     ensures line { Reads (λ line. line) IsLine line_bytes reader.old result reader.new }
-    ensures place { IfErr result (λ fault. fault ≡ FieldFault.Foreign reader.old.offset) }
+    ensures here { IfErr result (λ fault. fault ≡ FieldFault.Foreign reader.old.offset) }
+    ensures same { OnErr result (reader.new ≡ reader.old) }
 {
-    let start = reader.offset();
-    match read_line_fields(reader) {
-        Ok(line) => Ok(line),
-        Err(_) => Err(FieldFault::Foreign(start)),
+    let mut ahead = reader.copy();
+    match read_line_fields(&mut ahead) {
+        Ok(line) => {
+            *reader = ahead;
+            Ok(line)
+        }
+        Err(_) => Err(FieldFault::Foreign(reader.offset())),
     }
 }

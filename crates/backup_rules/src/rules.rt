@@ -1,36 +1,34 @@
 ghost use Rattle.std.specs.Prelude.{◌≡◌, IfOk};
-ghost use Rattle.backup_rules.specs.Ranges.{IsRules};
-ghost use Rattle.backup_rules.specs.Groups.{rules_from, times_of, keeping_of, contacts_of};
+ghost use Rattle.backup_rules.specs.Values.{rules_from, number_of};
+ghost use Rattle.backup_rules.specs.Ranges.{IsOf, IsRules};
 ghost use Rattle.backup_rules.specs.Changes.{default_rules, changed};
 
 use crate::change::RuleChange;
 use crate::counts::KeepCounts;
-use crate::groups::{Contacts, Keeping, Times};
+use crate::numbers::Numbers;
 use crate::periods::Periods;
+use crate::settings::Setting;
 use std::alloc::{AllocError, Global};
 use std::marker::Model;
 
 /// The settings of a host, each in its range.
 #[derive(Debug, Drop)]
 pub struct Rules {
-    times: Times,
+    numbers: Numbers,
     full_keep_cnt: KeepCounts,
-    keeping: Keeping,
-    contacts: Contacts,
     blackout_periods: Periods,
+    old_full_keep_cnt: KeepCounts,
 }
 
 impl Model for Rules {
-    ghost use Rattle.backup_rules.specs.Values.{RuleSet};
+    ghost use Rattle.backup_rules.specs.Values.{RuleSet, rules_from};
+    ghost use Rattle.backup_rules.specs.Ranges.{IsRules};
 
     ghost Value = { RuleSet };
 
-    ghost use Rattle.backup_rules.specs.Ranges.{IsRules};
-    ghost use Rattle.backup_rules.specs.Groups.{rules_from};
+    ghost view = { λ r. rules_from r.numbers r.full_keep_cnt r.blackout_periods r.old_full_keep_cnt };
 
-    ghost view = { λ r. rules_from r.times r.full_keep_cnt r.keeping r.contacts r.blackout_periods };
-
-    ghost invariant = { λ r. IsRules (rules_from r.times r.full_keep_cnt r.keeping r.contacts r.blackout_periods) };
+    ghost invariant = { λ r. IsRules (rules_from r.numbers r.full_keep_cnt r.blackout_periods r.old_full_keep_cnt) };
 }
 
 impl Rules {
@@ -38,69 +36,41 @@ impl Rules {
     pub fn defaults(alloc: Global) -> Result<Rules, AllocError>
         ensures { IfOk result (λ rules. rules ≡ default_rules) }
     {
-        let times = Times {
-            fill_cycle: 0,
-            full_period: 602_208,
-            incr_period: 83_808,
-        };
-        let full_keep_cnt = KeepCounts::one(alloc)?;
-        let keeping = Keeping {
-            full_keep_cnt_min: 1,
-            full_age_max: 180,
-            incr_keep_cnt: 6,
-            incr_keep_cnt_min: 1,
-            incr_age_max: 30,
-        };
-        let contacts = Contacts {
-            blackout_good_cnt: 7,
-            blackout_bad_ping_limit: 3,
-        };
-        let blackout_periods = Periods::one(alloc)?;
         Ok(Rules {
-            times,
-            full_keep_cnt,
-            keeping,
-            contacts,
-            blackout_periods,
+            numbers: Numbers::defaults(),
+            full_keep_cnt: KeepCounts::one(alloc)?,
+            blackout_periods: Periods::one(alloc)?,
+            old_full_keep_cnt: KeepCounts::one(alloc)?,
         })
     }
 
     /// The rules that are made of these parts, which takes no memory.
     pub(crate) fn from_parts(
-        times: Times,
+        numbers: Numbers,
         full_keep_cnt: KeepCounts,
-        keeping: Keeping,
-        contacts: Contacts,
         blackout_periods: Periods,
+        old_full_keep_cnt: KeepCounts,
     ) -> Rules
-        requires { IsRules (rules_from times full_keep_cnt keeping contacts blackout_periods) }
-        ensures { result ≡ rules_from times full_keep_cnt keeping contacts blackout_periods }
+        ensures { result ≡ rules_from numbers full_keep_cnt blackout_periods old_full_keep_cnt }
     {
+        let _ = numbers.get(Setting::FillCycle);
+        let _ = full_keep_cnt.as_slice();
+        let _ = old_full_keep_cnt.as_slice();
+        let _ = blackout_periods.as_slice();
         Rules {
-            times,
+            numbers,
             full_keep_cnt,
-            keeping,
-            contacts,
             blackout_periods,
+            old_full_keep_cnt,
         }
     }
 
-    pub fn fill_cycle(&self) -> u32
-        ensures { result ≡ self.now.fill_cycle }
+    /// A setting of one number.
+    pub fn number(&self, setting: Setting) -> u32
+        ensures value { result ≡ number_of self.now setting }
+        ensures in_range { IsOf setting result }
     {
-        self.times.fill_cycle
-    }
-
-    pub fn full_period(&self) -> u32
-        ensures { result ≡ self.now.full_period }
-    {
-        self.times.full_period
-    }
-
-    pub fn incr_period(&self) -> u32
-        ensures { result ≡ self.now.incr_period }
-    {
-        self.times.incr_period
+        self.numbers.get(setting)
     }
 
     pub fn full_keep_cnt(&self) -> &KeepCounts
@@ -109,86 +79,35 @@ impl Rules {
         &self.full_keep_cnt
     }
 
-    pub fn full_keep_cnt_min(&self) -> u32
-        ensures { result ≡ self.now.full_keep_cnt_min }
-    {
-        self.keeping.full_keep_cnt_min
-    }
-
-    pub fn full_age_max(&self) -> u32
-        ensures { result ≡ self.now.full_age_max }
-    {
-        self.keeping.full_age_max
-    }
-
-    pub fn incr_keep_cnt(&self) -> u32
-        ensures { result ≡ self.now.incr_keep_cnt }
-    {
-        self.keeping.incr_keep_cnt
-    }
-
-    pub fn incr_keep_cnt_min(&self) -> u32
-        ensures { result ≡ self.now.incr_keep_cnt_min }
-    {
-        self.keeping.incr_keep_cnt_min
-    }
-
-    pub fn incr_age_max(&self) -> u32
-        ensures { result ≡ self.now.incr_age_max }
-    {
-        self.keeping.incr_age_max
-    }
-
-    pub fn blackout_good_cnt(&self) -> u32
-        ensures { result ≡ self.now.blackout_good_cnt }
-    {
-        self.contacts.blackout_good_cnt
-    }
-
-    pub fn blackout_bad_ping_limit(&self) -> u32
-        ensures { result ≡ self.now.blackout_bad_ping_limit }
-    {
-        self.contacts.blackout_bad_ping_limit
-    }
-
     pub fn blackout_periods(&self) -> &Periods
         ensures { result.now ≡ self.now.blackout_periods }
     {
         &self.blackout_periods
     }
 
-    // The settings before FullKeepCnt, those of keeping behind it, and the numbers of contacts.
-    pub(crate) fn times(&self) -> Times
-        ensures value { result ≡ times_of self.now }
+    pub fn old_full_keep_cnt(&self) -> &KeepCounts
+        ensures { result.now ≡ self.now.old_full_keep_cnt }
+    {
+        &self.old_full_keep_cnt
+    }
+
+    // The settings of one number.
+    pub(crate) fn numbers(&self) -> &Numbers
+        ensures numbers { result.now ≡ self.now.numbers }
         ensures in_range { IsRules self.now }
     {
-        self.times
-    }
-
-    pub(crate) fn keeping(&self) -> Keeping
-        ensures { result ≡ keeping_of self.now }
-    {
-        self.keeping
-    }
-
-    pub(crate) fn contacts(&self) -> Contacts
-        ensures { result ≡ contacts_of self.now }
-    {
-        self.contacts
+        &self.numbers
     }
 
     /// Equal rules, or want of memory.
     pub fn copy(&self, alloc: Global) -> Result<Rules, AllocError>
         ensures { IfOk result (λ copy. copy ≡ self.now) }
     {
-        let full_keep_cnt = self.full_keep_cnt.copy(alloc)?;
-        let blackout_periods = self.blackout_periods.copy(alloc)?;
         Ok(Rules {
-            times: self.times,
-            full_keep_cnt,
-            keeping: self.keeping,
-            contacts: self.contacts,
-            blackout_periods,
+            numbers: self.numbers,
+            full_keep_cnt: self.full_keep_cnt.copy(alloc)?,
+            blackout_periods: self.blackout_periods.copy(alloc)?,
+            old_full_keep_cnt: self.old_full_keep_cnt.copy(alloc)?,
         })
     }
 
@@ -198,12 +117,14 @@ impl Rules {
     {
         let counts = change.full_keep_cnt().unwrap_or(&self.full_keep_cnt);
         let periods = change.blackout_periods().unwrap_or(&self.blackout_periods);
+        let old_counts = change
+            .old_full_keep_cnt()
+            .unwrap_or(&self.old_full_keep_cnt);
         Ok(Rules {
-            times: change.times(self.times),
+            numbers: self.numbers.changed(change.numbers()),
             full_keep_cnt: counts.copy(alloc)?,
-            keeping: change.keeping(self.keeping),
-            contacts: change.contacts(self.contacts),
             blackout_periods: periods.copy(alloc)?,
+            old_full_keep_cnt: old_counts.copy(alloc)?,
         })
     }
 }

@@ -1,6 +1,6 @@
 use Rattle.std.specs.Int.{w8}
 use Rattle.wire_bytes.specs.Layout.{text_bytes}
-use Rattle.backup_rules.specs.Items.{ItemsRead}
+use Rattle.wire_bytes.specs.ItemLaws.{ItemsRead}
 use Rattle.backup_index.specs.Names.{IsFreshName}
 use Rattle.backup_index.proofs.head_reading.read_names.Given as goal
 

@@ -2,9 +2,10 @@
 use Rattle.std.proofs.Common.{◌++◌, ap, ◌∙◌}
 use Rattle.std.specs.Int.{w8}
 use Rattle.wire_bytes.specs.Layout.{text_bytes}
-use Rattle.backup_rules.specs.Items.{items_put_more}
+use Rattle.wire_bytes.specs.ItemLaws.{items_put_more}
 use Rattle.attr_records.specs.Names.{is_host_name}
-use Rattle.backup_index.specs.Names.{IsHostName, counted_name}
+use Rattle.backup_index.specs.Names.{IsHostName}
+use Rattle.backup_index.specs.NameLaws.{counted_name}
 use Rattle.backup_index.proofs.ItemWrites.{one_fits}
 use Rattle.backup_index.proofs.head_writing.put_names.Goals as goal
 

@@ -1,57 +1,48 @@
--- The index, part by part.
-use Rattle.std.proofs.Common.{ℕ, List, Ok, refl, sym, subst}
-use Rattle.backup_rules.specs.Laws.{rules_break}
-use Rattle.backup_index.specs.Parts.{ReadsPart}
-use Rattle.backup_index.specs.Index.{Index, IsIndex, index_body, IndexBreaks, owner_of, numbers_of}
-use Rattle.backup_index.proofs.PartSteps.{part_on, part_then, part_failed, last_failed, last_read}
-use Rattle.backup_index.proofs.IndexLaws.{owner_law, numbers_law, lines_law, BehindOwner, BehindRules, BehindNumbers, index_from, lines_at, made, lines_sound, index_fits}
+-- The parts, one behind another.
+use Rattle.std.proofs.Common.{◌∙◌, sym}
+use Rattle.wire_bytes.specs.Grammar.{field, followed_by}
+use Rattle.wire_bytes.specs.GrammarLaws.{field_finds, field_refuses, refused_again, refused_by, then_finds, then_refuses, first_refuses, seen_finds, seen_refuses}
+use Rattle.backup_index.specs.IndexLaws.{sees_index, lines_sound}
+use Rattle.backup_index.proofs.Founds.{found_as}
 use Rattle.backup_index.proofs.index_reading.read_index.Goals as goal
 
+pub returns-in_err-layout : goal.returns-in_err-layout
+returns-in_err-layout c = refused_again _ _ _ c.from_residual.ensures.1 (seen_refuses sees_index (first_refuses _ c.in_err-layout.ensures))
+
 pub returns-in_err-host : goal.returns-in_err-host
-unfolding index_body IndexBreaks
-returns-in_err-host c = part_on _ _ _ _ _ _ _ _ c.from_residual.ensures.1 (part_failed _ BehindOwner owner_law owner_of (λ _ is. is.owner) c.in_err-host.ensures)
+returns-in_err-host c =
+    refused_by _ _ _ c.from_residual-in_err-host.ensures.1
+    (λ e told. seen_refuses sees_index (then_refuses _ c.in_ok-layout.ensures (first_refuses _ (field_refuses c.in_err-host.ensures.field.reads (told ∙ c.in_err-host.ensures.here)))))
+
+pub returns-in_err-name : goal.returns-in_err-name
+returns-in_err-name c =
+    refused_again _ _ _ c.from_residual-in_err-name.ensures.1
+    (seen_refuses sees_index (then_refuses _ c.in_ok-layout.ensures (then_refuses _ (field_finds c.in_ok-host.ensures.field.reads) (first_refuses _ c.in_err-name.ensures))))
 
 pub returns-in_err-rules : goal.returns-in_err-rules
-unfolding index_body IndexBreaks
 returns-in_err-rules c =
-    let owner : ℕ × List ℕ = (c.in_ok-host.host, c.in_ok-host.name) in
-    part_on _ _ _ _ _ _ _ _ c.from_residual-in_err-rules.ensures.1
-    (part_then {BreaksRest = BehindOwner} owner_law owner_of (λ _ is. is.owner) c.in_ok-host.ensures
-    (part_failed _ (BehindRules owner) rules_break (λ i. i.rules) (λ _ is. is.1.rules) c.in_err-rules.ensures))
+    refused_again _ _ _ c.from_residual-in_err-rules.ensures.1
+    (seen_refuses sees_index (then_refuses _ c.in_ok-layout.ensures (then_refuses _ (field_finds c.in_ok-host.ensures.field.reads)
+    (then_refuses _ c.in_ok-name.ensures (first_refuses _ c.in_err-rules.ensures)))))
 
 pub returns-in_err-numbers : goal.returns-in_err-numbers
-unfolding index_body IndexBreaks
 returns-in_err-numbers c =
-    let owner : ℕ × List ℕ = (c.in_ok-host.host, c.in_ok-host.name) in
-    part_on _ _ _ _ _ _ _ _ c.from_residual-in_err-numbers.ensures.1
-    (part_then {BreaksRest = BehindOwner} owner_law owner_of (λ _ is. is.owner) c.in_ok-host.ensures
-    (part_then {BreaksRest = BehindRules owner} rules_break (λ i. i.rules) (λ _ is. is.1.rules) c.in_ok-rules.ensures
-    (part_failed _ (BehindNumbers owner c.in_ok-rules.rules) numbers_law numbers_of (λ _ is. is.1.1.numbers) c.in_err-numbers.ensures)))
+    refused_again _ _ _ c.from_residual-in_err-numbers.ensures.1
+    (seen_refuses sees_index (then_refuses _ c.in_ok-layout.ensures (then_refuses _ (field_finds c.in_ok-host.ensures.field.reads)
+    (then_refuses _ c.in_ok-name.ensures (then_refuses _ c.in_ok-rules.ensures (first_refuses _ c.in_err-numbers.ensures))))))
 
 pub returns-in_err-lines : goal.returns-in_err-lines
-unfolding index_body IndexBreaks
 returns-in_err-lines c =
-    let owner : ℕ × List ℕ = (c.in_ok-host.host, c.in_ok-host.name) in
-    let rules = c.in_ok-rules.rules in
-    let numbers = c.in_ok-numbers.numbers in
-    part_on _ _ _ _ _ _ _ _ c.from_residual-in_err-lines.ensures.1
-    (part_then {BreaksRest = BehindOwner} owner_law owner_of (λ _ is. is.owner) c.in_ok-host.ensures
-    (part_then {BreaksRest = BehindRules owner} rules_break (λ i. i.rules) (λ _ is. is.1.rules) c.in_ok-rules.ensures
-    (part_then {BreaksRest = BehindNumbers owner rules} numbers_law numbers_of (λ _ is. is.1.1.numbers) c.in_ok-numbers.ensures
-    (last_failed (lines_law numbers.next numbers.count) (λ i. i.lines) (index_from owner rules numbers) (lines_at owner rules numbers) c.in_err-lines.ensures))))
+    refused_again _ _ _ c.from_residual-in_err-lines.ensures.1
+    (seen_refuses sees_index (then_refuses _ c.in_ok-layout.ensures (then_refuses _ (field_finds c.in_ok-host.ensures.field.reads)
+    (then_refuses _ c.in_ok-name.ensures (then_refuses _ c.in_ok-rules.ensures (then_refuses _ c.in_ok-numbers.ensures c.in_err-lines.ensures))))))
 
 pub from_sound-requires : goal.from_sound-requires
-from_sound-requires c = lines_sound c.in_ok-numbers.numbers c.in_ok-lines.lines c.in_ok-numbers.ensures.found.0 c.in_ok-lines.ensures.found.0
+unfolding field followed_by
+from_sound-requires c = lines_sound _ _ _ c.in_ok-numbers.ensures.fits.1.1.0 c.in_ok-lines.ensures.fits
 
 pub returns : goal.returns
-unfolding index_body IndexBreaks
 returns c =
-    let owner : ℕ × List ℕ = (c.in_ok-host.host, c.in_ok-host.name) in
-    let rules = c.in_ok-rules.rules in
-    let numbers = c.in_ok-numbers.numbers in
-    let fits = index_fits owner rules numbers c.in_ok-lines.lines c.in_ok-host.ensures.found.0 c.in_ok-rules.ensures.found.0 c.in_ok-numbers.ensures.found.0 c.in_ok-lines.ensures.found.0 in
-    subst (λ (index : Index). ReadsPart {X = Index} (λ i. i) IsIndex index_body IndexBreaks c.args.reader.now (Ok index) c.read_lines.new.reader) (sym c.from_sound.ensures)
-    (part_then {BreaksRest = BehindOwner} owner_law owner_of (λ _ is. is.owner) c.in_ok-host.ensures
-    (part_then {BreaksRest = BehindRules owner} rules_break (λ i. i.rules) (λ _ is. is.1.rules) c.in_ok-rules.ensures
-    (part_then {BreaksRest = BehindNumbers owner rules} numbers_law numbers_of (λ _ is. is.1.1.numbers) c.in_ok-numbers.ensures
-    (last_read (lines_law numbers.next numbers.count) (λ i. i.lines) (index_from owner rules numbers) (lines_at owner rules numbers) c.in_ok-lines.ensures refl fits refl (made owner rules numbers)))))
+    found_as (λ i. (c.in_ok-layout.layout, sym c.from_sound.ensures i))
+    (seen_finds sees_index (then_finds _ c.in_ok-layout.ensures (then_finds _ (field_finds c.in_ok-host.ensures.field.reads)
+    (then_finds _ c.in_ok-name.ensures (then_finds _ c.in_ok-rules.ensures (then_finds _ c.in_ok-numbers.ensures c.in_ok-lines.ensures))))))

@@ -1,5 +1,5 @@
 use Rattle.std.proofs.Common.{◌≡◌}
-use Rattle.backup_rules.specs.Items.{ItemsRead}
+use Rattle.wire_bytes.specs.ItemLaws.{ItemsRead}
 use Rattle.backup_rules.specs.Layout.{line_bytes}
 use Rattle.backup_index.specs.Lines.{free_number, LineFits}
 use Rattle.backup_index.proofs.index_reading.read_lines.Given as goal

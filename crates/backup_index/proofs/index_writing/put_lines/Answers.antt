@@ -1,6 +1,6 @@
 -- One line more.
 use Rattle.std.proofs.Common.{refl}
-use Rattle.backup_rules.specs.Items.{items_put_more}
+use Rattle.wire_bytes.specs.ItemLaws.{items_put_more}
 use Rattle.backup_rules.specs.Layout.{line_bytes, IsLine}
 use Rattle.backup_index.proofs.ItemWrites.{one_fits}
 use Rattle.backup_index.proofs.index_writing.put_lines.Goals as goal

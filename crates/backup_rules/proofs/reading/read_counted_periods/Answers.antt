@@ -1,15 +1,13 @@
--- A further period, and where there is none.
-use Rattle.std.proofs.Common.{ℕ, Some, ap}
-use Rattle.backup_rules.specs.Layout.{period_bytes}
-use Rattle.backup_rules.specs.Ranges.{IsPeriod}
-use Rattle.backup_rules.specs.Places.{offset_of}
-use Rattle.backup_rules.specs.Items.{items_read_more, no_items}
+-- A further one, and where there is none.
+use Rattle.wire_bytes.specs.GrammarLaws.{refused_again}
+use Rattle.wire_bytes.specs.ItemLaws.{items_read_more, items_refuse, items_find}
 use Rattle.backup_rules.proofs.reading.read_counted_periods.Goals as goal
 
-pub returns-in-Err : goal.returns-in-Err
-returns-in-Err c =
-    no_items (λ before. IsPeriod) period_bytes offset_of (λ periods. periods.items) _ _ _ _ _ _ _ c.loop-i-test.true c.loop-i.invariant c.in-Err.ensures.back (ap (λ (n : ℕ). Some n) c.offset-start.ensures.value)
+pub returns-in_err-period : goal.returns-in_err-period
+returns-in_err-period c = refused_again _ _ _ c.from_residual.ensures.1 (items_refuse c.loop-i-test.true c.loop-i.invariant c.in_err-period.ensures)
 
 pub loop-i-preserved : goal.loop-i-preserved
-loop-i-preserved c = rw c.in-Ok-push.ensures.items
-    (items_read_more (λ before. IsPeriod) period_bytes _ _ _ _ _ _ _ c.loop-i-test.true c.loop-i.invariant c.in-Ok.ensures.found.0 c.in-Ok.ensures.found.1 c.in-Ok.ensures.back)
+loop-i-preserved c = rw c.in_ok-push.ensures.items (items_read_more c.loop-i-test.true c.loop-i.invariant c.in_ok-period.ensures)
+
+pub returns : goal.returns
+returns c = items_find c.loop-i-test.false c.loop-i.auto._i-end c.loop-i.invariant

@@ -1,16 +1,13 @@
--- A further number, and where there is none.
-use Rattle.std.proofs.Common.{ℕ, Some, ap}
-use Rattle.std.specs.Int.{w32}
-use Rattle.wire_bytes.specs.Layout.{number_bytes}
-use Rattle.backup_rules.specs.Ranges.{IsKeepCount}
-use Rattle.backup_rules.specs.Places.{offset_of}
-use Rattle.backup_rules.specs.Items.{items_read_more, no_items}
+-- A further one, and where there is none.
+use Rattle.wire_bytes.specs.GrammarLaws.{refused_again}
+use Rattle.wire_bytes.specs.ItemLaws.{items_read_more, items_refuse, items_find}
 use Rattle.backup_rules.proofs.reading.read_kept_counts.Goals as goal
 
-pub returns-in-Err : goal.returns-in-Err
-returns-in-Err c =
-    no_items (λ before. IsKeepCount) (number_bytes w32) offset_of (λ counts. counts.items) _ _ _ _ _ _ _ c.loop-i-test.true c.loop-i.invariant c.in-Err.ensures.back (ap (λ (n : ℕ). Some n) c.offset-start.ensures.value)
+pub returns-in_err-kept : goal.returns-in_err-kept
+returns-in_err-kept c = refused_again _ _ _ c.from_residual.ensures.1 (items_refuse c.loop-i-test.true c.loop-i.invariant c.in_err-kept.ensures)
 
 pub loop-i-preserved : goal.loop-i-preserved
-loop-i-preserved c = rw c.in-Ok-push.ensures.items
-    (items_read_more (λ before. IsKeepCount) (number_bytes w32) _ _ _ _ _ _ _ c.loop-i-test.true c.loop-i.invariant c.in-Ok.ensures.found.0 c.in-Ok.ensures.found.1 c.in-Ok.ensures.back)
+loop-i-preserved c = rw c.in_ok-push.ensures.items (items_read_more c.loop-i-test.true c.loop-i.invariant c.in_ok-kept.ensures)
+
+pub returns : goal.returns
+returns c = items_find c.loop-i-test.false c.loop-i.auto._i-end c.loop-i.invariant

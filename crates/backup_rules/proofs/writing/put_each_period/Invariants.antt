@@ -1,6 +1,6 @@
 use Rattle.std.proofs.Common.{◌≡◌, ◌++◌, take}
-use Rattle.backup_rules.specs.Breaks.{items_bytes}
-use Rattle.backup_rules.specs.Layout.{period_bytes}
+use Rattle.wire_bytes.specs.Breaks.{items_bytes}
+use Rattle.backup_rules.specs.Parts.{period_bytes}
 use Rattle.backup_rules.proofs.writing.put_each_period.Given as goal
 
 abbrev pub invariant-loop-period : goal.invariant-loop-period

@@ -2,7 +2,7 @@
 use Rattle.std.proofs.Common.{refl}
 use Rattle.std.specs.Int.{w32}
 use Rattle.wire_bytes.specs.Layout.{number_bytes}
-use Rattle.backup_rules.specs.Items.{items_put_more}
+use Rattle.wire_bytes.specs.ItemLaws.{items_put_more}
 use Rattle.backup_rules.proofs.writing.put_numbers.Goals as goal
 
 pub loop-number-preserved : goal.loop-number-preserved

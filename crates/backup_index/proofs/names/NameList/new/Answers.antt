@@ -1,7 +1,7 @@
 -- No names: few enough, and none is another.
 use Rattle.std.proofs.Common.{[], sym, subst, arith}
 use Rattle.backup_index.specs.Names.{AreNames}
-use Rattle.backup_index.proofs.NameLaws.{differ_none}
+use Rattle.backup_index.specs.NameLaws.{differ_none}
 use Rattle.backup_index.proofs.names.NameList.new.Goals as goal
 
 none : AreNames []

@@ -1,0 +1,7 @@
+-- Lines that break no rule are sound.
+use Rattle.std.proofs.Common.{sym, subst}
+use Rattle.backup_index.specs.Lines.{IsSound, sound_from_none}
+use Rattle.backup_index.proofs.index.HostIndex.set_lines.Goals as goal
+
+pub invariant_of-self : goal.invariant_of-self
+invariant_of-self c = subst (IsSound c.args.next) c.lines-2.ensures (sound_from_none _ _ (sym c.in-None.ensures))

@@ -1,0 +1,17 @@
+-- The seal, the body, and nothing behind it.
+use Rattle.std.proofs.Common.{refl, ap, Some, ◌∙◌}
+use Rattle.wire_bytes.specs.SealedLaws.{seal_refuses, body_refuses, more_refuses, sealed_finds, sealed_by, sealed_again}
+use Rattle.backup_index.proofs.index_reading.read_host_index.Goals as goal
+
+pub returns-in_err-reader : goal.returns-in_err-reader
+returns-in_err-reader c = sealed_by _ c.from_residual.ensures.1 (λ e told. seal_refuses c.in_err-reader.ensures.bad told)
+
+pub returns-in_err-stored : goal.returns-in_err-stored
+returns-in_err-stored c = sealed_again _ c.from_residual-in_err-stored.ensures.1 (body_refuses c.in_ok-reader.ensures.found c.in_err-stored.ensures)
+
+pub returns-in_err-finish : goal.returns-in_err-finish
+returns-in_err-finish c =
+    sealed_by _ c.from_residual-in_err-finish.ensures.1 (λ e told. more_refuses c.in_ok-reader.ensures.found c.in_ok-stored.ensures c.in_err-finish.ensures.err.1 (told ∙ ap Some c.in_err-finish.ensures.err.0))
+
+pub returns : goal.returns
+returns c = sealed_finds c.in_ok-reader.ensures.found c.in_ok-stored.ensures c.in_ok-finish.ensures.ok refl
