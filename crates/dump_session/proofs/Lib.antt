@@ -1,2 +1,5 @@
+mod CountLaws
+mod EditLaws
 pub mod Maps
+mod RemovedLaws
 pub mod Sessions

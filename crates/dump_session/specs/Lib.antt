@@ -3,3 +3,4 @@ pub mod Edits
 pub mod Kinds
 pub mod Merging
 pub mod Removed
+pub mod Rules

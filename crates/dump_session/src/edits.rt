@@ -1,7 +1,7 @@
 ghost use Rattle.std.specs.Prelude.{◌≡◌, ◌<◌, ◌^◌, ◌++◌, ◌∷◌, [], Some, true, length, OnOk, OnErr, IfOk};
 ghost use Rattle.std.specs.Option.{option_copied};
 ghost use Rattle.attr_records.specs.Paths.{path_cmp, parent, is_within};
-ghost use Rattle.attr_records.specs.Order.{IsInOrder};
+ghost use Rattle.ordered_lists.specs.Order.{IsInOrder};
 ghost use Rattle.attr_records.specs.Trees.{node_at, with_node, without, IsTree, is_dir_at, is_dir_found};
 ghost use Rattle.attr_tables.specs.Records.{IsSound, is_dir};
 ghost use Rattle.merge_view.specs.Views.{HasNoMarks};
@@ -57,7 +57,8 @@ fn is_dir_left(
 }
 
 /// Whether a Dir of a dump's tree is at the directory that a path lies in. The last put before the path tells it
-/// where it lies within the directory: it is there itself, or its own parents are. This takes no memory.
+/// if it lies within the directory: it is there itself, or its own parents are, if the base is a tree. This takes
+/// no memory.
 pub fn is_dir_above(
     base: &[Row],
     removed: &BTreeMap<PathName, ()>,
@@ -68,10 +69,10 @@ pub fn is_dir_above(
     requires base_order { IsInOrder path_cmp base.now }
     requires puts_order { IsInOrder path_cmp puts.now.entries }
     requires apart { IsApart removed.now.entries }
-    requires is_tree { IsTree is_dir (edited base.now removed.now.entries puts.now.entries) }
     requires no_marks { HasNoMarks puts.now.entries }
     requires is_parent { parent path.now ≡ Some directory.now }
-    ensures { result ≡ is_dir_at is_dir (edited base.now removed.now.entries puts.now.entries) directory.now }
+    ensures { IsTree is_dir (edited base.now removed.now.entries puts.now.entries)
+        → result ≡ is_dir_at is_dir (edited base.now removed.now.entries puts.now.entries) directory.now }
 {
     match puts.range(..path).next_back() {
         None => is_dir_left(base, removed, path, directory),
@@ -87,7 +88,7 @@ pub fn is_dir_above(
     }
 }
 
-/// Puts a node into the place of what was put at its path, or says that memory is wanting.
+/// Puts a node in the place of what was put at its path, or says that memory is wanting.
 pub fn put_node(
     puts: &mut BTreeMap<PathName, Node>,
     path: PathName,
@@ -144,7 +145,7 @@ fn push_row(
 }
 
 /// All rows of a dump's tree, or want of memory: one merge of the base and the puts.
-#[tactic(auto, using(crate::specs::Edits::laid_node))]
+#[tactic(auto, using(crate::proofs::EditLaws::laid_node))]
 pub fn merged(
     alloc: Global,
     base: &[Row],

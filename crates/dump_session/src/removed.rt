@@ -3,7 +3,7 @@ ghost use Rattle.std.specs.List.{filter, list_any};
 ghost use Rattle.std.specs.Option.{option_copied};
 ghost use Rattle.std.specs.Ordering.{eq_by_cmp};
 ghost use Rattle.attr_records.specs.Paths.{path_cmp, is_within};
-ghost use Rattle.attr_records.specs.Order.{IsInOrder};
+ghost use Rattle.ordered_lists.specs.Order.{IsInOrder};
 ghost use Rattle.attr_records.specs.Trees.{node_at};
 ghost use Rattle.merge_view.specs.Runs.{within_rows};
 ghost use Rattle.dump_session.specs.Removed.{is_gone, IsApart};

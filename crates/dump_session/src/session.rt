@@ -1,16 +1,17 @@
-ghost use Rattle.std.specs.Prelude.{◌≡◌, ◌↔◌, ◌+◌, ◌&&◌, nat_le, not, [], None, Some, true, false, cond, length, is_some, IsTrue, IfOk, IfErr, OnOk, OnErr};
+ghost use Rattle.std.specs.Prelude.{◌≡◌, ◌↔◌, ◌+◌, [], None, Some, true, false, cond, length, is_some, IsTrue, IfOk, IfErr, IfSome, IfNone, OnOk, OnErr};
 ghost use Rattle.std.specs.Arc.{arc_value};
 ghost use Rattle.std.specs.Option.{option_copied};
 ghost use Rattle.attr_records.specs.Paths.{parent};
 ghost use Rattle.attr_records.specs.declared.trees.PutRule.{PutRule};
 ghost use Rattle.attr_records.specs.Trees.{node_at, with_node, without, IsTree, is_dir_at, is_parent_in, broken_rule};
 ghost use Rattle.attr_tables.specs.Records.{IsSound, is_dir};
-ghost use Rattle.merge_view.specs.Views.{is_mark, HasNoMarks, IsWhole};
+ghost use Rattle.merge_view.specs.Views.{is_mark};
 ghost use Rattle.dump_session.specs.Kinds.{is_dir_kind};
+ghost use Rattle.dump_session.specs.Rules.{IsReason, HasRoom, IsWholeTree, is_full};
 
 use crate::edits::{found_at, is_dir_above, merged, put_node, take_out};
 use crate::nodes::{Node, NodeKind};
-use attr_records::{MOST_PATHS, PathName, PutRule};
+use attr_records::{MAX_PATHS, PathName, PutRule};
 use attr_tables::{Record, Table};
 use std::alloc::{AllocError, Global};
 use std::collections::BTreeMap;
@@ -26,6 +27,16 @@ pub enum PutFault {
     Memory,
 }
 
+impl From<AllocError> for PutFault {
+    ghost use Rattle.dump_session.specs.declared.session.PutFault.TheVariants.{Memory};
+
+    ghost from_gives = { λ _ fault. fault ≡ Memory };
+
+    fn from(_error: AllocError) -> PutFault {
+        PutFault::Memory
+    }
+}
+
 /// Why a path was not removed.
 #[derive(Clone, Copy, Debug, PartialEq, Eq)]
 pub enum RemoveFault {
@@ -35,8 +46,19 @@ pub enum RemoveFault {
     Memory,
 }
 
+impl From<AllocError> for RemoveFault {
+    ghost use Rattle.dump_session.specs.declared.session.RemoveFault.TheVariants.{Memory};
+
+    ghost from_gives = { λ _ fault. fault ≡ Memory };
+
+    fn from(_error: AllocError) -> RemoveFault {
+        RemoveFault::Memory
+    }
+}
+
 /// An open dump's tree. Its base is shared and stays as it is; a put or a removal costs a logarithm of the tree
-/// and of the edits, a removal also what it takes out of the puts.
+/// and of the edits, a removal also what it takes out of the puts. The base comes from a disk, which may lie: any
+/// rows in order will do, and each call is the edit on them. Which parent is there is told if they are a tree.
 #[derive(Debug, Drop)]
 pub struct Session {
     base: Arc<Table>,
@@ -67,15 +89,13 @@ impl Session {
         Ok(Session::begin_incr(alloc, base))
     }
 
-    /// A dump that begins with a tree. Takes no memory, and copies no row.
-    pub fn begin_incr(alloc: Global, tree: Arc<Table>) -> Session
-        requires no_marks { HasNoMarks (arc_value tree) }
-        requires is_tree { IsTree is_dir (arc_value tree) }
-        ensures { result ≡ arc_value tree }
+    /// A dump that begins with the rows of a base. Takes no memory, and copies no row.
+    pub fn begin_incr(alloc: Global, base: Arc<Table>) -> Session
+        ensures { result ≡ arc_value base }
     {
-        let count = tree.len();
+        let count = base.rows().len();
         Session {
-            base: tree,
+            base,
             removed: BTreeMap::new(alloc),
             puts: BTreeMap::new(alloc),
             count,
@@ -114,7 +134,7 @@ impl Session {
 
     /// Whether a path lies in the root or in a Dir of the tree.
     fn has_parent(&self, path: &PathName) -> bool
-        ensures { result ≡ is_parent_in is_dir self.now (parent path.now) }
+        ensures { IsTree is_dir self.now → result ≡ is_parent_in is_dir self.now (parent path.now) }
     {
         match path.parent() {
             None => true,
@@ -130,7 +150,9 @@ impl Session {
 
     /// The first rule that a put breaks, of a Dir or of another node.
     fn broken_rule(&self, path: &PathName, dir: bool) -> Option<PutRule>
-        ensures { result ≡ broken_rule is_dir self.now path.now dir false }
+        ensures exact { IsTree is_dir self.now → result ≡ broken_rule is_dir self.now path.now dir false }
+        ensures reason { IfSome result (IsReason self.now path.now dir) }
+        ensures room { IfNone result (HasRoom self.now path.now dir) }
     {
         if !self.has_parent(path) {
             return Some(PutRule::NoParent);
@@ -138,7 +160,7 @@ impl Session {
         if self.is_dir_at(path) && !dir {
             return Some(PutRule::IsDirectory);
         }
-        if self.len() >= MOST_PATHS && self.find(path).is_none() {
+        if self.len() >= MAX_PATHS && self.find(path).is_none() {
             return Some(PutRule::TooManyEntries);
         }
         None
@@ -146,8 +168,10 @@ impl Session {
 
     /// The first rule that a put of such a node at a path breaks, and no change. Takes no memory.
     pub fn check_put(&self, path: &PathName, kind: NodeKind) -> Result<(), PutRule>
-        ensures ok { OnOk result (broken_rule is_dir self.now path.now (is_dir_kind kind) false ≡ None) }
-        ensures rule { IfErr result (λ rule. broken_rule is_dir self.now path.now (is_dir_kind kind) false ≡ Some rule) }
+        ensures ok { IsTree is_dir self.now → OnOk result (broken_rule is_dir self.now path.now (is_dir_kind kind) false ≡ None) }
+        ensures rule { IsTree is_dir self.now → IfErr result (λ rule. broken_rule is_dir self.now path.now (is_dir_kind kind) false ≡ Some rule) }
+        ensures room { OnOk result (HasRoom self.now path.now (is_dir_kind kind)) }
+        ensures reason { IfErr result (IsReason self.now path.now (is_dir_kind kind)) }
     {
         match self.broken_rule(path, kind.is_dir()) {
             Some(rule) => Err(rule),
@@ -160,27 +184,28 @@ impl Session {
     pub fn put(&mut self, path: PathName, node: Record) -> Result<(), PutFault>
         requires sound { IsSound node }
         requires no_mark { is_mark node ≡ false }
-        ensures ok { OnOk result ((broken_rule is_dir self.old path (is_dir node) false ≡ None) × (self.new ≡ with_node self.old path node)) }
+        ensures put { OnOk result (self.new ≡ with_node self.old path node) }
+        ensures ok { IsTree is_dir self.old → OnOk result (broken_rule is_dir self.old path (is_dir node) false ≡ None) }
+        ensures room { OnOk result (HasRoom self.old path (is_dir node)) }
         ensures err { OnErr result (self.new ≡ self.old) }
-        ensures rule { IfErr result (λ fault. (rule : PutRule) → fault ≡ PutFault.Broken rule → broken_rule is_dir self.old path (is_dir node) false ≡ Some rule) }
+        ensures rule { IsTree is_dir self.old → IfErr result (λ fault. (rule : PutRule) → fault ≡ PutFault.Broken rule
+            → broken_rule is_dir self.old path (is_dir node) false ≡ Some rule) }
+        ensures reason { IfErr result (λ fault. (rule : PutRule) → fault ≡ PutFault.Broken rule → IsReason self.old path (is_dir node) rule) }
+        ensures whole { IsWholeTree self.old → IsWholeTree self.new }
     {
         match self.broken_rule(&path, node.is_dir()) {
             Some(rule) => return Err(PutFault::Broken(rule)),
             None => {}
         }
         let count = self.count_with(&path);
-        match put_node(&mut self.puts, path, Node::new(node)) {
-            Ok(()) => {
-                self.count = count;
-                Ok(())
-            }
-            Err(_) => Err(PutFault::Memory),
-        }
+        put_node(&mut self.puts, path, Node::new(node))?;
+        self.count = count;
+        Ok(())
     }
 
     /// How many paths the tree has with this one.
     fn count_with(&self, path: &PathName) -> usize
-        requires { (nat_le MOST_PATHS (length self.now) && not (is_some (node_at self.now path.now))) ≡ false }
+        requires { is_full self.now path.now ≡ false }
         ensures { result ≡ cond (is_some (node_at self.now path.now)) (length self.now) (length self.now + 1) }
     {
         match self.find(path) {
@@ -195,30 +220,25 @@ impl Session {
         ensures ok { OnOk result ((is_some (node_at self.old path.now) ≡ true) × (self.new ≡ without self.old path.now)) }
         ensures err { OnErr result (self.new ≡ self.old) }
         ensures no_path { IfErr result (λ fault. fault ≡ RemoveFault.NoPath → node_at self.old path.now ≡ None) }
+        ensures whole { IsWholeTree self.old → IsWholeTree self.new }
     {
         if self.find(path).is_none() {
             return Err(RemoveFault::NoPath);
         }
-        match take_out(
+        let count = take_out(
             alloc,
             self.base.rows(),
             &mut self.removed,
             &mut self.puts,
             path,
-        ) {
-            Ok(count) => {
-                self.count -= count;
-                Ok(())
-            }
-            Err(_) => Err(RemoveFault::Memory),
-        }
+        )?;
+        self.count -= count;
+        Ok(())
     }
 
-    /// The whole tree, or want of memory: one merge.
+    /// All rows of the tree, or want of memory: one merge.
     pub fn tree(&self, alloc: Global) -> Result<Table, AllocError>
-        ensures value { IfOk result (λ tree. tree ≡ self.now) }
-        ensures is_whole { IfOk result IsWhole }
-        ensures is_tree { IfOk result (IsTree is_dir) }
+        ensures { IfOk result (λ tree. tree ≡ self.now) }
     {
         let rows = merged(alloc, self.base.rows(), &self.removed, &self.puts)?;
         Ok(Table::from_rows(rows))

@@ -1,12 +1,10 @@
 ghost use Rattle.std.specs.Prelude.{◌≡◌, false, IfOk};
-ghost use Rattle.std.specs.Arc.{arc_value};
-ghost use Rattle.attr_records.specs.Trees.{IsTree};
-ghost use Rattle.attr_tables.specs.Records.{IsSound, is_dir};
-ghost use Rattle.merge_view.specs.Views.{is_mark, IsWhole};
+ghost use Rattle.attr_tables.specs.Records.{IsSound};
+ghost use Rattle.merge_view.specs.Views.{is_mark};
 
 use crate::{NodeKind, PutFault, RemoveFault, Session};
-use attr_records::{Attr, LinkTarget, PathName, PutRule};
-use attr_tables::{Record, Table};
+use attr_records::{Attr, Dir, Link, LinkTarget, PathName, PutRule};
+use attr_tables::{Record, Row, StoredFile, Table};
 use disk_trait::PoolId;
 use merge_view::{children, reverse};
 use std::alloc::Global;
@@ -99,21 +97,22 @@ fn node_of(alloc: Global, kind: u8) -> Result<Record, Fail>
     ensures no_mark { IfOk result (λ node. is_mark node ≡ false) }
 {
     match kind {
-        b'd' => Ok(Record::Dir {
+        b'd' => Ok(Record::Dir(Dir {
             attr: Attr::dir_default(),
-        }),
-        b'l' => Ok(Record::Link {
+        })),
+        b'l' => Ok(Record::Link(Link {
             attr: Attr::link_default(),
             target: LinkTarget::read(alloc, b"t")?,
-        }),
-        _ => Ok(Record::File {
+        })),
+        _ => Ok(Record::File(StoredFile {
             attr: Attr::file_default(),
+            group: 0,
             size: u64::from(kind) + 1,
             content: Some(PoolId {
                 digest: [kind; 16],
                 extension: 0,
             }),
-        }),
+        })),
     }
 }
 
@@ -186,10 +185,7 @@ fn expect_tree(
     session: &mut Session,
     steps: &[Step],
     wanted: &[Shown],
-) -> Result<Arc<Table>, Fail>
-    ensures is_whole { IfOk result (λ tree. IsWhole (arc_value tree)) }
-    ensures is_tree { IfOk result (λ tree. IsTree is_dir (arc_value tree)) }
-{
+) -> Result<Arc<Table>, Fail> {
     for step in steps {
         if !answers(alloc, session, step)? {
             return Err(Fail::new("another answer"));
@@ -240,5 +236,24 @@ fn siblings_whose_names_begin_alike(rt: HostRuntime) -> Result<(), Fail> {
     let mut next = Session::begin_incr(alloc, tree);
     let _ = expect_tree(alloc, &mut next, &A_GOES, &A_IS_GONE)?;
     let _ = expect_tree(alloc, &mut session, &A_GOES, &A_IS_GONE)?;
+    Ok(())
+}
+
+const OVER_ANY_ROWS: [Step; 3] = [
+    Step(b"b/d", b'd', Answer::Broken(PutRule::NoParent), 2),
+    Step(b"b", b'd', Answer::Done, 3),
+    Step(b"k", b'r', Answer::NoPath, 3),
+];
+
+#[test]
+fn a_base_that_is_no_tree_stays_as_it_is(rt: HostRuntime) -> Result<(), Fail> {
+    let alloc = rt.alloc();
+    let mut base = Table::new(alloc);
+    base.push(Row::new(PathName::read(alloc, b"a")?, Record::Deleted))?;
+    let orphan = node_of(alloc, b'1')?;
+    base.push(Row::new(PathName::read(alloc, b"b/c")?, orphan))?;
+    let mut session = Session::begin_incr(alloc, Arc::new(alloc, base)?);
+    let wanted: [Shown; 3] = [(b"a", b'x'), (b"b", b'd'), (b"b/c", b'1')];
+    let _ = expect_tree(alloc, &mut session, &OVER_ANY_ROWS, &wanted)?;
     Ok(())
 }

@@ -1,5 +1,7 @@
 pub mod Chosen
-pub mod Merge
+pub mod RunLaws
 pub mod Runs
+pub mod TableLaws
 pub mod Tables
+pub mod ViewLaws
 pub mod Views

@@ -1,83 +1,99 @@
-ghost use Rattle.std.specs.Prelude.{◌≡◌, ◌++◌, [], ℕ, List, Option, OnOk, IfOk};
+ghost use Rattle.std.specs.Prelude.{◌≡◌, IfOk};
 ghost use Rattle.std.specs.Option.{option_copied, option_map};
 ghost use Rattle.attr_records.specs.Paths.{path_cmp};
-ghost use Rattle.merge_view.specs.Merge.{entry_then, merge};
+ghost use Rattle.ordered_lists.specs.Merge.{entry_at, merge};
 ghost use Rattle.merge_view.specs.Chosen.{chosen};
 
-use crate::rules::{Choice, Rule};
-use attr_records::PathName;
+use crate::rules::{Choice, PathRule};
 use attr_tables::{Record, Row};
+use ordered_lists::{Rule, merge as merge_lists};
 use std::alloc::{AllocError, Global};
 use std::cmp::Ordering;
+use std::marker::PhantomData;
 
-/// Puts what was chosen for a path behind the rows.
-fn push_chosen(
-    alloc: Global,
-    rows: &mut Vec<Row>,
-    choice: Choice,
-    path: &PathName,
-    left: Option<&Row>,
-    right: Option<&Row>,
-) -> Result<(), AllocError>
-    ensures { OnOk result (rows.new.items ≡ rows.old.items ++ entry_then path.now
-        (chosen choice (option_map (λ row. row.1) (option_copied left.entry)) (option_map (λ row. row.1) (option_copied right.entry))) []) }
-{
-    let row = match choice {
-        Choice::Nothing => return Ok(()),
-        Choice::Left => match left {
-            None => return Ok(()),
-            Some(row) => Row::new(path.copy(alloc)?, row.node().copy(alloc)?),
-        },
-        Choice::Right => match right {
-            None => return Ok(()),
-            Some(row) => Row::new(path.copy(alloc)?, row.node().copy(alloc)?),
-        },
-        Choice::Mark => Row::new(path.copy(alloc)?, Record::Deleted),
-    };
-    rows.push(row)?;
-    Ok(())
+/// A rule of rows as a rule of ordered lists.
+struct ByPath<C> {
+    rule: PhantomData<C>,
 }
 
-/// The rows that a rule gives of two lists in the order of their paths: one pass over both.
-pub fn merge<C: Rule>(alloc: Global, left: &[Row], right: &[Row]) -> Result<Vec<Row>, AllocError>
+/// What a row says, if there is one.
+fn node_of<'a>(row: Option<&'a Row>) -> Option<&'a Record>
+    ensures { option_copied result ≡ option_map (λ row. row.1) (option_copied row.entry) }
+{
+    match row {
+        None => None,
+        Some(row) => Some(row.node()),
+    }
+}
+
+/// The row of what was chosen at a path, if it has something there, or want of memory.
+fn chosen_row(
+    alloc: Global,
+    choice: Choice,
+    left: Option<&Row>,
+    right: Option<&Row>,
+) -> Result<Option<Row>, AllocError>
+    ensures { IfOk result (λ made. made ≡ entry_at (chosen choice) (option_copied left.entry) (option_copied right.entry)) }
+{
+    let path = match left {
+        Some(row) => row.path(),
+        None => match right {
+            Some(row) => row.path(),
+            None => return Ok(None),
+        },
+    };
+    match choice {
+        Choice::Nothing => Ok(None),
+        Choice::Left => match left {
+            None => Ok(None),
+            Some(row) => Ok(Some(Row::new(path.copy(alloc)?, row.node().copy(alloc)?))),
+        },
+        Choice::Right => match right {
+            None => Ok(None),
+            Some(row) => Ok(Some(Row::new(path.copy(alloc)?, row.node().copy(alloc)?))),
+        },
+        Choice::Mark => Ok(Some(Row::new(path.copy(alloc)?, Record::Deleted))),
+    }
+}
+
+impl<C: PathRule> Rule for ByPath<C> {
+    ghost use Rattle.std.specs.Prelude.{List, ℕ};
+    ghost use Rattle.attr_records.specs.Paths.{path_cmp};
+    ghost use Rattle.attr_tables.specs.declared.records.Record.{Record};
+
+    type Entry = Row;
+
+    ghost Key = { List ℕ };
+
+    ghost Held = { Record };
+
+    ghost entry = { λ row. row };
+
+    ghost order = { path_cmp };
+
+    ghost gives = { C.gives };
+
+    fn compare<'a>(left: &'a Row, right: &'a Row) -> Ordering {
+        left.path().cmp(right.path())
+    }
+
+    fn make<'a>(
+        alloc: Global,
+        left: Option<&'a Row>,
+        right: Option<&'a Row>,
+    ) -> Result<Option<Row>, AllocError> {
+        let choice = C::choose(node_of(left), node_of(right));
+        chosen_row(alloc, choice, left, right)
+    }
+}
+
+/// The rows that a rule gives of two lists in the order of their paths, or want of memory: one pass over both.
+pub fn merge<C: PathRule>(
+    alloc: Global,
+    left: &[Row],
+    right: &[Row],
+) -> Result<Vec<Row>, AllocError>
     ensures { IfOk result (λ rows. rows.items ≡ merge path_cmp C.gives left.now right.now) }
 {
-    let mut rows = Vec::new(alloc);
-    let mut i = 0;
-    let mut j = 0;
-    'both: while i < left.len() && j < right.len() {
-        let a = &left[i];
-        let b = &right[j];
-        match a.path().cmp(b.path()) {
-            Ordering::Less => {
-                let choice = C::choose(Some(a.node()), None);
-                push_chosen(alloc, &mut rows, choice, a.path(), Some(a), None)?;
-                i += 1;
-            }
-            Ordering::Equal => {
-                let choice = C::choose(Some(a.node()), Some(b.node()));
-                push_chosen(alloc, &mut rows, choice, a.path(), Some(a), Some(b))?;
-                i += 1;
-                j += 1;
-            }
-            Ordering::Greater => {
-                let choice = C::choose(None, Some(b.node()));
-                push_chosen(alloc, &mut rows, choice, b.path(), None, Some(b))?;
-                j += 1;
-            }
-        }
-    }
-    'left: while i < left.len() {
-        let a = &left[i];
-        let choice = C::choose(Some(a.node()), None);
-        push_chosen(alloc, &mut rows, choice, a.path(), Some(a), None)?;
-        i += 1;
-    }
-    'right: while j < right.len() {
-        let b = &right[j];
-        let choice = C::choose(None, Some(b.node()));
-        push_chosen(alloc, &mut rows, choice, b.path(), None, Some(b))?;
-        j += 1;
-    }
-    Ok(rows)
+    merge_lists::<ByPath<C>>(alloc, left, right)
 }

@@ -19,8 +19,8 @@ pub enum Choice {
     Mark,
 }
 
-/// A rule of a merge: what it has at a path, of what the left and the right rows have there.
-pub trait Rule {
+/// A rule of a merge of rows: what it has at a path, of what the left and the right rows have there.
+pub trait PathRule {
     ghost gives: { Option Record → Option Record → Option Record };
 
     fn choose(left: Option<&Record>, right: Option<&Record>) -> Choice
@@ -30,7 +30,7 @@ pub trait Rule {
 /// Entries over a tree.
 pub struct Laid;
 
-impl Rule for Laid {
+impl PathRule for Laid {
     ghost gives = { laid };
 
     fn choose(left: Option<&Record>, _right: Option<&Record>) -> Choice {
@@ -50,7 +50,7 @@ impl Rule for Laid {
 /// Entries over a filled table, whose deletion marks count as nothing.
 pub struct Shown;
 
-impl Rule for Shown {
+impl PathRule for Shown {
     ghost gives = { shown };
 
     fn choose(left: Option<&Record>, right: Option<&Record>) -> Choice {
@@ -79,7 +79,7 @@ impl Rule for Shown {
 /// What an older tree has where a newer one has something else.
 pub struct Difference;
 
-impl Rule for Difference {
+impl PathRule for Difference {
     ghost gives = { difference };
 
     fn choose(left: Option<&Record>, right: Option<&Record>) -> Choice {
@@ -105,7 +105,7 @@ impl Rule for Difference {
 /// Entries over other entries.
 pub struct Upper;
 
-impl Rule for Upper {
+impl PathRule for Upper {
     ghost gives = { upper };
 
     fn choose(left: Option<&Record>, _right: Option<&Record>) -> Choice {
@@ -119,7 +119,7 @@ impl Rule for Upper {
 /// Entries that change a tree.
 pub struct Needed;
 
-impl Rule for Needed {
+impl PathRule for Needed {
     ghost gives = { needed };
 
     fn choose(left: Option<&Record>, right: Option<&Record>) -> Choice {

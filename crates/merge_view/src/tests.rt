@@ -2,8 +2,8 @@ ghost use Rattle.std.specs.Prelude.{IfOk};
 ghost use Rattle.attr_tables.specs.Records.{IsSound};
 
 use crate::{children, lookup, reverse, stacked, trimmed, view, whole};
-use attr_records::{Attr, LinkTarget, PathName};
-use attr_tables::{Record, Row, Table};
+use attr_records::{Attr, Dir, Link, LinkTarget, PathName};
+use attr_tables::{Record, Row, StoredFile, Table};
 use disk_trait::PoolId;
 use std::alloc::Global;
 use std::test::Fail;
@@ -17,19 +17,20 @@ fn record_of(alloc: Global, kind: u8) -> Result<Record, Fail>
         extension: 0,
     };
     match kind {
-        b'd' => Ok(Record::Dir {
+        b'd' => Ok(Record::Dir(Dir {
             attr: Attr::dir_default(),
-        }),
-        b'l' => Ok(Record::Link {
+        })),
+        b'l' => Ok(Record::Link(Link {
             attr: Attr::link_default(),
             target: LinkTarget::read(alloc, b"t")?,
-        }),
+        })),
         b'x' => Ok(Record::Deleted),
-        _ => Ok(Record::File {
+        _ => Ok(Record::File(StoredFile {
             attr: Attr::file_default(),
+            group: u32::from(kind),
             size: u64::from(kind) + 1,
             content: Some(id),
-        }),
+        })),
     }
 }
 

@@ -2,9 +2,9 @@ ghost use Rattle.std.specs.Prelude.{◌≡◌, ◌≢◌, ◌∷◌, ℕ, List, 
 ghost use Rattle.std.specs.List.{AllByRecursion};
 ghost use Rattle.std.specs.Option.{option_copied};
 ghost use Rattle.attr_records.specs.Paths.{path_cmp};
-ghost use Rattle.attr_records.specs.Order.{IsInOrder};
+ghost use Rattle.ordered_lists.specs.Order.{IsInOrder};
 ghost use Rattle.attr_records.specs.Trees.{node_at};
-ghost use Rattle.merge_view.specs.Views.{Rows, IsWhole, laid, difference, view, reverse, stacked, trimmed};
+ghost use Rattle.merge_view.specs.Views.{Rows, IsWhole, laid, difference, upper, needed, view, reverse, stacked, trimmed};
 ghost use Rattle.merge_view.specs.Tables.{whole, stack, reverses, oldest, AllInOrder};
 
 use crate::merging::merge;
@@ -17,6 +17,7 @@ use std::alloc::{AllocError, Global};
 #[tactic(auto, using(crate::proofs::Orders::orders))]
 pub fn view(alloc: Global, tree: &Table, entries: &Table) -> Result<Table, AllocError>
     ensures value { IfOk result (λ seen. seen ≡ view tree.now entries.now) }
+    ensures each { IfOk result (λ seen. (path : List ℕ) → node_at seen path ≡ laid (node_at entries.now path) (node_at tree.now path)) }
     ensures is_whole { IfOk result (λ seen. IsWhole tree.now → IsWhole seen) }
 {
     let rows = merge::<Laid>(alloc, entries.rows(), tree.rows())?;
@@ -24,7 +25,7 @@ pub fn view(alloc: Global, tree: &Table, entries: &Table) -> Result<Table, Alloc
 }
 
 /// What is stored of an older tree relative to a newer one, or want of memory: one pass over both. It has
-/// exactly the paths where they differ, with the older's own node, or a deletion mark where it has none.
+/// exactly the paths where they differ, with the older's own node, or a deletion mark if it has none.
 /// The newer tree, viewed through these entries, is the older one.
 #[tactic(auto, using(crate::proofs::Orders::orders))]
 pub fn reverse(alloc: Global, older: &Table, newer: &Table) -> Result<Table, AllocError>
@@ -41,6 +42,7 @@ pub fn reverse(alloc: Global, older: &Table, newer: &Table) -> Result<Table, All
 #[tactic(auto, using(crate::proofs::Orders::orders))]
 pub fn stacked(alloc: Global, older: &Table, newer: &Table) -> Result<Table, AllocError>
     ensures value { IfOk result (λ entries. entries ≡ stacked older.now newer.now) }
+    ensures each { IfOk result (λ entries. (path : List ℕ) → node_at entries path ≡ upper (node_at older.now path) (node_at newer.now path)) }
     ensures seen { IfOk result (λ entries. (tree : Rows) → IsInOrder path_cmp tree → view tree entries ≡ view (view tree newer.now) older.now) }
 {
     let rows = merge::<Upper>(alloc, older.rows(), newer.rows())?;
@@ -52,6 +54,7 @@ pub fn stacked(alloc: Global, older: &Table, newer: &Table) -> Result<Table, All
 #[tactic(auto, using(crate::proofs::Orders::orders))]
 pub fn trimmed(alloc: Global, tree: &Table, entries: &Table) -> Result<Table, AllocError>
     ensures value { IfOk result (λ kept. kept ≡ trimmed tree.now entries.now) }
+    ensures each { IfOk result (λ kept. (path : List ℕ) → node_at kept path ≡ needed (node_at entries.now path) (node_at tree.now path)) }
     ensures reversed { IfOk result (λ kept. kept ≡ reverse (view tree.now entries.now) tree.now) }
 {
     let rows = merge::<Needed>(alloc, entries.rows(), tree.rows())?;
@@ -82,7 +85,7 @@ fn stack(alloc: Global, tables: &[Table]) -> Result<Table, AllocError>
 
 /// The tree that tables show, or want of memory. The first is that of a filled backup, and each next one
 /// holds the entries of the next older backup. The filled table is passed over once, after the entries of the
-/// others are laid over each other. Where the tables are what a list of trees is stored as, this is the last.
+/// others are laid over each other. If the tables are what a list of trees is stored as, this is the last.
 #[tactic(auto, using(crate::proofs::Orders::stacks))]
 pub fn whole(alloc: Global, tables: &[Table]) -> Result<Table, AllocError>
     ensures value { IfOk result (λ tree. tree ≡ whole tables.now) }

@@ -1,6 +1,6 @@
 -- A node that was put stands in the tree, and elsewhere what is left of the base.
 use Rattle.std.proofs.Common.{◌∙◌}
-use Rattle.attr_records.specs.Trees.{lookup-node_at}
+use Rattle.attr_records.specs.TreeLaws.{lookup-node_at}
 use Rattle.dump_session.proofs.Sessions.{from_puts, from_base}
 use Rattle.dump_session.proofs.edits.found_at.Goals as goal
 

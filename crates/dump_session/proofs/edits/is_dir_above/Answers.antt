@@ -3,9 +3,9 @@ use Rattle.std.proofs.Common.{◌≡◌, false, Option, Some, None, is_some, ref
 use Rattle.std.specs.Cmp.Lexicographic.{bytes_decides}
 use Rattle.std.proofs.lemmas.Bool.{true≢false}
 use Rattle.attr_records.specs.Paths.{is_within}
-use Rattle.attr_records.specs.Trees.{lookup-node_at}
+use Rattle.attr_records.specs.TreeLaws.{lookup-node_at}
 use Rattle.attr_tables.specs.Records.{is_dir}
-use Rattle.dump_session.specs.Edits.{parent_before, not_put}
+use Rattle.dump_session.proofs.EditLaws.{parent_before, not_put}
 use Rattle.dump_session.proofs.Sessions.{dir_left, dir_put, dir_over}
 use Rattle.dump_session.proofs.edits.is_dir_above.Goals as goal
 
@@ -20,13 +20,13 @@ pub is_dir_left-requires-then-not-is_within-clause-above : goal.is_dir_left-requ
 is_dir_left-requires-then-not-is_within-clause-above c = (parent_before c.args.path.now c.args.directory.now c.requires.is_parent).0
 
 pub returns-in-None : goal.returns-in-None
-returns-in-None c =
+returns-in-None c = λ is_tree.
     let above = parent_before c.args.path.now c.args.directory.now c.requires.is_parent in
     dir_left c.args.base.now c.args.removed.now.entries c.args.puts.now.entries c.args.directory.now _ c.requires.base_order c.requires.puts_order
     (sym (lookup-node_at c.args.puts.now.entries c.args.directory.now) ∙ (c.range.ensures.in_range tt).5 c.in-None.ensures.steps.0 c.args.directory.now (tt, above.1)) c.is_dir_left.ensures
 
 pub returns-then-not-is_within : goal.returns-then-not-is_within
-returns-then-not-is_within c =
+returns-then-not-is_within c = λ is_tree.
     let puts = c.args.puts.now.entries in
     let above = parent_before c.args.path.now c.args.directory.now c.requires.is_parent in
     let last = (c.range.ensures.in_range tt).3 _ _ c.in-Some.ensures.steps in
@@ -37,7 +37,7 @@ returns-then-not-is_within c =
     c.is_dir_left-then-not-is_within.ensures
 
 pub returns-then-eq : goal.returns-then-eq
-returns-then-eq c =
+returns-then-eq c = λ is_tree.
     let puts = c.args.puts.now.entries in
     let last = (c.range.ensures.in_range tt).3 _ _ c.in-Some.ensures.steps in
     dir_put c.args.base.now c.args.removed.now.entries puts c.args.directory.now c.in-Some.last.now c.in-Some.node.now _ c.requires.base_order c.requires.puts_order c.requires.no_marks
@@ -46,10 +46,10 @@ returns-then-eq c =
     (c.is_dir.ensures ∙ ap is_dir c.as_record.ensures.value)
 
 pub returns-else-eq : goal.returns-else-eq
-returns-else-eq c =
+returns-else-eq c = λ is_tree.
     let puts = c.args.puts.now.entries in
     let last = (c.range.ensures.in_range tt).3 _ _ c.in-Some.ensures.steps in
-    dir_over c.args.base.now c.args.removed.now.entries puts c.args.directory.now c.in-Some.last.now c.in-Some.node.now c.requires.base_order c.requires.puts_order c.requires.no_marks c.requires.is_tree
+    dir_over c.args.base.now c.args.removed.now.entries puts c.args.directory.now c.in-Some.last.now c.in-Some.node.now c.requires.base_order c.requires.puts_order c.requires.no_marks is_tree
     (sym (lookup-node_at puts c.in-Some.last.now) ∙ last.1)
     (ap (is_within c.args.directory.now) (sym c.as_slice.ensures.value) ∙ sym c.if-not-is_within.ensures)
     (λ same. true≢false (sym ((bytes_decides c.as_slice-in-Some.result.now c.args.directory.now).1 (c.as_slice-in-Some.ensures.value ∙ same)) ∙ sym c.if-eq.ensures))

@@ -1,5 +1,6 @@
 use Rattle.std.proofs.Common.{◌≡◌, ℕ, List, true, sym, ap, ◌∙◌}
-use Rattle.attr_records.specs.Paths.{is_within, within-itself}
+use Rattle.attr_records.specs.Paths.{is_within}
+use Rattle.attr_records.specs.PathLaws.{within-itself}
 use Rattle.dump_session.proofs.edits.merged.Goals as goal
 
 itself : (path other slice place : List ℕ) → path ≡ place → other ≡ place → slice ≡ other → is_within slice path ≡ true

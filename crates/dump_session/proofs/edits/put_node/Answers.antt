@@ -1,5 +1,5 @@
 use Rattle.std.proofs.Common.{◌∙◌}
-use Rattle.attr_records.specs.Trees.{insert_entry-with_node}
+use Rattle.attr_records.specs.TreeLaws.{insert_entry-with_node}
 use Rattle.dump_session.proofs.edits.put_node.Goals as goal
 
 pub returns-clause-ok : goal.returns-clause-ok

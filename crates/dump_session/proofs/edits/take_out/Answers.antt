@@ -1,7 +1,8 @@
 -- What is taken out of the base and of the puts, together.
 use Rattle.std.proofs.Common.{◌≡◌, ◌+◌, length, ap, ◌∙◌, arith}
 use Rattle.merge_view.specs.Runs.{within_rows}
-use Rattle.dump_session.specs.Edits.{edited, edited-remove}
+use Rattle.dump_session.specs.Edits.{edited}
+use Rattle.dump_session.proofs.EditLaws.{edited-remove}
 use Rattle.dump_session.proofs.Maps.{forgotten}
 use Rattle.dump_session.proofs.Sessions.{taken-count, taken-le}
 use Rattle.dump_session.proofs.edits.take_out.Goals as goal

@@ -5,11 +5,12 @@ use Rattle.std.specs.Ordering.{eq_by_cmp}
 use Rattle.std.proofs.lemmas.List.{take_more}
 use Rattle.std.proofs.lemmas.List.Folds.{list_any-append}
 use Rattle.attr_records.specs.Paths.{path_cmp}
-use Rattle.attr_records.specs.Order.{order_from_keys}
-use Rattle.attr_records.specs.Trees.{lookup-node_at}
+use Rattle.ordered_lists.specs.OrderLaws.{order_from_keys}
+use Rattle.attr_records.specs.TreeLaws.{lookup-node_at}
 use Rattle.dump_session.proofs.removed.forget.Goals as goal
 
-one_more : {X : Type 0} (paths : List (List ℕ)) (i : ℕ) (path asked : List ℕ) (old now new : Option X) → i < length paths → path ≡ get_or paths i path
+one_more : {X : Type 0} (paths : List (List ℕ)) (i : ℕ) (path asked : List ℕ) (old now new : Option X) → i < length paths
+    → path ≡ get_or paths i path
     → now ≡ cond (list_any (λ p. eq_by_cmp path_cmp p asked) (take i paths)) None old → new ≡ cond (eq_by_cmp path_cmp path asked) None now
     → new ≡ cond (list_any (λ p. eq_by_cmp path_cmp p asked) (take (i + 1) paths)) None old
 one_more paths i path asked old now new within is before e =

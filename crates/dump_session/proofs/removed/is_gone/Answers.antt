@@ -2,8 +2,8 @@
 use Rattle.std.proofs.Common.{ap, sym, ◌∙◌}
 use Rattle.std.proofs.Common.{is_some}
 use Rattle.attr_records.specs.Paths.{is_within}
-use Rattle.attr_records.specs.Trees.{lookup-node_at}
-use Rattle.dump_session.specs.Removed.{none_gone, last_gone}
+use Rattle.attr_records.specs.TreeLaws.{lookup-node_at}
+use Rattle.dump_session.proofs.RemovedLaws.{none_gone, last_gone}
 use Rattle.dump_session.proofs.removed.is_gone.Goals as goal
 
 pub returns-in-None : goal.returns-in-None

@@ -2,13 +2,15 @@
 use Rattle.std.proofs.Common.{◌≡◌, ◌++◌, false, ℕ, List, ◌∷◌, sym, ap, ◌∙◌, subst, append-nil}
 use Rattle.std.specs.List.{list_any}
 use Rattle.attr_records.specs.Paths.{path_cmp, is_within}
-use Rattle.attr_records.specs.Order.{IsInOrder, order_from_keys}
+use Rattle.ordered_lists.specs.Order.{IsInOrder}
+use Rattle.ordered_lists.specs.OrderLaws.{order_from_keys}
 use Rattle.merge_view.specs.Runs.{within_rows, row_first}
 use Rattle.dump_session.specs.Counts.{paths_of}
 use Rattle.dump_session.proofs.Maps.{from_in_order, from_behind, from_within, none_more}
 use Rattle.dump_session.proofs.removed.paths_within.Goals as goal
 
-ended : {X : Type 0} (found all : List (List ℕ)) (directory : List ℕ) (row : List ℕ × X) (left rows : List (List ℕ × X)) → left ≡ row ∷ rows → IsInOrder path_cmp left → list_any (row_first false directory) left ≡ false → is_within directory row.0 ≡ false
+ended : {X : Type 0} (found all : List (List ℕ)) (directory : List ℕ) (row : List ℕ × X) (left rows : List (List ℕ × X)) → left ≡ row ∷ rows
+    → IsInOrder path_cmp left → list_any (row_first false directory) left ≡ false → is_within directory row.0 ≡ false
     → found ++ paths_of (within_rows directory left) ≡ all → found ≡ all
 ended found all directory row left rows is order behind outside told =
     let none = none_more directory row rows (subst (IsInOrder path_cmp) is order) (ap (list_any (row_first false directory)) (sym is) ∙ behind) outside in

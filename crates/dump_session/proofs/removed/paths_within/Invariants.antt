@@ -1,7 +1,7 @@
 use Rattle.std.proofs.Common.{◌≡◌, ◌++◌, false}
 use Rattle.std.specs.List.{list_any}
 use Rattle.attr_records.specs.Paths.{path_cmp}
-use Rattle.attr_records.specs.Order.{IsInOrder}
+use Rattle.ordered_lists.specs.Order.{IsInOrder}
 use Rattle.merge_view.specs.Runs.{within_rows, row_first}
 use Rattle.dump_session.specs.Counts.{paths_of}
 use Rattle.dump_session.proofs.removed.paths_within.Given as goal

@@ -2,14 +2,19 @@
 use Rattle.std.proofs.Common.{◌≡◌, ◌+◌, ℕ, Bool, true, false, ◌||◌, cond, None, List, length, refl, sym, ap, ◌∙◌, subst, arith}
 use Rattle.std.specs.List.{list_any}
 use Rattle.std.specs.Ordering.{eq_by_cmp}
-use Rattle.attr_records.specs.Paths.{path_cmp, is_within, within-itself}
-use Rattle.attr_records.specs.Order.{IsInOrder, order_from_keys}
-use Rattle.attr_records.specs.Trees.{node_at, with_node, insert_entry-with_node}
+use Rattle.attr_records.specs.Paths.{path_cmp, is_within}
+use Rattle.attr_records.specs.PathLaws.{within-itself}
+use Rattle.ordered_lists.specs.Order.{IsInOrder}
+use Rattle.ordered_lists.specs.OrderLaws.{order_from_keys}
+use Rattle.attr_records.specs.Trees.{node_at, with_node}
+use Rattle.attr_records.specs.TreeLaws.{insert_entry-with_node}
 use Rattle.merge_view.specs.Views.{Rows}
 use Rattle.merge_view.specs.Runs.{within_rows}
-use Rattle.dump_session.specs.Removed.{is_gone, IsApart, gone_below, with_removed, is_gone-with_removed, IsApart-with_removed}
+use Rattle.dump_session.specs.Removed.{is_gone, IsApart, with_removed}
+use Rattle.dump_session.proofs.RemovedLaws.{gone_below, is_gone-with_removed, IsApart-with_removed}
 use Rattle.dump_session.specs.Edits.{outside}
-use Rattle.dump_session.specs.Counts.{total_rows, paths_of, none-left, left-total}
+use Rattle.dump_session.specs.Counts.{total_rows, paths_of}
+use Rattle.dump_session.proofs.CountLaws.{none-left, left-total}
 use Rattle.dump_session.proofs.Maps.{replaced}
 use Rattle.dump_session.proofs.removed.take_away.Goals as goal
 
@@ -20,10 +25,12 @@ module _ {X : Type 0} where
   already : (removed : List (List ℕ × X)) (path slice : List ℕ) → slice ≡ path → true ≡ is_gone removed slice → is_gone removed path ≡ true
   already removed path slice is told = ap (is_gone removed) (sym is) ∙ sym told
 
-  not_yet : (removed : List (List ℕ × X)) (path slice : List ℕ) → slice ≡ path → false ≡ is_gone removed slice → is_gone removed path ≡ false
+  not_yet : (removed : List (List ℕ × X)) (path slice : List ℕ) → slice ≡ path → false ≡ is_gone removed slice
+      → is_gone removed path ≡ false
   not_yet removed path slice is told = ap (is_gone removed) (sym is) ∙ sym told
 
-  no_more : (removed : List (List ℕ × X)) (path : List ℕ) → is_gone removed path ≡ true → (asked : List ℕ) → is_gone removed asked ≡ (is_within path asked || is_gone removed asked)
+  no_more : (removed : List (List ℕ × X)) (path : List ℕ) → is_gone removed path ≡ true → (asked : List ℕ)
+      → is_gone removed asked ≡ (is_within path asked || is_gone removed asked)
   no_more removed path gone asked = step (is_within path asked) refl
     where
       step : (b : Bool) → is_within path asked ≡ b → is_gone removed asked ≡ (b || is_gone removed asked)
@@ -31,14 +38,17 @@ module _ {X : Type 0} where
       step false is = refl
 
   -- the rows that are left, as what all have without what was taken away before
-  counted : (base : Rows) (removed : List (List ℕ × X)) (path : List ℕ) (all : Rows) (paths : List (List ℕ)) → IsInOrder path_cmp removed → IsApart removed → is_gone removed path ≡ false
-      → all ≡ within_rows path base → paths ≡ paths_of (within_rows path removed) → length (within_rows path (outside base removed)) + total_rows base paths ≡ length all
+  counted : (base : Rows) (removed : List (List ℕ × X)) (path : List ℕ) (all : Rows) (paths : List (List ℕ)) → IsInOrder path_cmp removed
+      → IsApart removed → is_gone removed path ≡ false
+      → all ≡ within_rows path base → paths ≡ paths_of (within_rows path removed)
+      → length (within_rows path (outside base removed)) + total_rows base paths ≡ length all
   counted base removed path all paths order apart there is inner =
       ap (λ ps. length (within_rows path (outside base removed)) + total_rows base ps) inner
       ∙ left-total base removed path order apart there ∙ ap length (sym is)
 
 pub returns-then-is_gone-clause-gone : goal.returns-then-is_gone-clause-gone
-returns-then-is_gone-clause-gone c = no_more c.args.removed.now.entries c.args.path.now (already c.args.removed.now.entries c.args.path.now _ c.as_slice.ensures.value c.if-is_gone.ensures)
+returns-then-is_gone-clause-gone c =
+    no_more c.args.removed.now.entries c.args.path.now (already c.args.removed.now.entries c.args.path.now _ c.as_slice.ensures.value c.if-is_gone.ensures)
 
 pub returns-then-is_gone-clause-count : goal.returns-then-is_gone-clause-count
 returns-then-is_gone-clause-count c =
@@ -63,8 +73,11 @@ returns-clause-count c =
     omega (arith, c.total_rows-taken.ensures)
 
 -- the map that is left
-made : (old middle new : List (List ℕ × Unit {0})) (path copy : List ℕ) (paths items : List (List ℕ)) → IsInOrder path_cmp old → IsInOrder path_cmp new → middle ≡ with_node old copy tt → copy ≡ path → is_gone old path ≡ false
-    → items ≡ paths → paths ≡ paths_of (within_rows path old) → ((asked : List ℕ) → node_at new asked ≡ cond (list_any (λ p. eq_by_cmp path_cmp p asked) items) None (node_at middle asked)) → new ≡ with_removed old path tt
+made : (old middle new : List (List ℕ × Unit {0})) (path copy : List ℕ) (paths items : List (List ℕ)) → IsInOrder path_cmp old
+    → IsInOrder path_cmp new → middle ≡ with_node old copy tt → copy ≡ path → is_gone old path ≡ false
+    → items ≡ paths → paths ≡ paths_of (within_rows path old)
+    → ((asked : List ℕ) → node_at new asked ≡ cond (list_any (λ p. eq_by_cmp path_cmp p asked) items) None (node_at middle asked))
+    → new ≡ with_removed old path tt
 made old middle new path copy paths items g h put is there items_are inner each =
     replaced old middle new path tt items g h (put ∙ ap (λ p. with_node old p tt) is) there (items_are ∙ inner) each
 

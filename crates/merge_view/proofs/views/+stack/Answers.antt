@@ -2,18 +2,21 @@
 use Rattle.std.proofs.Common.{◌≡◌, List, [], ◌∷◌, ◌++◌, ◌-◌, ◌/◌, take, drop, length, get_or, sym, ap, ◌∙◌, arith}
 use Rattle.std.proofs.lemmas.Grind.{common_steps}
 use Rattle.attr_records.specs.Paths.{path_cmp}
-use Rattle.attr_records.specs.Order.{IsInOrder}
+use Rattle.ordered_lists.specs.Order.{IsInOrder}
 use Rattle.merge_view.specs.Views.{Rows, stacked}
-use Rattle.merge_view.specs.Tables.{AllInOrder, stack, stack-one, stack-append, stacked-none}
+use Rattle.merge_view.specs.Tables.{AllInOrder, stack}
+use Rattle.merge_view.specs.TableLaws.{stack-one, stack-append, stacked-none}
 use Rattle.merge_view.proofs.views.+stack.Goals as goal
 
-one : (tables : List Rows) (table left right made : Rows) → length tables ≡ 1 → table ≡ get_or tables 0 table → left ≡ table → right ≡ [] → IsInOrder path_cmp table → made ≡ stacked left right → made ≡ stack tables
+one : (tables : List Rows) (table left right made : Rows) → length tables ≡ 1 → table ≡ get_or tables 0 table → left ≡ table → right ≡ []
+    → IsInOrder path_cmp table → made ≡ stacked left right → made ≡ stack tables
 one [] table left right made some is a b order e = absurd (omega arith)
 one (first ∷ []) table left right made some is a b order e =
     e ∙ (λ i. stacked (a i) (b i)) ∙ stacked-none table order ∙ sym (stack-one table order) ∙ ap (λ t. stack (t ∷ [])) is
 one (first ∷ second ∷ tables) table left right made some is a b order e = absurd (omega arith)
 
-halves : (tables front back : List Rows) (newer older made : Rows) → tables ≡ front ++ back → newer ≡ stack front → older ≡ stack back → AllInOrder front → AllInOrder back → made ≡ stacked older newer → made ≡ stack tables
+halves : (tables front back : List Rows) (newer older made : Rows) → tables ≡ front ++ back → newer ≡ stack front → older ≡ stack back
+    → AllInOrder front → AllInOrder back → made ≡ stacked older newer → made ≡ stack tables
 halves tables front back newer older made parts a b g h e =
     e ∙ (λ i. stacked (b i) (a i)) ∙ sym (stack-append front back g h) ∙ ap stack (sym parts)
 

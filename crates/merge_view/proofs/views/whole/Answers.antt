@@ -2,21 +2,26 @@
 use Rattle.std.proofs.Common.{◌≡◌, ◌-◌, ◌≤◌, List, [], ◌∷◌, length, get_or, take, drop, sym, ap, ◌∙◌, subst, arith}
 use Rattle.std.proofs.lemmas.List.{take_all}
 use Rattle.attr_records.specs.Paths.{path_cmp}
-use Rattle.attr_records.specs.Order.{IsInOrder}
-use Rattle.merge_view.specs.Merge.{merge}
+use Rattle.ordered_lists.specs.Order.{IsInOrder}
+use Rattle.ordered_lists.specs.Merge.{merge}
 use Rattle.merge_view.specs.Views.{Rows, IsWhole}
-use Rattle.merge_view.specs.Tables.{AllInOrder, stack, shown, whole, whole-shown, whole-reverses, IsWhole-whole}
+use Rattle.merge_view.specs.Tables.{AllInOrder, stack, shown, whole}
+use Rattle.merge_view.specs.TableLaws.{whole-shown, whole-reverses, IsWhole-whole}
 use Rattle.merge_view.proofs.views.whole.Goals as goal
 
 others_are : (first : Rows) (others : List Rows) → take (length (first ∷ others) - 1) (drop 1 (first ∷ others)) ≡ others
 others_are first others = take_all (length (first ∷ others) - 1) others (omega arith)
 
-all_in_order : (tables : List Rows) (filled : Rows) → 1 ≤ length tables → filled ≡ get_or tables 0 filled → IsInOrder path_cmp filled → AllInOrder (take (length tables - 1) (drop 1 tables)) → AllInOrder tables
+all_in_order : (tables : List Rows) (filled : Rows) → 1 ≤ length tables → filled ≡ get_or tables 0 filled → IsInOrder path_cmp filled
+    → AllInOrder (take (length tables - 1) (drop 1 tables)) → AllInOrder tables
 all_in_order [] filled some is order orders = absurd (omega arith)
-all_in_order (first ∷ others) filled some is order orders = (subst (IsInOrder path_cmp) is order, subst AllInOrder (others_are first others) orders)
+all_in_order (first ∷ others) filled some is order orders =
+    (subst (IsInOrder path_cmp) is order, subst AllInOrder (others_are first others) orders)
 
-laid_over : (tables : List Rows) (filled entries left right made : Rows) → 1 ≤ length tables → filled ≡ get_or tables 0 filled → IsInOrder path_cmp filled → AllInOrder (take (length tables - 1) (drop 1 tables))
-    → entries ≡ stack (take (length tables - 1) (drop 1 tables)) → left ≡ entries → right ≡ filled → made ≡ merge path_cmp shown left right → made ≡ whole tables
+laid_over : (tables : List Rows) (filled entries left right made : Rows) → 1 ≤ length tables → filled ≡ get_or tables 0 filled
+    → IsInOrder path_cmp filled → AllInOrder (take (length tables - 1) (drop 1 tables))
+    → entries ≡ stack (take (length tables - 1) (drop 1 tables)) → left ≡ entries → right ≡ filled → made ≡ merge path_cmp shown left right
+    → made ≡ whole tables
 laid_over [] filled entries left right made some is order orders stacked a b e = absurd (omega arith)
 laid_over (first ∷ others) filled entries left right made some is order orders stacked a b e =
     let all = others_are first others in
