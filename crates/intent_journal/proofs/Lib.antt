@@ -1,0 +1,5 @@
+pub mod LayoutLaws
+pub mod BodyLaws
+pub mod StepsLaws
+pub mod CommitLaws
+pub mod CallsLaws
