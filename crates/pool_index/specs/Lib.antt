@@ -1,0 +1,6 @@
+pub mod Faults
+pub mod Items
+pub mod ItemLaws
+pub mod Layout
+pub mod LayoutLaws
+pub mod Index

@@ -1,0 +1,198 @@
+//! The search for a content among the files of its digest.
+
+ghost use Rattle.std.specs.Prelude.{◌≡◌, ◌⊎◌, ◌↔◌, ◌≤◌, ◌<◌, ℕ, List, Option, false, true, Some, None, IfOk, IfErr, IfSome, OnOk, IsErrOf, IsSome, length};
+ghost use Rattle.fault_counts.specs.Counts.{Counted};
+ghost use Rattle.disk_trait.specs.declared.ids.PoolId.{PoolId};
+ghost use Rattle.pool_store.specs.Slots.{is_given};
+ghost use Rattle.disk_trait.specs.declared.ids.FileId.TheVariants.{Pool as PoolFile};
+ghost use Rattle.disk_trait.specs.Files.{Files};
+ghost use Rattle.intent_journal.specs.Calls.{Reads};
+ghost use Rattle.pool_store.specs.Kept.{slots_of};
+ghost use Rattle.pool_store.specs.Slots.{id_of};
+ghost use Rattle.pool_store.specs.Chains.{IsMet, SaysDamaged, SaysGiven, OfReading, freed};
+
+use crate::fault::PoolFault;
+use crate::names::Names;
+use crate::slot::Slot;
+use disk_trait::{Bytes, Disk, FileId, PoolId};
+use intent_journal::{Journal, JournalFault};
+use pool_name::Namer;
+use std::alloc::Global;
+
+/// What the files of a digest are to a content.
+#[derive(Clone, Copy, Debug, PartialEq, Eq)]
+pub(crate) enum Met {
+    /// The file of this extension holds it.
+    Same(u16),
+    /// None holds it, and this is the least unused extension.
+    Free(u16),
+    /// None holds it, and each extension is used.
+    Full,
+}
+
+/// What a fault of a journal that isn't halted is to a pool.
+pub(crate) fn fault_of(fault: JournalFault) -> PoolFault
+    requires { fault ≡ JournalFault.Halted → ⊥ }
+    ensures kind { (result ≡ PoolFault.Disk) ⊎ (result ≡ PoolFault.Memory) }
+    ensures disk { (result ≡ PoolFault.Disk) ↔ (fault ≡ JournalFault.Disk) }
+{
+    match fault {
+        JournalFault::Disk => PoolFault::Disk,
+        JournalFault::Memory => PoolFault::Memory,
+        JournalFault::Halted => unreachable!(),
+    }
+}
+
+/// The bytes of a file.
+pub(crate) fn read_file<D: Disk>(
+    alloc: Global,
+    journal: &mut Journal<D>,
+    file: FileId,
+) -> Result<Option<Bytes>, PoolFault>
+    requires { journal.old.halted ≡ false }
+    ensures found { IfOk result (λ found. (all : Files) → D.files journal.old.disk ≡ Some all → found ≡ all file) }
+    ensures fault { IfErr result (λ fault. (fault ≡ PoolFault.Disk) ⊎ (fault ≡ PoolFault.Memory)) }
+    ensures reads { Reads journal.old journal.new }
+    ensures counted { Counted (D.fault_count journal.old.disk) (D.fault_count journal.new.disk) (IsErrOf result PoolFault.Disk) }
+{
+    match journal.get(alloc, file) {
+        Ok(found) => Ok(found),
+        Err(fault) => Err(fault_of(fault)),
+    }
+}
+
+/// Whether the file of a name holds the content.
+fn holds<D: Disk, N: Namer>(
+    alloc: Global,
+    journal: &mut Journal<D>,
+    namer: &N,
+    id: PoolId,
+    content: &[u8],
+) -> Result<bool, PoolFault>
+    requires { journal.old.halted ≡ false }
+    ensures same { IfOk result (λ same. same ≡ true → (all : Files) → D.files journal.old.disk ≡ Some all → all (PoolFile id) ≡ Some content.now) }
+    ensures other { IfOk result (λ same. same ≡ false → (all : Files) → D.files journal.old.disk ≡ Some all → all (PoolFile id) ≡ Some content.now → ⊥) }
+    ensures damaged { IfErr result (SaysDamaged N.digest_of (D.files journal.old.disk)) }
+    ensures named { IfErr result (λ fault. (other : PoolId) (found : Option (List ℕ)) → fault ≡ PoolFault.Damaged other found → other ≡ id) }
+    ensures fault { IfErr result OfReading }
+    ensures reads { Reads journal.old journal.new }
+    ensures counted { Counted (D.fault_count journal.old.disk) (D.fault_count journal.new.disk) (IsErrOf result PoolFault.Disk) }
+{
+    match read_file(alloc, journal, FileId::Pool(id)) {
+        Ok(None) => Err(PoolFault::Damaged { id, found: None }),
+        Ok(Some(found)) => {
+            if found.as_slice() == content {
+                return Ok(true);
+            }
+            if namer.name(found.as_slice()) != id.digest {
+                return Err(PoolFault::Damaged {
+                    id,
+                    found: Some(found),
+                });
+            }
+            Ok(false)
+        }
+        Err(fault) => Err(fault),
+    }
+}
+
+/// What one name is to a content.
+#[derive(Clone, Copy, Debug, PartialEq, Eq)]
+enum Seen {
+    Same,
+    Other,
+}
+
+/// What a used name is to a content.
+fn look<D: Disk, N: Namer>(
+    alloc: Global,
+    journal: &mut Journal<D>,
+    namer: &N,
+    names: &Names,
+    id: PoolId,
+    content: &[u8],
+) -> Result<Seen, PoolFault>
+    requires { journal.old.halted ≡ false }
+    ensures same { IfOk result (λ seen. seen ≡ Seen.Same → (is_given (slots_of names.now id) ≡ true) × ((all : Files) → D.files journal.old.disk ≡ Some all → all (PoolFile id) ≡ Some content.now)) }
+    ensures other { IfOk result (λ seen. seen ≡ Seen.Other → is_given (slots_of names.now id) ≡ true → (all : Files) → D.files journal.old.disk ≡ Some all → all (PoolFile id) ≡ Some content.now → ⊥) }
+    ensures damaged { IfErr result (SaysDamaged N.digest_of (D.files journal.old.disk)) }
+    ensures given { IfErr result (SaysGiven (slots_of names.now)) }
+    ensures fault { IfErr result OfReading }
+    ensures reads { Reads journal.old journal.new }
+    ensures counted { Counted (D.fault_count journal.old.disk) (D.fault_count journal.new.disk) (IsErrOf result PoolFault.Disk) }
+{
+    match names.get(id) {
+        None => Ok(Seen::Other),
+        Some(Slot::Doomed) => Ok(Seen::Other),
+        Some(_) => match holds(alloc, journal, namer, id, content) {
+            Ok(true) => Ok(Seen::Same),
+            Ok(false) => Ok(Seen::Other),
+            Err(fault) => Err(fault),
+        },
+    }
+}
+
+/// The least unused extension so far.
+fn first_free(free: Option<u16>, at: u32, used: u16) -> Option<u16>
+    requires { at < 65536 }
+    ensures { result ≡ freed free at used }
+{
+    match free {
+        Some(extension) => Some(extension),
+        None => {
+            if at < used as u32 {
+                Some(at as u16)
+            } else {
+                None
+            }
+        }
+    }
+}
+
+/// Compares a content with each live or staged file of its digest, in order of extension.
+pub(crate) fn meet<D: Disk, N: Namer>(
+    alloc: Global,
+    journal: &mut Journal<D>,
+    namer: &N,
+    names: &Names,
+    digest: [u8; 16],
+    content: &[u8],
+) -> Result<Met, PoolFault>
+    requires { journal.old.halted ≡ false }
+    ensures met { IfOk result (IsMet (slots_of names.now) digest (D.files journal.old.disk) content.now) }
+    ensures damaged { IfErr result (SaysDamaged N.digest_of (D.files journal.old.disk)) }
+    ensures given { IfErr result (SaysGiven (slots_of names.now)) }
+    ensures fault { IfErr result OfReading }
+    ensures reads { Reads journal.old journal.new }
+    ensures counted { Counted (D.fault_count journal.old.disk) (D.fault_count journal.new.disk) (IsErrOf result PoolFault.Disk) }
+{
+    let mut free: Option<u16> = None;
+    let mut at: u32 = 0;
+    while at < 65536 {
+        match names.next(digest, at) {
+            None => {
+                return match free {
+                    Some(extension) => Ok(Met::Free(extension)),
+                    None => Ok(Met::Free(at as u16)),
+                };
+            }
+            Some(used) => {
+                let id = PoolId {
+                    digest,
+                    extension: used,
+                };
+                match look(alloc, journal, namer, names, id, content) {
+                    Ok(Seen::Same) => return Ok(Met::Same(used)),
+                    Ok(Seen::Other) => {}
+                    Err(fault) => return Err(fault),
+                }
+                free = first_free(free, at, used);
+                at = used as u32 + 1;
+            }
+        }
+    }
+    match free {
+        Some(extension) => Ok(Met::Free(extension)),
+        None => Ok(Met::Full),
+    }
+}

@@ -1,0 +1,328 @@
+//! The pool.
+
+ghost use Rattle.std.specs.Prelude.{◌≡◌, ◌⊎◌, ◌+◌, ◌<◌, ◌≤◌, ◌^◌, ◌↔◌, ℕ, List, Option, false, true, Some, None, IfOk, IfErr, OnOk, OnErr, IsErr, IsErrOf, length, []};
+ghost use Rattle.fault_counts.specs.Counts.{Counted};
+ghost use Rattle.disk_trait.specs.declared.ids.PoolId.{PoolId};
+ghost use Rattle.disk_trait.specs.declared.ids.FileId.TheVariants.{Pool as PoolFile};
+ghost use Rattle.disk_trait.specs.Files.{Files};
+ghost use Rattle.disk_trait.specs.Images.{LeavesOnly};
+ghost use Rattle.intent_journal.specs.Overlay.{ComesTo};
+ghost use Rattle.intent_journal.specs.Calls.{Reads};
+ghost use Rattle.pool_store.specs.Kept.{slots_of, IsSet, IsSame};
+ghost use Rattle.pool_store.specs.Slots.{is_live, is_given, claims_of, claimed, let_go, unlisted};
+ghost use Rattle.pool_store.specs.Chains.{SaysDamaged, SaysGiven};
+ghost use Rattle.pool_store.specs.Chains.{OfReading};
+ghost use Rattle.pool_store.specs.Listed.{index_of, IsBucketOf, IsStatsOf};
+ghost use Rattle.pool_store.specs.Opened.{Opens};
+ghost use Rattle.pool_store.specs.Opening.{OfOpening, SaysForeign, AreFresh};
+ghost use Rattle.pool_store.specs.Written.{LeadsIndex};
+ghost use Rattle.pool_store.specs.Indexed.{after, IsOf, AreGiven, AreLive, AreUnclaimed};
+ghost use Rattle.pool_store.specs.Sweeps.{NoneDoomed, IsPruned, Sweeps, AreAllUsed, AreAllGiven};
+
+use crate::chain::{Met, read_file};
+use crate::fault::PoolFault;
+use crate::index::{IndexChange, turn_all};
+use crate::listing::{BucketItemList, PoolStats, bucket_items, stats};
+use crate::names::Names;
+use crate::opening::{doomed_names, list_index};
+use crate::slot::{Slot, Turn};
+use crate::stage::{find_place, stage_new};
+use crate::sweep::sweep_names;
+use crate::writing::write_index;
+use disk_trait::{Bytes, Disk, FileId, PoolId};
+use intent_journal::Journal;
+use pool_name::Namer;
+use std::alloc::{AllocError, Global};
+
+/// The contents of a store by their names.
+#[derive(Drop)]
+pub struct Pool<N: Namer> {
+    names: Names,
+    namer: N,
+    // whether the files tell the index in the one file of older stores
+    in_one_file: bool,
+    // how many claims there ever were
+    made: u64,
+    // how many more are made sure of
+    spare: u64,
+    ghost counted: { (id : PoolId) → claims_of (slots_of names id) ≤ made },
+    ghost room: { made + spare < 2 ^ 64 },
+}
+
+impl<N: Namer> Pool<N> {
+    ghost use Rattle.pool_store.specs.Pools.{Takes, Misses, IsCertain, IsNotForeign};
+
+    /// The pool of a store's files: the contents that the index lists are live, all other Pool files are doomed.
+    /// Nothing is written. A file of the index that no pool has is `Foreign`, and so is a listed content without a
+    /// file. If the index is in the one file of older stores, the next change of it leads to the files of today:
+    /// `settle` with no ids is just that.
+    pub fn open<D: Disk>(
+        alloc: Global,
+        journal: &mut Journal<D>,
+        namer: N,
+    ) -> Result<Pool<N>, PoolFault>
+        requires { journal.old.halted ≡ false }
+        ensures opened { IfOk result (λ pool. (all : Files) → D.files journal.old.disk ≡ Some all → Opens pool.in_one_file (slots_of pool.names) all) }
+        ensures fresh { IfOk result (λ pool. AreFresh (slots_of pool.names)) }
+        ensures spare { IfOk result (λ pool. pool.spare ≡ 0) }
+        ensures kind { IfErr result OfOpening }
+        ensures foreign { IfErr result (SaysForeign (D.files journal.old.disk)) }
+        ensures reads { Reads journal.old journal.new }
+        ensures counted { Counted (D.fault_count journal.old.disk) (D.fault_count journal.new.disk) (IsErrOf result PoolFault.Disk) }
+    {
+        let mut names = match doomed_names(alloc, journal) {
+            Ok(names) => names,
+            Err(fault) => return Err(fault),
+        };
+        let in_one_file = match list_index(alloc, journal, &mut names) {
+            Ok(in_one_file) => in_one_file,
+            Err(fault) => return Err(fault),
+        };
+        Ok(Pool {
+            names,
+            namer,
+            in_one_file,
+            made: 0,
+            spare: 0,
+        })
+    }
+
+    /// What is known of a name, or `None` if it is unused.
+    pub fn slot(&self, id: PoolId) -> Option<Slot>
+        ensures { result ≡ slots_of self.now.names id }
+    {
+        self.names.get(id)
+    }
+
+    /// Makes sure of n claims, which then take no memory.
+    pub fn reserve(&mut self, n: usize) -> Result<(), AllocError>
+        ensures ok { OnOk result (n ≤ self.new.spare) }
+        ensures same { IsSame (slots_of self.old.names) (slots_of self.new.names) }
+        ensures err { OnErr result (self.new.spare ≡ self.old.spare) }
+    {
+        let n = n as u64;
+        if n <= self.spare {
+            return Ok(());
+        }
+        if n > u64::MAX - self.made {
+            return Err(AllocError);
+        }
+        self.spare = n;
+        Ok(())
+    }
+
+    /// Claims a live or staged content.
+    pub fn claim(&mut self, id: PoolId)
+        requires given { is_given (slots_of self.old.names id) ≡ true }
+        requires spare { 0 < self.old.spare }
+        ensures claimed { IsSet (slots_of self.old.names) (slots_of self.new.names) id (claimed (slots_of self.old.names id)) }
+        ensures spare { self.new.spare + 1 ≡ self.old.spare }
+    {
+        match self.names.get(id) {
+            Some(slot) => {
+                self.spare -= 1;
+                self.made += 1;
+                self.names.set(id, slot.claimed());
+            }
+            None => {}
+        }
+    }
+
+    /// Lets go a claim: a staged content that has no other is doomed.
+    pub fn release(&mut self, id: PoolId)
+        requires { 0 < claims_of (slots_of self.old.names id) }
+        ensures let_go { IsSet (slots_of self.old.names) (slots_of self.new.names) id (let_go (slots_of self.old.names id)) }
+        ensures spare { self.new.spare ≡ self.old.spare }
+    {
+        match self.names.get(id) {
+            Some(slot) => self.names.set(id, slot.let_go()),
+            None => {}
+        }
+    }
+
+    /// The bytes of a live or staged content.
+    pub fn read<D: Disk>(
+        &self,
+        alloc: Global,
+        journal: &mut Journal<D>,
+        id: PoolId,
+    ) -> Result<Bytes, PoolFault>
+        requires { journal.old.halted ≡ false }
+        ensures found { IfOk result (λ bytes. (all : Files) → D.files journal.old.disk ≡ Some all → all (PoolFile id) ≡ Some bytes) }
+        ensures digest { IfOk result (λ bytes. N.digest_of bytes ≡ id.digest) }
+        ensures damaged { IfErr result (SaysDamaged N.digest_of (D.files journal.old.disk)) }
+        ensures named { IfErr result (λ fault. (other : PoolId) (found : Option (List ℕ)) → fault ≡ PoolFault.Damaged other found → other ≡ id) }
+        ensures fault { IfErr result OfReading }
+        ensures reads { Reads journal.old journal.new }
+        ensures counted { Counted (D.fault_count journal.old.disk) (D.fault_count journal.new.disk) (IsErrOf result PoolFault.Disk) }
+    {
+        match read_file(alloc, journal, FileId::Pool(id)) {
+            Ok(None) => Err(PoolFault::Damaged { id, found: None }),
+            Ok(Some(found)) => {
+                if self.namer.name(found.as_slice()) != id.digest {
+                    return Err(PoolFault::Damaged {
+                        id,
+                        found: Some(found),
+                    });
+                }
+                Ok(found)
+            }
+            Err(fault) => Err(fault),
+        }
+    }
+
+    /// Claims the content's name, which is that of the live or staged file that holds it, or else a new one whose file
+    /// is staged.
+    pub fn match_or_stage<D: Disk>(
+        &mut self,
+        alloc: Global,
+        journal: &mut Journal<D>,
+        content: &[u8],
+    ) -> Result<PoolId, PoolFault>
+        requires some { 0 < length content.now }
+        requires ready { journal.old.halted ≡ false }
+        ensures takes { IfOk result (λ id. Takes N.digest_of (slots_of self.old.names) (slots_of self.new.names) (D.files journal.old.disk) (D.files journal.new.disk) id content.now) }
+        ensures misses { IfErr result (λ fault. Misses N.digest_of (slots_of self.old.names) (slots_of self.new.names) (D.files journal.old.disk) (D.files journal.new.disk) content.now fault) }
+        ensures damaged { IfErr result (SaysDamaged N.digest_of (D.files journal.old.disk)) }
+        ensures given { IfErr result (SaysGiven (slots_of self.old.names)) }
+        ensures kind { IfErr result IsNotForeign }
+        ensures certain { IsCertain (slots_of self.old.names) (D.uncertain journal.old.disk) → IsCertain (slots_of self.old.names) (D.uncertain journal.new.disk) }
+        ensures any_moment { (all : Files) → D.files journal.old.disk ≡ Some all → IsCertain (slots_of self.old.names) (D.uncertain journal.old.disk)
+            → LeavesOnly D.moment D.left_since journal.old.disk journal.new.disk (ComesTo all (unlisted (slots_of self.old.names))) }
+        ensures spare { self.new.spare ≡ self.old.spare }
+        ensures stays { journal.new.halted ≡ journal.old.halted }
+        ensures counted { Counted (D.fault_count journal.old.disk) (D.fault_count journal.new.disk) (IsErrOf result PoolFault.Disk) }
+    {
+        if self.made >= u64::MAX - self.spare {
+            return Err(PoolFault::Memory);
+        }
+        let digest = self.namer.name(content);
+        let extension = match find_place(
+            alloc,
+            journal,
+            &self.namer,
+            &self.names,
+            digest,
+            content,
+        ) {
+            Ok(Met::Same(extension)) => {
+                let id = PoolId { digest, extension };
+                match self.names.get(id) {
+                    Some(slot) => {
+                        self.made += 1;
+                        self.names.set(id, slot.claimed());
+                        return Ok(id);
+                    }
+                    None => return Err(PoolFault::Memory),
+                }
+            }
+            Ok(Met::Free(extension)) => extension,
+            Ok(Met::Full) => return Err(PoolFault::ChainFull),
+            Err(fault) => return Err(fault),
+        };
+        let id = PoolId { digest, extension };
+        self.made += 1;
+        match stage_new(&mut self.names, journal, id, content) {
+            Ok(()) => {}
+            Err(fault) => return Err(fault),
+        }
+        Ok(id)
+    }
+
+    /// Removes the doomed files, one by one.
+    pub fn sweep<D: Disk>(&mut self, journal: &mut Journal<D>) -> Result<(), PoolFault>
+        requires { journal.old.halted ≡ false }
+        ensures done { OnOk result (NoneDoomed (slots_of self.new.names)) }
+        ensures pruned { IsPruned (slots_of self.old.names) (slots_of self.new.names) }
+        ensures sweeps { (all : Files) → D.files journal.old.disk ≡ Some all → Sweeps (slots_of self.old.names) (slots_of self.new.names) (D.files journal.new.disk) all }
+        ensures swept { OnOk result ((all : Files) → D.files journal.old.disk ≡ Some all → AreAllUsed (slots_of self.old.names) all → AreAllGiven (slots_of self.new.names) (D.files journal.new.disk)) }
+        ensures fault { IfErr result (λ fault. fault ≡ PoolFault.Disk) }
+        ensures certain { IsCertain (slots_of self.old.names) (D.uncertain journal.old.disk) → IsCertain (slots_of self.old.names) (D.uncertain journal.new.disk) }
+        ensures any_moment { (all : Files) → D.files journal.old.disk ≡ Some all → IsCertain (slots_of self.old.names) (D.uncertain journal.old.disk)
+            → LeavesOnly D.moment D.left_since journal.old.disk journal.new.disk (ComesTo all (unlisted (slots_of self.old.names))) }
+        ensures spare { self.new.spare ≡ self.old.spare }
+        ensures stays { journal.new.halted ≡ journal.old.halted }
+        ensures counted { Counted (D.fault_count journal.old.disk) (D.fault_count journal.new.disk) (IsErrOf result PoolFault.Disk) }
+    {
+        sweep_names(&mut self.names, journal)
+    }
+
+    /// The change of the index that adds these names, unmarked.
+    pub fn settle(&self, alloc: Global, ids: &[PoolId]) -> Result<IndexChange, AllocError>
+        requires { AreGiven (slots_of self.now.names) ids.now }
+        ensures added { IfOk result (λ change. IsOf change ids.now [] [] []) }
+        ensures leads { IfOk result (λ change. LeadsIndex self.now.in_one_file (index_of (slots_of self.now.names)) (index_of (after change (slots_of self.now.names))) change.changes) }
+    {
+        let changes = write_index(alloc, &self.names, self.in_one_file, ids, &[], &[], &[])?;
+        let added = Vec::from_slice(alloc, ids)?;
+        Ok(IndexChange {
+            added,
+            marked: Vec::new(alloc),
+            unmarked: Vec::new(alloc),
+            removed: Vec::new(alloc),
+            changes,
+        })
+    }
+
+    /// The change of the index that marks, unmarks and removes these names.
+    pub fn propose(
+        &self,
+        alloc: Global,
+        marked: &[PoolId],
+        unmarked: &[PoolId],
+        removed: &[PoolId],
+    ) -> Result<IndexChange, AllocError>
+        requires marked { AreLive (slots_of self.now.names) marked.now }
+        requires unmarked { AreLive (slots_of self.now.names) unmarked.now }
+        requires removed { AreUnclaimed (slots_of self.now.names) removed.now }
+        ensures of { IfOk result (λ change. IsOf change [] marked.now unmarked.now removed.now) }
+        ensures leads { IfOk result (λ change. LeadsIndex self.now.in_one_file (index_of (slots_of self.now.names)) (index_of (after change (slots_of self.now.names))) change.changes) }
+    {
+        let changes = write_index(
+            alloc,
+            &self.names,
+            self.in_one_file,
+            &[],
+            marked,
+            unmarked,
+            removed,
+        )?;
+        let marked = Vec::from_slice(alloc, marked)?;
+        let unmarked = Vec::from_slice(alloc, unmarked)?;
+        let removed = Vec::from_slice(alloc, removed)?;
+        Ok(IndexChange {
+            added: Vec::new(alloc),
+            marked,
+            unmarked,
+            removed,
+            changes,
+        })
+    }
+
+    /// Makes the change, after the journal's commit; takes no memory.
+    pub fn accept(&mut self, change: IndexChange)
+        ensures after { IsSame (after change (slots_of self.old.names)) (slots_of self.new.names) }
+        ensures in_buckets { self.new.in_one_file ≡ false }
+        ensures spare { self.new.spare ≡ self.old.spare }
+    {
+        turn_all(&mut self.names, change.added.as_slice(), Turn::Add);
+        turn_all(&mut self.names, change.marked.as_slice(), Turn::Mark);
+        turn_all(&mut self.names, change.unmarked.as_slice(), Turn::Unmark);
+        turn_all(&mut self.names, change.removed.as_slice(), Turn::Remove);
+        self.in_one_file = false;
+    }
+
+    /// The live contents of a bucket, the first byte of their digests divided by 16, in the order of their names.
+    pub fn bucket_items(&self, alloc: Global, bucket: u8) -> Result<BucketItemList, AllocError>
+        ensures { IfOk result (IsBucketOf (slots_of self.now.names) bucket) }
+    {
+        bucket_items(alloc, &self.names, bucket)
+    }
+
+    /// How many contents are live, the sum of their lengths, and how many are marked.
+    pub fn stats(&self) -> PoolStats
+        ensures { IsStatsOf (slots_of self.now.names) result }
+    {
+        stats(&self.names)
+    }
+}
