@@ -1,0 +1,14 @@
+use Rattle.std.proofs.Common.{arith}
+use Rattle.turn_lock.proofs.Keeps.{looks_from}
+use Rattle.turn_lock.proofs.lock.Turn+O.try_turn.Goals as goal
+
+pub load-requires : goal.load-requires
+load-requires g c =
+    let table = c.args.self.now.table.shared in
+    let from = table.key.value in
+    let v = c.args.pass.now.me.0 in (
+      c.requires.own,
+      omega (arith, c.args.self.now.sized.0),
+      rw c.requires.waiting
+          (looks_from g.O.Object.stands from table.table_id.slots c.args.pass.now.id c.args.ticket v.opening v.seen v.callers c.requires.live),
+    )
