@@ -7,7 +7,7 @@ pub struct Head {
     pub(crate) method: Vec<u8>,
     pub(crate) target: String,
     pub(crate) version: Version,
-    pub(crate) content_length: Option<u32>,
+    pub(crate) content_length: Option<u64>,
     pub(crate) expects_continue: bool,
     pub(crate) closes: bool,
 }
@@ -56,7 +56,7 @@ impl Head {
     }
 
     /// The length of the body in bytes, at most 67,108,864; None where the head names none.
-    pub fn length(&self) -> Option<u32>
+    pub fn length(&self) -> Option<u64>
         ensures value { result ≡ self.now.content_length }
         ensures within { IfSome result (λ bytes. bytes ≤ body_limit) }
     {

@@ -50,7 +50,7 @@ fn version_of(minor: u8) -> Version
 }
 
 /// Whether there is a length, and it isn't 0.
-fn names_bytes(length: Option<u32>) -> bool
+fn names_bytes(length: Option<u64>) -> bool
     ensures { result ≡ names_bytes length }
 {
     match length {
@@ -61,7 +61,7 @@ fn names_bytes(length: Option<u32>) -> bool
 
 /// The length that the fields name, or the first rule that they break.
 #[tactic(auto, unfolding(crate::specs::Fields::broken_field_rule, crate::specs::Fields::broken_length_rule))]
-fn read_fields(minor: u8, fields: &Fields<'_>) -> Result<Option<u32>, HeadRefusal>
+fn read_fields(minor: u8, fields: &Fields<'_>) -> Result<Option<u64>, HeadRefusal>
     ensures { MatchResult result
         (λ length. (broken_field_rule minor fields.now ≡ None) × (length ≡ content_length fields.now)
         × IfSome length (λ bytes. bytes ≤ body_limit))
@@ -102,7 +102,7 @@ fn has_transfer_encoding(fields: &Fields<'_>) -> bool
 
 /// The length that one text writes, or the first rule that it breaks.
 #[tactic(auto, unfolding(crate::specs::Fields::broken_length_rule))]
-fn read_one_length(text: &[u8], encoded: bool) -> Result<u32, HeadRefusal>
+fn read_one_length(text: &[u8], encoded: bool) -> Result<u64, HeadRefusal>
     ensures { let texts = text.now ∷ [] in MatchResult result
         (λ length. (broken_length_rule texts encoded ≡ None) × (length ≡ digits_value 10 text.now)
         × (length ≤ body_limit))

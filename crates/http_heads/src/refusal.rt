@@ -16,12 +16,13 @@ pub enum HeadRefusal {
 }
 
 impl HeadRefusal {
-    ghost use Rattle.std.specs.Prelude.{◌≡◌};
+    ghost use Rattle.std.specs.Prelude.{◌≡◌, ◌≤◌, length};
     ghost use Rattle.http_heads.specs.Names.{head_refusal_name, head_refusal_status};
 
     /// The refusal's name, as a response says it.
     pub fn name(self) -> &'static str
-        ensures { result.now ≡ head_refusal_name self }
+        ensures value { result.now ≡ head_refusal_name self }
+        ensures short { length result.now ≤ 64 }
     {
         match self {
             HeadRefusal::BadHead => "BadHead",

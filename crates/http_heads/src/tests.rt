@@ -6,7 +6,7 @@ use std::test::Fail;
 struct Want {
     head: &'static [u8],
     version: Version,
-    length: Option<u32>,
+    length: Option<u64>,
     expects_continue: bool,
     closes: bool,
 }

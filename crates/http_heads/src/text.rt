@@ -7,7 +7,7 @@ ghost use Rattle.httparse.specs.Grammar.{is_ows, skip_ows, trim_ows};
 ghost use Rattle.http_heads.specs.Fields.{body_limit, has_token, is_number, is_too_large};
 
 /// The most bytes of a body.
-pub const BODY_LIMIT: u32 = 67_108_864;
+pub const BODY_LIMIT: u64 = 67_108_864;
 
 /// Whether two texts are the same in any case.
 pub fn is_same_text(text: &[u8], other: &[u8]) -> bool
@@ -88,17 +88,17 @@ fn has_digits(text: &[u8]) -> bool
 }
 
 /// The number that the digits write, None where it is above the limit of a body.
-pub fn read_length(digits: &[u8]) -> Option<u32>
+pub fn read_length(digits: &[u8]) -> Option<u64>
     requires { is_number digits.now ≡ true }
     ensures { MatchOption result (is_too_large digits.now ≡ true)
         (λ length. (is_too_large digits.now ≡ false) × (length ≡ digits_value 10 digits.now) × (length ≤ body_limit)) }
 {
     let mut number: u64 = 0;
     for digit in digits {
-        number = (number * 10 + (*digit - b'0') as u64).min(BODY_LIMIT as u64 + 1);
+        number = (number * 10 + (*digit - b'0') as u64).min(BODY_LIMIT + 1);
     }
-    if number <= BODY_LIMIT as u64 {
-        Some(number as u32)
+    if number <= BODY_LIMIT {
+        Some(number)
     } else {
         None
     }

@@ -5,7 +5,8 @@ use Rattle.std.specs.Vec.{with_items}
 use Rattle.std.proofs.lemmas.List.{take-append-le, with_items_is}
 use Rattle.std.proofs.lemmas.Bool.{cases_lt}
 use Rattle.std.proofs.Math.Seq.{take-append-add}
-use Rattle.stream_traits.specs.Told.{before, before_nil, before_append, IsEnd, IsShort, TookFront, TookFront-after, AddsPiece}
+use Rattle.stream_traits.specs.Told.{before, IsEnd, IsShort, TookFront, AddsPiece}
+use Rattle.stream_traits.specs.ToldLaws.{before_nil, before_append, TookFront-after}
 use Rattle.http_wire.specs.Bodies.{ReadsRest, TakesBody, CutsBody}
 
 -- a room that was lent, and written to behind what it had
@@ -46,6 +47,11 @@ ReadsRest-front had has old new count most so_far few = record {
 nil_of_length : (xs : List ℕ) → length xs ≡ 0 → xs ≡ []
 nil_of_length [] zero = refl
 nil_of_length (x ∷ xs) one = absurd (omega (arith, one))
+
+-- what was read ahead, and what the link has left, stayed as they were
+pub sent-start : (ahead ahead' : List ℕ) (left left' left'' : Option (List ℕ)) → ahead' ≡ ahead → left' ≡ left → left'' ≡ left'
+    → before ahead left ≡ before ahead' left''
+sent-start ahead ahead' left left' left'' same_ahead same_left still = rw (still, same_left, same_ahead) refl
 
 short-before : (bytes : List ℕ) (told : Option (List ℕ)) (count : ℕ) → length bytes < count → IsShort told (count - length bytes) → IsShort (before bytes told) count
 short-before bytes None count some short = tt

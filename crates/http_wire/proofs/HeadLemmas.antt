@@ -1,7 +1,8 @@
 -- Lemmas on heads that are read through a wire.
 use Rattle.std.proofs.Common.{◌≡◌, ◌<◌, ℕ, List, [], ◌∷◌, ◌++◌, length, drop, arith, sym, ap, subst, ◌∙◌, refl, append-nil, length-append}
 use Rattle.std.specs.Prelude.{Option, Some, None}
-use Rattle.stream_traits.specs.Told.{before, before_append, IsEnd}
+use Rattle.stream_traits.specs.Told.{before, IsEnd}
+use Rattle.stream_traits.specs.ToldLaws.{before_append}
 use Rattle.httparse.specs.Grammar.{print_request}
 use Rattle.http_heads.specs.declared.refusal.HeadRefusal.{HeadRefusal}
 use Rattle.http_heads.specs.Heads.{HeadParts}

@@ -1,6 +1,7 @@
 -- A wire: what is read ahead, and what is told of its two ends.
 use Rattle.std.specs.Prelude.{◌≡◌, ℕ, ◌-◌, List, ◌++◌, length, take, drop, Option}
 use Rattle.stream_traits.specs.declared.link.Faults.{Ghosts}
+use Rattle.stream_traits.specs.Seen.{LinkSeen}
 use Rattle.stream_traits.specs.Told.{before}
 use Rattle.http_wire.specs.declared.wire.Wire.{Wire}
 
@@ -20,9 +21,17 @@ left_of {l = l} wire = before (ahead_of wire) (l.left wire.link)
 abbrev pub written_of : {L : Type 0} {l : Ghosts L} → Wire L l → Option (List ℕ)
 written_of {l = l} wire = l.written wire.link
 
+-- what was sent of it, where it is told
+abbrev pub sent_of : {L : Type 0} {l : Ghosts L} → Wire L l → Option (List ℕ)
+sent_of {l = l} wire = l.sent wire.link
+
 -- the count of the calls that failed
 abbrev pub faults_of : {L : Type 0} {l : Ghosts L} → Wire L l → ℕ
 faults_of {l = l} wire = l.faults wire.link
+
+-- what is seen of it
+abbrev pub seen_of : {L : Type 0} {l : Ghosts L} → Wire L l → LinkSeen
+seen_of wire = record { left = left_of wire; written = written_of wire; sent = sent_of wire; faults = faults_of wire }
 
 -- a piece of so many bytes came behind what was read ahead, and the input that is left stayed as it was
 pub record ReadsAhead (had has : List ℕ) (old new : Option (List ℕ)) (count : ℕ) : Type 0 where

@@ -2,7 +2,7 @@ ghost use Rattle.std.specs.Prelude.{◌≡◌, ◌+◌, ◌-◌, ◌<◌, ◌≤
 ghost use Rattle.fault_counts.specs.Counts.{Counted};
 ghost use Rattle.stream_traits.specs.Told.{before, IsEnd, IsShort, TookFront, AddsPiece};
 ghost use Rattle.http_wire.specs.Bodies.{ReadsBody, ReadsRest, TakesBody, CutsBody, body_length};
-ghost use Rattle.http_wire.specs.Wires.{left_of, written_of, faults_of};
+ghost use Rattle.http_wire.specs.Wires.{ahead_of, left_of, written_of, faults_of};
 
 use crate::wire::{PIECE, Wire};
 use http_heads::Head;
@@ -35,7 +35,7 @@ pub fn read_body<L: Link>(alloc: Global, wire: &mut Wire<L>, head: &Head) -> Bod
     }
 }
 
-/// Reads a body of so many bytes. The memory that this takes grows with the bytes that come.
+/// Reads a body of `count` bytes. The memory that this takes grows with the bytes that come.
 fn read_count<L: Link>(
     alloc: Global,
     wire: &mut Wire<L>,
@@ -47,6 +47,10 @@ fn read_count<L: Link>(
     ensures written { written_of wire.new ≡ written_of wire.old }
     ensures counted { Counted (faults_of wire.old) (faults_of wire.new) (IsErrOf result ReadFault.Failed) }
 {
+    match wire.send_before(count) {
+        Ok(()) => {}
+        Err(Failed) => return Err(ReadFault::Failed),
+    }
     let Ok(mut body) = wire.take_copy(alloc, count) else {
         return Err(ReadFault::Memory);
     };
@@ -56,15 +60,17 @@ fn read_count<L: Link>(
     }
 }
 
-/// Reads the rest of so many bytes, each into its place.
+/// Reads the rest of `count` bytes.
 fn read_rest<S: Source>(source: &mut S, body: &mut Vec<u8>, count: usize) -> Result<(), ReadFault>
-    requires { vec_len body.old ≤ count }
+    requires fits { vec_len body.old ≤ count }
+    requires sent { length body.old.items < count → S.sent source.old ≡ S.written source.old }
     ensures ok { OnOk result (ReadsRest body.old.items body.new.items (S.left source.old) (S.left source.new) count) }
     ensures ended { IfErr result (λ fault. fault ≡ ReadFault.Ended → IsShort (S.left source.old) (count - length body.old.items)) }
     ensures end { IfErr result (λ fault. fault ≡ ReadFault.Ended → IsEnd (S.left source.new)) }
     ensures some { OnErr result (length body.old.items < count) }
     ensures front { OnErr result (TookFront (S.left source.old) (S.left source.new) (count - length body.old.items)) }
     ensures written { S.written source.new ≡ S.written source.old }
+    ensures sent { S.sent source.new ≡ S.sent source.old }
     ensures counted { Counted (S.faults source.old) (S.faults source.new) (IsErrOf result ReadFault.Failed) }
 {
     while body.len() < count {
@@ -80,10 +86,12 @@ fn read_rest<S: Source>(source: &mut S, body: &mut Vec<u8>, count: usize) -> Res
 fn add_piece<S: Source>(source: &mut S, body: &mut Vec<u8>, most: usize) -> Result<(), ReadFault>
     requires some { 0 < most }
     requires fits { vec_len body.old + most < 2 ^ 64 }
+    requires sent { S.sent source.old ≡ S.written source.old }
     ensures ok { OnOk result (AddsPiece body.old.items body.new.items (S.left source.old) (S.left source.new) most) }
     ensures ended { IfErr result (λ fault. fault ≡ ReadFault.Ended → IsEnd (S.left source.old)) }
     ensures same { OnErr result (S.left source.new ≡ S.left source.old) }
     ensures written { S.written source.new ≡ S.written source.old }
+    ensures sent { S.sent source.new ≡ S.sent source.old }
     ensures counted { Counted (S.faults source.old) (S.faults source.new) (IsErrOf result ReadFault.Failed) }
 {
     let had = body.len();
@@ -100,7 +108,7 @@ fn add_piece<S: Source>(source: &mut S, body: &mut Vec<u8>, most: usize) -> Resu
     }
 }
 
-/// Puts so many zeros behind the bytes.
+/// Appends `count` zeros.
 fn add_zeros(body: &mut Vec<u8>, count: usize) -> Result<(), AllocError>
     requires { vec_len body.old + count < 2 ^ 64 }
     ensures len { OnOk result (vec_len body.new ≡ vec_len body.old + count) }

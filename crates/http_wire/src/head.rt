@@ -7,11 +7,10 @@ ghost use Rattle.http_wire.specs.Message.{continue_response};
 ghost use Rattle.http_wire.specs.Wires.{ahead_of, link_left, left_of, written_of, faults_of};
 
 use crate::response::CONTINUE;
-use crate::sending::send;
 use crate::wire::{Wire, WireFault};
 use http_heads::{Front, Head, HeadRefusal, is_blank, read_front};
 use std::alloc::Global;
-use stream_traits::{Failed, Faults, Link, Sink, Source};
+use stream_traits::{Failed, Faults, Link};
 
 /// What was read of a request's head.
 #[derive(Drop)]
@@ -67,7 +66,7 @@ fn take_head<L: Link>(wire: &mut Wire<L>, len: usize, head: Head) -> HeadRead
     ensures wrote { AsksForBody (left_of wire.old) (written_of wire.old) (written_of wire.new) result }
     ensures counted { Counted (faults_of wire.old) (faults_of wire.new) (result ≡ HeadRead.LinkFault) }
 {
-    match ask_for_body(&mut wire.link, head.expects_continue()) {
+    match ask_for_body(wire, head.expects_continue()) {
         Ok(()) => {}
         Err(Failed) => return HeadRead::LinkFault,
     }
@@ -75,18 +74,19 @@ fn take_head<L: Link>(wire: &mut Wire<L>, len: usize, head: Head) -> HeadRead
     HeadRead::Whole(head)
 }
 
-/// Asks for the body, where the client waits for that.
-fn ask_for_body<K: Sink>(sink: &mut K, waits: bool) -> Result<(), Failed>
-    ensures all { OnOk result (K.written sink.new ≡ behind (K.written sink.old) (if waits then continue_response else [])) }
-    ensures front { OnErr result (WroteFront (K.written sink.old) (K.written sink.new) continue_response) }
+/// Asks for the body, where the client waits for that. It is sent when more bytes are read.
+fn ask_for_body<L: Link>(wire: &mut Wire<L>, waits: bool) -> Result<(), Failed>
+    ensures all { OnOk result (written_of wire.new ≡ behind (written_of wire.old) (if waits then continue_response else [])) }
+    ensures front { OnErr result (WroteFront (written_of wire.old) (written_of wire.new) continue_response) }
     ensures waits { OnErr result (waits ≡ true) }
-    ensures left { K.left sink.new ≡ K.left sink.old }
-    ensures counted { Counted (K.faults sink.old) (K.faults sink.new) (IsErr result) }
+    ensures ahead { ahead_of wire.new ≡ ahead_of wire.old }
+    ensures left { link_left wire.new ≡ link_left wire.old }
+    ensures counted { Counted (faults_of wire.old) (faults_of wire.new) (IsErr result) }
 {
     if !waits {
         return Ok(());
     }
-    match send(sink, CONTINUE) {
+    match wire.write(CONTINUE) {
         Ok(()) => Ok(()),
         Err(Failed) => Err(Failed),
     }

@@ -1,4 +1,16 @@
-//! HTTP/1.1 (RFC 9112) over a link: heads and bodies of requests are read, and responses written.
+//! HTTP/1.1 (RFC 9112) over a link: heads and bodies of requests are read, and responses written. What is written is sent
+//! before the link is read again, and not before, so that requests that came together are answered together.
+//!
+//! | Type | What it is |
+//! |---|---|
+//! | `Wire` | a link, with what was read ahead of it |
+//! | `HeadRead`, `BodyRead` | what reading a head or a body comes to |
+//! | `Response` | what is written; it takes no memory |
+//!
+//! ```text
+//! let mut wire = Wire::new(alloc, &mut link);
+//! let read = read_head(alloc, &mut wire);
+//! ```
 #![tactic(auto)]
 
 mod body;

@@ -1,26 +1,29 @@
 //! A response, up to its body.
 
-ghost use Rattle.std.specs.Prelude.{◌≡◌, ◌++◌, IfOk, OnOk, codes};
+ghost use Rattle.std.specs.Prelude.{◌≡◌, ◌++◌, ◌+◌, ◌≤◌, length, IfSome, IsTrue};
 ghost use Rattle.std.specs.Option.{option_copied};
+ghost use Rattle.short_text.specs.Limits.{short_text_limit};
 ghost use Rattle.http_wire.specs.Message.{phrase, status_line, field_line, length_line, allow_line, close_line, response_head, body_sent};
-ghost use Rattle.http_wire.specs.Response.{message_of};
+ghost use Rattle.http_wire.specs.Response.{message_of, HasShortHead};
 
 use http::StatusCode;
-use itoa::Buffer;
-use std::alloc::{AllocError, Global};
+use short_text::ShortText;
 
 /// The interim response that asks for a body (RFC 9110, section 15.2.1).
 pub const CONTINUE: &[u8] = b"HTTP/1.1 100 Continue\r\n\r\n";
 
-/// The response to want of memory, which takes none.
+/// The response to want of memory.
 pub const NO_MEMORY: &[u8] =
     b"HTTP/1.1 507 Insufficient Storage\r\nContent-Length: 0\r\nConnection: close\r\n\r\n";
 
-/// The end of a head.
-const EMPTY_LINE: &[u8] = b"\r\n";
+/// The end of a line.
+const LINE_END: &[u8] = b"\r\n";
 
-/// The room of a head, in bytes: each that the server writes fits it.
-const ROOM: usize = 256;
+/// The end of a head.
+const EMPTY_LINE: &[u8] = LINE_END;
+
+/// The most bytes of the phrase, the type and the methods of a response.
+const SHORT: usize = 64;
 
 /// A response.
 #[derive(Drop)]
@@ -37,39 +40,60 @@ pub struct Response<'a> {
     pub is_head: bool,
 }
 
-/// The bytes of a response up to its body, in one run of memory.
-#[tactic(auto, unfolding(crate::specs::Message::response_head))]
-pub fn head_text(alloc: Global, response: &Response) -> Result<Vec<u8>, AllocError>
-    ensures { IfOk result (λ head. head.items ≡ response_head (message_of response.now)) }
-{
-    let mut head = Vec::with_capacity(alloc, ROOM)?;
-    push_status(&mut head, response.status)?;
-    push_field(&mut head, "Content-Type", response.content_type)?;
-    push_length(&mut head, response.body.len())?;
-    push_allow(&mut head, response.allow)?;
-    push_close(&mut head, response.closes)?;
-    head.extend_from_slice(EMPTY_LINE)?;
-    Ok(head)
+impl Response<'_> {
+    /// Whether its texts are short enough for a head of at most 512 bytes: phrase, type and methods of at most 64 each.
+    pub fn has_short_head(&self) -> bool
+        ensures { IsTrue result → HasShortHead self.now }
+    {
+        if phrase_of(self.status).len() > SHORT {
+            return false;
+        }
+        if self.content_type.len() > SHORT {
+            return false;
+        }
+        match self.allow {
+            None => true,
+            Some(methods) => methods.len() <= SHORT,
+        }
+    }
 }
 
-/// The bytes that follow the head: the body, or none where the method is HEAD.
+/// The bytes of a response up to its body. They take no memory.
+#[tactic(auto, unfolding(crate::specs::Message::response_head))]
+pub fn head_text(response: &Response) -> ShortText
+    requires { HasShortHead response.now }
+    ensures { result ≡ response_head (message_of response.now) }
+{
+    let mut text = ShortText::new();
+    push_status(&mut text, response.status);
+    push_field(&mut text, b"Content-Type", response.content_type.as_bytes());
+    push_length(&mut text, response.body.len());
+    push_allow(&mut text, response.allow);
+    push_close(&mut text, response.closes);
+    text.push(EMPTY_LINE);
+    text
+}
+
+/// The bytes that follow the head: the body, or none if the method is HEAD.
 pub fn sent_body<'a>(response: &Response<'a>) -> &'a [u8]
     ensures { result.now ≡ body_sent (message_of response.now) }
 {
     if response.is_head { b"" } else { response.body }
 }
 
-/// Puts the status line, with the phrase that goes with the status.
+/// Appends the status line, with the phrase that goes with the status.
 #[tactic(auto, unfolding(crate::specs::Message::status_line))]
-fn push_status(head: &mut Vec<u8>, status: StatusCode) -> Result<(), AllocError>
-    ensures { OnOk result (head.new.items ≡ head.old.items ++ status_line status) }
+fn push_status(text: &mut ShortText, status: StatusCode)
+    requires phrase { length (phrase status) ≤ 64 }
+    requires room { length text.old + 96 ≤ short_text_limit }
+    ensures value { text.new ≡ text.old ++ status_line status }
+    ensures len { length text.new ≤ length text.old + 96 }
 {
-    head.extend_from_slice(b"HTTP/1.1 ")?;
-    head.extend_from_slice(status.as_str().as_bytes())?;
-    head.extend_from_slice(b" ")?;
-    head.extend_from_slice(phrase_of(status).as_bytes())?;
-    head.extend_from_slice(b"\r\n")?;
-    Ok(())
+    text.push(b"HTTP/1.1 ");
+    text.push(status.as_str().as_bytes());
+    text.push(b" ");
+    text.push(phrase_of(status).as_bytes());
+    text.push(LINE_END);
 }
 
 /// The phrase that goes with a status, or none.
@@ -80,47 +104,55 @@ fn phrase_of(status: StatusCode) -> &'static str
     status.canonical_reason().unwrap_or("")
 }
 
-/// Puts a field.
+/// Appends a field.
 #[tactic(auto, unfolding(crate::specs::Message::field_line))]
-fn push_field(head: &mut Vec<u8>, name: &str, value: &str) -> Result<(), AllocError>
-    ensures { OnOk result (head.new.items ≡ head.old.items ++ field_line name.now value.now) }
+fn push_field(text: &mut ShortText, name: &[u8], value: &[u8])
+    requires { length text.old + length name.now + length value.now + 4 ≤ short_text_limit }
+    ensures value { text.new ≡ text.old ++ field_line name.now value.now }
+    ensures len { length text.new ≤ length text.old + length name.now + length value.now + 4 }
 {
-    head.extend_from_slice(name.as_bytes())?;
-    head.extend_from_slice(b": ")?;
-    head.extend_from_slice(value.as_bytes())?;
-    head.extend_from_slice(b"\r\n")?;
-    Ok(())
+    text.push(name);
+    text.push(b": ");
+    text.push(value);
+    text.push(LINE_END);
 }
 
-/// Puts the length of the body.
-#[tactic(auto, unfolding(crate::specs::Message::length_line))]
-fn push_length(head: &mut Vec<u8>, len: usize) -> Result<(), AllocError>
-    ensures { OnOk result (head.new.items ≡ head.old.items ++ length_line len) }
+/// Appends the length of the body.
+#[tactic(auto, unfolding(crate::specs::Message::length_line, crate::specs::Message::field_line))]
+fn push_length(text: &mut ShortText, len: usize)
+    requires { length text.old + 64 ≤ short_text_limit }
+    ensures value { text.new ≡ text.old ++ length_line len }
+    ensures len { length text.new ≤ length text.old + 64 }
 {
-    let mut buffer = Buffer::new();
-    push_field(head, "Content-Length", buffer.format(len))
+    text.push(b"Content-Length");
+    text.push(b": ");
+    text.push_number(len as u64);
+    text.push(LINE_END);
 }
 
-/// Puts the methods that the target takes, where they are given.
+/// Appends the methods that the target takes, if they are given.
 #[tactic(auto, unfolding(crate::specs::Message::allow_line))]
-fn push_allow(head: &mut Vec<u8>, allow: Option<&str>) -> Result<(), AllocError>
-    ensures { OnOk result (head.new.items ≡ head.old.items ++ allow_line (option_copied allow.entry)) }
+fn push_allow(text: &mut ShortText, allow: Option<&str>)
+    requires short { IfSome (option_copied allow) (λ methods. length methods ≤ 64) }
+    requires room { length text.old + 80 ≤ short_text_limit }
+    ensures value { text.new ≡ text.old ++ allow_line (option_copied allow.entry) }
+    ensures len { length text.new ≤ length text.old + 80 }
 {
     match allow {
-        None => Ok(()),
-        Some(methods) => push_field(head, "Allow", methods),
+        None => {}
+        Some(methods) => push_field(text, b"Allow", methods.as_bytes()),
     }
 }
 
-/// Puts the wish to close, where it is the last response.
+/// Appends the wish to close, if it is the last response.
 #[tactic(auto, unfolding(crate::specs::Message::close_line))]
-fn push_close(head: &mut Vec<u8>, closes: bool) -> Result<(), AllocError>
-    ensures { OnOk result (head.new.items ≡ head.old.items ++ close_line closes) }
+fn push_close(text: &mut ShortText, closes: bool)
+    requires { length text.old + 32 ≤ short_text_limit }
+    ensures value { text.new ≡ text.old ++ close_line closes }
+    ensures len { length text.new ≤ length text.old + 32 }
 {
     if closes {
-        push_field(head, "Connection", "close")
-    } else {
-        Ok(())
+        push_field(text, b"Connection", b"close");
     }
 }
 

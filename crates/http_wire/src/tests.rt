@@ -12,11 +12,13 @@ struct SlowLink {
 
 impl Faults for SlowLink {
     ghost use Rattle.std.specs.Prelude.{Some};
-    ghost use Rattle.stream_traits.specs.Memory.{bytes_left, bytes_written, fault_count};
+    ghost use Rattle.stream_traits.specs.Memory.{bytes_left, bytes_written, bytes_sent, fault_count};
 
     ghost left = { λ slow. Some (bytes_left slow.link) };
 
     ghost written = { λ slow. Some (bytes_written slow.link) };
+
+    ghost sent = { λ slow. Some (bytes_sent slow.link) };
 
     ghost faults = { λ slow. fault_count slow.link };
 
@@ -54,7 +56,52 @@ impl Sink for SlowLink {
 
 impl Link for SlowLink {}
 
-/// A link in memory with this input, and room for so many written bytes.
+/// A link that notes its calls: `r` for a read, `w` for a write, `f` for a flush.
+#[derive(Drop)]
+struct NotedLink {
+    link: MemoryLink,
+    calls: Vec<u8>,
+}
+
+impl Faults for NotedLink {
+    ghost use Rattle.std.specs.Prelude.{Some};
+    ghost use Rattle.stream_traits.specs.Memory.{bytes_left, bytes_written, bytes_sent, fault_count};
+
+    ghost left = { λ noted. Some (bytes_left noted.link) };
+
+    ghost written = { λ noted. Some (bytes_written noted.link) };
+
+    ghost sent = { λ noted. Some (bytes_sent noted.link) };
+
+    ghost faults = { λ noted. fault_count noted.link };
+
+    fn faults(&self) -> u64 {
+        self.link.faults()
+    }
+}
+
+impl Source for NotedLink {
+    fn read(&mut self, room: &mut [u8]) -> Result<usize, Failed> {
+        let _ = self.calls.push(b'r');
+        self.link.read(room)
+    }
+}
+
+impl Sink for NotedLink {
+    fn write(&mut self, bytes: &[u8]) -> Result<usize, Failed> {
+        let _ = self.calls.push(b'w');
+        self.link.write(bytes)
+    }
+
+    fn flush(&mut self) -> Result<(), Failed> {
+        let _ = self.calls.push(b'f');
+        self.link.flush()
+    }
+}
+
+impl Link for NotedLink {}
+
+/// A link in memory with this input, and room for `room` written bytes.
 fn link_of(alloc: Global, input: &[u8], room: usize) -> Result<MemoryLink, Fail> {
     let link = MemoryLink::new(alloc, input.to_vec(alloc)?, room, Vec::new(alloc))?;
     Ok(link)
@@ -286,28 +333,61 @@ fn a_call_that_fails_is_a_fault_of_the_link(rt: HostRuntime) -> Result<(), Fail>
     Ok(())
 }
 
-/// Writes a response of a body of so many bytes, and says how many were written.
-fn written_for(alloc: Global, body: &[u8], is_head: bool) -> Result<usize, Fail> {
-    let mut wire = Wire::new(alloc, link_of(alloc, b"", 65_536)?);
-    let response = Response {
-        status: StatusCode::OK,
-        content_type: "application/json",
-        body,
-        allow: None,
-        closes: false,
-        is_head,
+/// An answer without a body of its own.
+const EMPTY: Response<'static> = Response {
+    status: StatusCode::OK,
+    content_type: "application/json",
+    body: b"{}",
+    allow: None,
+    closes: false,
+    is_head: false,
+};
+
+/// Reads a request and answers it; None at the end of the input.
+fn answer_one<L: Link>(alloc: Global, wire: &mut Wire<L>) -> Result<Option<()>, Failed> {
+    let HeadRead::Whole(head) = read_head(alloc, wire) else {
+        return Ok(None);
     };
-    write_response(alloc, &mut wire, &response)?;
-    Ok(wire.into_link().output().len())
+    let BodyRead::Body(_body) = read_body(alloc, wire, &head) else {
+        return Ok(None);
+    };
+    if !EMPTY.has_short_head() {
+        return Err(Failed);
+    }
+    write_response(wire, &EMPTY)?;
+    Ok(Some(()))
+}
+
+/// Answers the three requests over a link that is lent, and sends what is left to be sent.
+fn answer_all<L: Link>(alloc: Global, link: &mut L) -> Result<(), Failed> {
+    let mut wire = Wire::new(alloc, link);
+    for _ in 0..4 {
+        if answer_one(alloc, &mut wire)?.is_none() {
+            break;
+        }
+    }
+    wire.send()
 }
 
 #[test]
-fn a_response_is_written_whole(rt: HostRuntime) -> Result<(), Fail> {
-    let mut body = Vec::new(rt.alloc());
-    body.resize(20_000, b'x')?;
-    assert_eq!(rt; written_for(rt.alloc(), b"{}", false)?, 72);
-    assert_eq!(rt; written_for(rt.alloc(), b"{}", true)?, 70);
-    assert_eq!(rt; written_for(rt.alloc(), body.as_slice(), false)?, 20_074);
+fn requests_that_came_together_are_answered_together(rt: HostRuntime) -> Result<(), Fail> {
+    let mut noted = NotedLink {
+        link: link_of(rt.alloc(), PIPELINED, 256)?,
+        calls: Vec::new(rt.alloc()),
+    };
+    answer_all(rt.alloc(), &mut noted)?;
+    assert_eq!(rt; noted.calls.as_slice(), b"frwwwwwwfr".as_slice());
+    assert_eq!(rt; noted.link.sent().len(), 216);
+    Ok(())
+}
+
+#[test]
+fn nothing_waits_while_the_link_is_read(rt: HostRuntime) -> Result<(), Fail> {
+    let mut slow = SlowLink {
+        link: link_of(rt.alloc(), PIPELINED, 256)?,
+    };
+    answer_all(rt.alloc(), &mut slow)?;
+    assert_eq!(rt; slow.link.sent().len(), 216);
     Ok(())
 }
 

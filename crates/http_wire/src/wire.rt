@@ -1,14 +1,15 @@
-ghost use Rattle.std.specs.Prelude.{◌≡◌, [], ◌++◌, ◌-◌, ◌+◌, ◌<◌, ◌≤◌, length, take, drop, vec_len, IfOk, OnOk, OnErr, IsErr, IsErrOf};
+ghost use Rattle.std.specs.Prelude.{◌≡◌, [], false, ◌++◌, ◌-◌, ◌+◌, ◌<◌, ◌≤◌, length, take, drop, vec_len, IfOk, OnOk, OnErr, IsErr, IsErrOf};
 ghost use Rattle.fault_counts.specs.Counts.{Counted};
-ghost use Rattle.stream_traits.specs.Told.{IsEnd};
+ghost use Rattle.stream_traits.specs.Told.{behind, IsEnd, WroteFront};
 ghost use Rattle.http_heads.specs.Fronts.{head_limit};
 
+use http_heads::HEAD_LIMIT;
 use std::alloc::{AllocError, Global};
 use std::error::Error;
 use std::fmt;
-use stream_traits::{Failed, Faults, Link, Sink, Source};
+use stream_traits::{Failed, Faults, Link, Sink, Source, write_all};
 
-/// Why a response was not written.
+/// Why a wire was not filled.
 #[derive(Clone, Copy, Debug, PartialEq, Eq)]
 pub enum WireFault {
     /// The link failed; its count of faults rose.
@@ -27,34 +28,36 @@ impl fmt::Display for WireFault {
 
 impl Error for WireFault {}
 
-/// The most bytes of a head.
-pub(crate) const HEAD_LIMIT: usize = 16_384;
-
 /// The room for what is read ahead: three heads of the most bytes.
 const ROOM: usize = 49_152;
 
 /// The most bytes of a body that are read in one call, and for which there is memory before they come.
 pub(crate) const PIECE: usize = 65_536;
 
-/// A link, and the bytes that were read from it and not taken yet.
+/// A link, and the bytes that were read from it and not taken yet. What is written is sent before the link is
+/// read again, and not before.
 #[derive(Drop)]
 pub struct Wire<L: Link> {
     pub(crate) link: L,
     room: Vec<u8>,
     from: usize,
     to: usize,
+    has_unsent: bool,
     ghost in_order: { from ≤ to },
     ghost in_room: { to ≤ vec_len room },
     ghost room_is: { 0 < vec_len room → vec_len room ≡ 49152 },
+    ghost all_sent: { has_unsent ≡ false → L.sent link ≡ L.written link },
 }
 
 impl<L: Link> Wire<L> {
-    ghost use Rattle.http_wire.specs.Wires.{ahead_of, link_left, left_of, written_of, faults_of, ReadsAhead};
+    ghost use Rattle.http_wire.specs.Wires.{ahead_of, link_left, left_of, written_of, sent_of, faults_of, ReadsAhead};
 
-    /// A wire over a link, of which nothing is read ahead. It takes no memory.
+    /// A wire over a link, of which nothing is read ahead. What was written to the link before isn't known to be sent.
+    /// It takes no memory.
     pub fn new(alloc: Global, link: L) -> Wire<L>
         ensures left { left_of result ≡ L.left link }
         ensures written { written_of result ≡ L.written link }
+        ensures sent { sent_of result ≡ L.sent link }
         ensures faults { faults_of result ≡ L.faults link }
     {
         Wire {
@@ -62,14 +65,17 @@ impl<L: Link> Wire<L> {
             room: Vec::new(alloc),
             from: 0,
             to: 0,
+            has_unsent: true,
         }
     }
 
-    /// Gives the link back. What was read ahead is dropped.
+    /// Gives the link back. What was read ahead, at most 49,152 bytes, is dropped, and nothing is sent.
     pub fn into_link(self) -> L
         ensures left { link_left self ≡ L.left result }
         ensures written { L.written result ≡ written_of self }
+        ensures sent { L.sent result ≡ sent_of self }
         ensures faults { L.faults result ≡ faults_of self }
+        ensures ahead { length (ahead_of self) ≤ 49152 }
     {
         self.link
     }
@@ -79,6 +85,61 @@ impl<L: Link> Wire<L> {
         ensures { result ≡ faults_of self.now }
     {
         self.link.faults()
+    }
+
+    /// Writes bytes, and sends nothing.
+    pub(crate) fn write(&mut self, bytes: &[u8]) -> Result<(), Failed>
+        ensures all { OnOk result (written_of self.new ≡ behind (written_of self.old) bytes.now) }
+        ensures front { OnErr result (WroteFront (written_of self.old) (written_of self.new) bytes.now) }
+        ensures sent { sent_of self.new ≡ sent_of self.old }
+        ensures ahead { ahead_of self.new ≡ ahead_of self.old }
+        ensures left { link_left self.new ≡ link_left self.old }
+        ensures counted { Counted (faults_of self.old) (faults_of self.new) (IsErr result) }
+    {
+        self.has_unsent = true;
+        match write_all(&mut self.link, bytes) {
+            Ok(()) => Ok(()),
+            Err(Failed) => Err(Failed),
+        }
+    }
+
+    /// Sends what was written, if anything was since the last time.
+    pub fn send(&mut self) -> Result<(), Failed>
+        ensures sent { OnOk result (sent_of self.new ≡ written_of self.old) }
+        ensures err { OnErr result (sent_of self.new ≡ sent_of self.old) }
+        ensures written { written_of self.new ≡ written_of self.old }
+        ensures left { left_of self.new ≡ left_of self.old }
+        ensures ahead { ahead_of self.new ≡ ahead_of self.old }
+        ensures link_left { link_left self.new ≡ link_left self.old }
+        ensures counted { Counted (faults_of self.old) (faults_of self.new) (IsErr result) }
+    {
+        if !self.has_unsent {
+            return Ok(());
+        }
+        match self.link.flush() {
+            Ok(()) => {
+                self.has_unsent = false;
+                Ok(())
+            }
+            Err(Failed) => Err(Failed),
+        }
+    }
+
+    /// Sends what was written, if fewer bytes than these were read ahead.
+    pub(crate) fn send_before(&mut self, count: usize) -> Result<(), Failed>
+        ensures sent { OnOk result (length (ahead_of self.old) < count → sent_of self.new ≡ written_of self.new) }
+        ensures written { written_of self.new ≡ written_of self.old }
+        ensures ahead { ahead_of self.new ≡ ahead_of self.old }
+        ensures left { link_left self.new ≡ link_left self.old }
+        ensures counted { Counted (faults_of self.old) (faults_of self.new) (IsErr result) }
+    {
+        if self.to - self.from >= count {
+            return Ok(());
+        }
+        match self.send() {
+            Ok(()) => Ok(()),
+            Err(Failed) => Err(Failed),
+        }
     }
 
     /// The bytes that were read and not taken.
@@ -112,7 +173,8 @@ impl<L: Link> Wire<L> {
         Ok(copy)
     }
 
-    /// Reads a piece behind what was read ahead, and says how many bytes came: none at the end of the link.
+    /// Sends what was written, reads a piece behind what was read ahead, and says how many bytes came: none at the end
+    /// of the link.
     pub(crate) fn fill(&mut self, alloc: Global) -> Result<usize, WireFault>
         requires { length (ahead_of self.old) < head_limit }
         ensures came { IfOk result (ReadsAhead (ahead_of self.old) (ahead_of self.new) (link_left self.old) (link_left self.new)) }
@@ -121,6 +183,10 @@ impl<L: Link> Wire<L> {
         ensures written { written_of self.new ≡ written_of self.old }
         ensures counted { Counted (faults_of self.old) (faults_of self.new) (IsErrOf result WireFault.LinkFault) }
     {
+        match self.send() {
+            Ok(()) => {}
+            Err(Failed) => return Err(WireFault::LinkFault),
+        }
         if self.make_room(alloc).is_err() {
             return Err(WireFault::Memory);
         }
@@ -132,7 +198,8 @@ impl<L: Link> Wire<L> {
 
     /// Reads bytes into the room behind what was read ahead, and says how many.
     fn read_piece(&mut self) -> Result<usize, Failed>
-        requires { self.old.to < vec_len self.old.room }
+        requires room { self.old.to < vec_len self.old.room }
+        requires sent { sent_of self.old ≡ written_of self.old }
         ensures came { IfOk result (ReadsAhead (ahead_of self.old) (ahead_of self.new) (link_left self.old) (link_left self.new)) }
         ensures end { IfOk result (λ count. count ≡ 0 → IsEnd (link_left self.old)) }
         ensures err { OnErr result ((ahead_of self.new ≡ ahead_of self.old) × (link_left self.new ≡ link_left self.old)) }

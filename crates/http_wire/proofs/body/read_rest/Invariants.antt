@@ -7,7 +7,8 @@ invariant-loop-source g l = record {
   in_range : vec_len l.body ≤ l.count;
   came : ReadsRest l.initial.body.items l.body.items (g.S.Faults.left l.initial.source) (g.S.Faults.left l.source) (length l.body.items);
   written : g.S.Faults.written l.source ≡ g.S.Faults.written l.initial.source;
-  later : g.S.Faults.faults l.initial.source ≤ g.S.Faults.faults l.source;
+  sent : g.S.Faults.sent l.source ≡ g.S.Faults.sent l.initial.source;
+  same : g.S.Faults.faults l.source ≡ g.S.Faults.faults l.initial.source;
 }
 
 abbrev pub decreases-loop-source : goal.decreases-loop-source

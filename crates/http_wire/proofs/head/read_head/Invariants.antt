@@ -7,7 +7,7 @@ abbrev pub invariant-loop-read : goal.invariant-loop-read
 invariant-loop-read g l = record {
   left : left_of l.wire ≡ left_of l.initial.wire;
   written : written_of l.wire ≡ written_of l.initial.wire;
-  later : faults_of l.initial.wire ≤ faults_of l.wire;
+  same : faults_of l.wire ≡ faults_of l.initial.wire;
 }
 
 abbrev pub decreases-loop-read : goal.decreases-loop-read
