@@ -78,8 +78,3 @@ Leads-append s t u m n o xs ys a b = record {
   state_is = b.state_is ∙ ap (λ q. last_state q b.entries) a.state_is ∙ sym (last_state-append s a.entries b.entries);
   faults_is = b.faults_is ∙ ap (λ f. last_faults f b.entries) a.faults_is ∙ sym (last_faults-append m a.entries b.entries);
 }
-
--- a history of calls keeps its opening state's soundness
-pub IsSoundState-last : (state : State) (faults : ℕ) (entries : List Entry) → IsSoundState state → IsHistory state faults entries → IsSoundState (last_state state entries)
-IsSoundState-last state faults [] s h = s
-IsSoundState-last state faults (x ∷ xs) s h = IsSoundState-last x.state x.faults xs h.0.sound h.1

@@ -65,7 +65,7 @@ dump_of_host dumps place = position_from (λ dump. dump.host == place) 0 dumps
 abbrev pub backup_of : Host → ℕ → Option Backup
 backup_of host number = slice_get host.backups number
 
--- a host's next number is below this, and so are its backups'
+-- a host's next number is at most this, and its backups' numbers are below it
 abbrev pub number_limit : ℕ
 number_limit = 2 ^ 32
 

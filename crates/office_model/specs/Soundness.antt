@@ -12,12 +12,12 @@ use Rattle.office_model.specs.Nodes.{IsTree, IsTree-nil, IsTree-with_file, broke
 use Rattle.office_model.specs.declared.session.SessionName.{SessionName}
 use Rattle.office_model.specs.declared.event.Event.{Event}
 use Rattle.office_model.specs.declared.event.Event.TheVariants.{AddHost, OpenDump, Put, Commit, ReadFile}
-use Rattle.office_model.specs.declared.event.Rule.{Rule}
-use Rattle.office_model.specs.declared.event.Rule.TheVariants.{NoHost}
-use Rattle.office_model.specs.declared.event.Refusal.TheVariants.{Broken, Halted, DiskFault, Damaged, Memory}
+use Rattle.office_model.specs.declared.event.BrokenRule.{BrokenRule}
+use Rattle.office_model.specs.declared.event.BrokenRule.TheVariants.{NoHost, Put as BrokenPut}
+use Rattle.office_model.specs.declared.event.Refusal.TheVariants.{Broken, Halted as HaltedReply, DiskFault, Damaged, Memory}
 use Rattle.office_model.specs.Office.{Office, Host, Backup, Dump, no_office, durable, reopened, host_place, host_named, dump_place, dump_named, dump_of_host, number_limit, host_limit, IsSoundDump, IsSoundHost, IsSound}
-use Rattle.office_model.specs.Rules.{broken_rule, add_rule, open_rule, open_rule_at, put_rule, rule_of_put, plain_file}
-use Rattle.office_model.specs.Step.{with_dump, with_file_put, with_backup, with_dump_committed, after, next_session, Reply, State, Running, Stopped, IsSoundState, IsStep, IsAnswerTo, answer_of, next_number, content_of}
+use Rattle.office_model.specs.Rules.{broken_rule, add_rule, open_rule, open_rule_at, put_rule, plain_file}
+use Rattle.office_model.specs.Step.{with_dump, with_file_put, with_backup, with_dump_committed, after, next_session, Reply, State, Running, Halted, IsSoundState, IsStep, IsAnswerTo, answer_of, next_number, content_of}
 use Rattle.office_model.specs.Places.{AtEach-longer, AtEach-set, Differ-longer, Differ-set, Differ-remove, slice_get-set_other, slice_get-remove, place_before, place_before-other, in_longer}
 use Rattle.office_model.specs.Lookups.{host_place-none, dump_of_host-none}
 
@@ -178,7 +178,7 @@ IsSound-with_host office name sound none room = record {
 
 -- ---- rules that are not broken
 
-rule_passed : (broken : Bool) (rule : Rule) (rest : Option Rule) → (if broken then Some rule else rest) ≡ None → (broken ≡ false) × (rest ≡ None)
+rule_passed : (broken : Bool) (rule : BrokenRule) (rest : Option BrokenRule) → (if broken then Some rule else rest) ≡ None → (broken ≡ false) × (rest ≡ None)
 rule_passed true rule rest e = absurd (cc)
 rule_passed false rule rest e = (refl, e)
 
@@ -202,9 +202,9 @@ may_open office place host e =
     let c : (nat_le (2 ^ 64 - 1) office.sequence ≡ false) × (_ ≡ None) = rule_passed _ _ _ b.1 in
     record { no_dump = is_none _ a.0; has_number = below number_limit (length host.backups) b.0; has_session = below (2 ^ 64 - 1) office.sequence c.0 }
 
-no_rule_of_put : (rule : Option PutRule) → option_map rule_of_put rule ≡ None → rule ≡ None
-no_rule_of_put None e = refl
-no_rule_of_put (Some rule) e = absurd (cc)
+no_broken_put : (rule : Option PutRule) → option_map BrokenPut rule ≡ None → rule ≡ None
+no_broken_put None e = refl
+no_broken_put (Some rule) e = absurd (cc)
 
 -- ---- the laws
 
@@ -258,7 +258,7 @@ IsSound-file_put office place path bytes sound e = step (slice_get office.dumps 
   where
     step : (r : Option Dump) → slice_get office.dumps place ≡ r → put_rule r path bytes ≡ None → IsSound (with_file_put office place path bytes)
     step None at f = absurd (cc)
-    step (Some dump) at f = IsSound-with_file_put office place path bytes dump sound at (no_rule_of_put _ f)
+    step (Some dump) at f = IsSound-with_file_put office place path bytes dump sound at (no_broken_put _ f)
 
 pub IsSound-dump_committed : (office : Office) (place now : ℕ) → IsSound office → IsSound (with_dump_committed office place now)
 IsSound-dump_committed office place now sound = step (slice_get office.dumps place) refl
@@ -291,23 +291,9 @@ IsSound-after office (ReadFile name number path) sound e = sound
 pub IsSoundState-step : (state : State) (event : Event) (reply : Reply) (next : State) → IsSoundState state → IsStep state event reply next → IsSoundState next
 IsSoundState-step (Running old) event (Ok answer) next sound step = subst IsSoundState (sym step.2) (IsSound-after old event sound step.0)
 IsSoundState-step (Running old) event (Err (Broken rule)) next sound step = subst IsSoundState (sym step.1) sound
-IsSoundState-step (Running old) event (Err Halted) next sound step = absurd step
+IsSoundState-step (Running old) event (Err HaltedReply) next sound step = absurd step
 IsSoundState-step (Running old) event (Err DiskFault) next sound step =
     subst IsSoundState (sym step.2) (IsSound-durable old sound, IsSound-durable (after old event) (IsSound-after old event sound step.0))
 IsSoundState-step (Running old) event (Err (Damaged file found)) next sound step = absurd step
 IsSoundState-step (Running old) event (Err Memory) next sound step = subst IsSoundState (sym step) sound
-IsSoundState-step (Stopped before after) event reply next sound step = subst IsSoundState (sym step.1) sound
-
--- an answer is of the event's kind
-IsAnswerTo-answer_of : (office : Office) (event : Event) → IsAnswerTo event (answer_of office event)
-IsAnswerTo-answer_of office (AddHost name) = refl
-IsAnswerTo-answer_of office (OpenDump name kind now) = (next_session office, refl)
-IsAnswerTo-answer_of office (Put session path bytes) = refl
-IsAnswerTo-answer_of office (Commit session now) = (next_number office (dump_named office.dumps session), refl)
-IsAnswerTo-answer_of office (ReadFile name number path) = (content_of (host_named office.hosts name) number path, refl)
-
-pub IsAnswerTo-step : (state : State) (event : Event) (reply : Reply) (next : State) → IsStep state event reply next → IfOk reply (IsAnswerTo event)
-IsAnswerTo-step (Running old) event (Ok answer) next step = subst (IsAnswerTo event) (sym step.1) (IsAnswerTo-answer_of old event)
-IsAnswerTo-step (Running old) event (Err refusal) next step = tt
-IsAnswerTo-step (Stopped before after) event (Ok answer) next step = absurd (cc step.0)
-IsAnswerTo-step (Stopped before after) event (Err refusal) next step = tt
+IsSoundState-step (Halted before after) event reply next sound step = subst IsSoundState (sym step.1) sound

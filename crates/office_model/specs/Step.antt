@@ -11,7 +11,7 @@ use Rattle.office_model.specs.declared.event.Event.TheVariants.{AddHost, OpenDum
 use Rattle.office_model.specs.declared.event.Answer.{Answer}
 use Rattle.office_model.specs.declared.event.Answer.TheVariants.{Done, Dump as Opened, Committed, Content}
 use Rattle.office_model.specs.declared.event.Refusal.{Refusal}
-use Rattle.office_model.specs.declared.event.Refusal.TheVariants.{Broken, Halted, DiskFault, Damaged, Memory}
+use Rattle.office_model.specs.declared.event.Refusal.TheVariants.{Broken, Halted as HaltedReply, DiskFault, Damaged, Memory}
 use Rattle.office_model.specs.Office.{Office, Host, Dump, durable, host_place, host_named, dump_place, dump_named, backup_of, IsSound}
 use Rattle.office_model.specs.Rules.{broken_rule, plain_file}
 
@@ -59,9 +59,9 @@ next_number office (Some dump) = option_map_or (λ host. length host.backups) (s
 -- the bytes of a file, none where there is no file
 abbrev pub bytes_of : Option Item → List ℕ
 bytes_of None = []
-bytes_of (Some (File attr bytes)) = bytes
-bytes_of (Some (Dir attr)) = []
-bytes_of (Some (Link attr target)) = []
+bytes_of (Some (File file)) = file.bytes
+bytes_of (Some (Dir dir)) = []
+bytes_of (Some (Link link)) = []
 
 abbrev pub content_of : Option Host → ℕ → List ℕ → List ℕ
 content_of None number path = []
@@ -101,23 +101,23 @@ Call = Event × Reply
 -- an office at work, or one that a fault of the disk left between two
 pub data State : Type 0 where
   Running : Office → State
-  Stopped : Office → Office → State
+  Halted : Office → Office → State
 
 abbrev pub IsSoundState : State → Type 0
 IsSoundState (Running office) = IsSound office
-IsSoundState (Stopped before next) = IsSound before × IsSound next
+IsSoundState (Halted before next) = IsSound before × IsSound next
 
 -- an office at work answers by its rules, and else carries the event out or says what was wanting
 abbrev pub IsOfficeStep : Office → Event → Reply → State → Type 0
 IsOfficeStep old event (Ok answer) new = (broken_rule old event ≡ None) × (answer ≡ answer_of old event) × (new ≡ Running (after old event))
 IsOfficeStep old event (Err (Broken rule)) new = (broken_rule old event ≡ Some rule) × (new ≡ Running old)
-IsOfficeStep old event (Err Halted) new = ⊥
+IsOfficeStep old event (Err HaltedReply) new = ⊥
 IsOfficeStep old event (Err DiskFault) new =
-    (broken_rule old event ≡ None) × (is_commit event ≡ true) × (new ≡ Stopped (durable old) (durable (after old event)))
+    (broken_rule old event ≡ None) × (is_commit event ≡ true) × (new ≡ Halted (durable old) (durable (after old event)))
 IsOfficeStep old event (Err (Damaged file found)) new = ⊥
 IsOfficeStep old event (Err Memory) new = new ≡ Running old
 
--- a stopped office answers Halted alone, for good
+-- a halted office answers Halted alone, for good
 abbrev pub IsStep : State → Event → Reply → State → Type 0
 IsStep (Running old) event reply new = IsOfficeStep old event reply new
-IsStep (Stopped before next) event reply new = (reply ≡ Err Halted) × (new ≡ Stopped before next)
+IsStep (Halted before next) event reply new = (reply ≡ Err HaltedReply) × (new ≡ Halted before next)

@@ -1,3 +1,6 @@
+ghost use Rattle.std.specs.Prelude.{◌≡◌};
+ghost use Rattle.office_model.specs.RuleNames.{put_rule_name};
+
 use crate::session::SessionName;
 use attr_records::{HostName, PathName, PutRule};
 use disk_trait::{Bytes, FileId};
@@ -58,7 +61,7 @@ pub enum Answer {
 
 /// A rule of the office that an event may break.
 #[derive(Clone, Copy, Debug, PartialEq, Eq)]
-pub enum Rule {
+pub enum BrokenRule {
     /// There is a host of this name.
     HostExists,
     /// There are 1,024 hosts.
@@ -71,14 +74,8 @@ pub enum Rule {
     NumbersSpent,
     /// There is no open session of this name.
     NoSession,
-    /// The path's parent is neither the root nor a directory of the tree.
-    NoParent,
-    /// A directory is at the path.
-    IsDirectory,
-    /// The tree has 1,048,576 paths.
-    TooManyEntries,
-    /// The file has more than 67,108,864 bytes.
-    FileTooLarge,
+    /// A rule of trees, which a put broke.
+    Put(PutRule),
     /// The host has no backup of this number.
     NoBackup,
     /// Nothing is at the path.
@@ -87,11 +84,11 @@ pub enum Rule {
     NotAFile,
 }
 
-/// Why an event was not carried out. But for a `DiskFault` of a commit, the office is as before.
+/// Why an event was not carried out. But for a `DiskFault` of an event that writes metadata, the office is as before.
 #[derive(Debug, Drop)]
 pub enum Refusal {
     /// This is the first rule that the event breaks.
-    Broken(Rule),
+    Broken(BrokenRule),
     /// An earlier fault of the disk left the office between two states, so it answers nothing else.
     Halted,
     /// The disk failed; its count of faults rose in this call.
@@ -102,8 +99,21 @@ pub enum Refusal {
     Memory,
 }
 
+/// The name of a rule of trees, as a response says it.
+#[tactic(auto, unfolding(crate::specs::RuleNames::put_rule_name))]
+fn put_rule_name(rule: PutRule) -> &'static str
+    ensures { result.now ≡ put_rule_name rule }
+{
+    match rule {
+        PutRule::NoParent => "NoParent",
+        PutRule::IsDirectory => "IsDirectory",
+        PutRule::TooManyEntries => "TooManyEntries",
+        PutRule::FileTooLarge => "FileTooLarge",
+    }
+}
+
 #[tactic(auto, unfolding(crate::specs::RuleNames::rule_name))]
-impl Rule {
+impl BrokenRule {
     ghost use Rattle.std.specs.Prelude.{◌≡◌};
     ghost use Rattle.office_model.specs.RuleNames.{rule_name};
 
@@ -112,24 +122,21 @@ impl Rule {
         ensures { result.now ≡ rule_name self }
     {
         match self {
-            Rule::HostExists => "HostExists",
-            Rule::HostsFull => "HostsFull",
-            Rule::NoHost => "NoHost",
-            Rule::SessionOpen => "SessionOpen",
-            Rule::NumbersSpent => "NumbersSpent",
-            Rule::NoSession => "NoSession",
-            Rule::NoParent => "NoParent",
-            Rule::IsDirectory => "IsDirectory",
-            Rule::TooManyEntries => "TooManyEntries",
-            Rule::FileTooLarge => "FileTooLarge",
-            Rule::NoBackup => "NoBackup",
-            Rule::NoPath => "NoPath",
-            Rule::NotAFile => "NotAFile",
+            BrokenRule::HostExists => "HostExists",
+            BrokenRule::HostsFull => "HostsFull",
+            BrokenRule::NoHost => "NoHost",
+            BrokenRule::SessionOpen => "SessionOpen",
+            BrokenRule::NumbersSpent => "NumbersSpent",
+            BrokenRule::NoSession => "NoSession",
+            BrokenRule::Put(rule) => put_rule_name(rule),
+            BrokenRule::NoBackup => "NoBackup",
+            BrokenRule::NoPath => "NoPath",
+            BrokenRule::NotAFile => "NotAFile",
         }
     }
 }
 
-impl fmt::Display for Rule {
+impl fmt::Display for BrokenRule {
     ghost use Rattle.std.specs.Prelude.{Some};
     ghost use Rattle.office_model.specs.RuleNames.{rule_name};
 

@@ -13,7 +13,7 @@ mod session;
 #[cfg(test)]
 mod tests;
 
-pub use event::{Answer, Event, Kind, Refusal, Rule};
+pub use event::{Answer, BrokenRule, Event, Kind, Refusal};
 pub use plain::PlainOffice;
 pub use port::Port;
 pub use session::SessionName;

@@ -1,16 +1,16 @@
 ghost use Rattle.std.specs.Prelude.{◌≡◌, ◌<◌, length, IfOk, OnOk, OnErr, slice_get};
 ghost use Rattle.std.specs.Result.{result_err};
 ghost use Rattle.office_model.specs.Office.{reopened, no_office, host_place, dump_place, dump_named};
-ghost use Rattle.office_model.specs.Rules.{rule_of_put, open_rule_at, put_rule};
+ghost use Rattle.office_model.specs.Rules.{open_rule_at, put_rule};
 ghost use Rattle.office_model.specs.Step.{Running, IsStep, IsOfficeStep, IsAnswerTo, next_session, with_dump, with_file_put, with_dump_committed, next_number};
 
-use crate::event::{Answer, Event, Kind, Refusal, Rule};
+use crate::event::{Answer, BrokenRule, Event, Kind, Refusal};
 use crate::plain::parts::{
     PlainDump, PlainHost, commit, dump_of_host, dump_place, file_of, host_place,
 };
 use crate::port::Port;
 use crate::session::SessionName;
-use attr_records::{HostName, PathName, PutRule};
+use attr_records::{HostName, PathName};
 use disk_trait::Bytes;
 use std::alloc::{AllocError, Global};
 use std::marker::Model;
@@ -79,10 +79,10 @@ impl PlainOffice {
         ensures { IsOfficeStep self.old (Event.AddHost name.now) result (Running self.new) }
     {
         if host_place(self.hosts.as_slice(), name).is_some() {
-            return Err(Refusal::Broken(Rule::HostExists));
+            return Err(Refusal::Broken(BrokenRule::HostExists));
         }
         if self.hosts.len() >= MOST_HOSTS {
-            return Err(Refusal::Broken(Rule::HostsFull));
+            return Err(Refusal::Broken(BrokenRule::HostsFull));
         }
         if self.hosts.reserve(1).is_err() {
             return Err(Refusal::Memory);
@@ -98,22 +98,22 @@ impl PlainOffice {
     }
 
     /// The place of the host that a dump may be opened of, or the rule that an opening breaks.
-    fn opening(&self, name: &HostName) -> Result<usize, Rule>
+    fn opening(&self, name: &HostName) -> Result<usize, BrokenRule>
         ensures ok { IfOk result (λ place. host_place self.now.hosts name.now ≡ Some place) }
         ensures rule { open_rule_at self.now (host_place self.now.hosts name.now) ≡ result_err result }
     {
         let place = match host_place(self.hosts.as_slice(), name) {
             Some(place) => place,
-            None => return Err(Rule::NoHost),
+            None => return Err(BrokenRule::NoHost),
         };
         if dump_of_host(self.dumps.as_slice(), place).is_some() {
-            return Err(Rule::SessionOpen);
+            return Err(BrokenRule::SessionOpen);
         }
         if self.hosts[place].number_of_backups() >= NUMBERS {
-            return Err(Rule::NumbersSpent);
+            return Err(BrokenRule::NumbersSpent);
         }
         if self.sequence >= MOST_SESSIONS {
-            return Err(Rule::NumbersSpent);
+            return Err(BrokenRule::NumbersSpent);
         }
         Ok(place)
     }
@@ -164,16 +164,21 @@ impl PlainOffice {
     }
 
     /// The place of the open dump that a file may be put into, or the rule that the put breaks.
-    fn putting(&self, session: SessionName, path: &PathName, bytes: &Bytes) -> Result<usize, Rule>
+    fn putting(
+        &self,
+        session: SessionName,
+        path: &PathName,
+        bytes: &Bytes,
+    ) -> Result<usize, BrokenRule>
         ensures ok { IfOk result (λ place. dump_place self.now.dumps session ≡ Some place) }
         ensures rule { put_rule (dump_named self.now.dumps session) path.now bytes.now ≡ result_err result }
     {
         let place = match dump_place(self.dumps.as_slice(), session) {
             Some(place) => place,
-            None => return Err(Rule::NoSession),
+            None => return Err(BrokenRule::NoSession),
         };
         match self.dumps[place].broken_put(path, bytes) {
-            Some(rule) => Err(rule_of_put(rule)),
+            Some(rule) => Err(BrokenRule::Put(rule)),
             None => Ok(place),
         }
     }
@@ -230,7 +235,7 @@ impl PlainOffice {
     {
         let place = match dump_place(self.dumps.as_slice(), session) {
             Some(place) => place,
-            None => return Err(Refusal::Broken(Rule::NoSession)),
+            None => return Err(Refusal::Broken(BrokenRule::NoSession)),
         };
         match self.commit_at(place, now) {
             Ok(number) => Ok(Answer::Committed(number)),
@@ -273,16 +278,4 @@ impl Port for PlainOffice {
     ghost none = { λ p. Leads-none (Running p) 0 };
 
     ghost joined = { λ p q r xs ys a b. Leads-append (Running p) (Running q) (Running r) 0 0 0 xs ys a b };
-}
-
-/// The office's rule for a put that breaks a rule of trees.
-fn rule_of_put(rule: PutRule) -> Rule
-    ensures { result ≡ rule_of_put rule }
-{
-    match rule {
-        PutRule::NoParent => Rule::NoParent,
-        PutRule::IsDirectory => Rule::IsDirectory,
-        PutRule::TooManyEntries => Rule::TooManyEntries,
-        PutRule::FileTooLarge => Rule::FileTooLarge,
-    }
 }

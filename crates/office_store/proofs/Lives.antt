@@ -11,7 +11,7 @@ use Rattle.attr_records.specs.Items.{Tree}
 use Rattle.office_store.specs.Layout.{table_file, head_file}
 use Rattle.attr_records.specs.Trees.{with_node}
 use Rattle.office_model.specs.Office.{Office, Host, Backup, Dump, IsSound, host_place, dump_place, dump_named, number_limit, host_limit}
-use Rattle.office_model.specs.declared.event.Rule.TheVariants.{NoSession}
+use Rattle.office_model.specs.declared.event.BrokenRule.TheVariants.{NoSession}
 use Rattle.office_model.specs.Rules.{broken_rule, plain_file}
 use Rattle.office_model.specs.Step.{after, next_session, next_number, with_file_put, with_dump_committed, with_backup}
 use Rattle.office_model.specs.Soundness.{IsSound-after, host_of_dump, with_dump_committed-at}

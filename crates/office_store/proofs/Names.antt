@@ -2,7 +2,8 @@
 use Rattle.std.proofs.Common.{◌≡◌, ℕ, ◌<◌, List, length, true, arith, None}
 use Rattle.std.proofs.lemmas.Bool.Decides.{nat_tests}
 use Rattle.attr_records.specs.Names.{is_host_name}
-use Rattle.attr_records.specs.PathRules.{broken_path_rule, rules_kept}
+use Rattle.attr_records.specs.PathRules.{broken_path_rule}
+use Rattle.attr_records.specs.PathRuleLaws.{rules_kept}
 
 pub short_host_name : (text : List ℕ) → is_host_name text ≡ true → length text < 256
 unfolding is_host_name

@@ -4,7 +4,8 @@ use Rattle.std.specs.List.{remove}
 use Rattle.std.proofs.lemmas.Option.{slice_get_within}
 use Rattle.disk_trait.specs.declared.ids.FileId.{FileId}
 use Rattle.disk_trait.specs.declared.ids.FileId.TheVariants.{Head, Table}
-use Rattle.disk_trait.specs.Files.{Files, is_same_file, same_file, is_same_file-itself, with_file, rewritten}
+use Rattle.disk_trait.specs.Names.{is_same_file, same_file, is_same_file-itself}
+use Rattle.disk_trait.specs.Files.{Files}
 use Rattle.office_model.specs.declared.session.SessionName.{SessionName}
 use Rattle.office_model.specs.declared.event.Event.TheVariants.{AddHost, Commit}
 use Rattle.office_model.specs.Office.{Office, Host, Backup, Dump, IsSound, durable}
@@ -12,7 +13,7 @@ use Rattle.office_model.specs.Rules.{broken_rule}
 use Rattle.office_model.specs.Step.{after, with_backup, with_dump_committed}
 use Rattle.office_model.specs.Places.{in_longer, in_set}
 use Rattle.office_model.specs.Soundness.{IsSound-after, IsSound-durable, with_dump_committed-at}
-use Rattle.office_store.specs.Layout.{head_file, table_file}
+use Rattle.office_store.specs.Layout.{head_file, table_file, with_file, rewritten}
 use Rattle.office_store.specs.Lives.{IsCommitFiles}
 use Rattle.office_store.specs.Kept.{IsHeadOf, StandsFor, Tells}
 use Rattle.office_store.proofs.Lives.{Committing}

@@ -1,11 +1,21 @@
 -- The layouts of the store's files. Numbers are big-endian.
-use Rattle.std.specs.Prelude.{◌≡◌, ℕ, List, [], ◌∷◌, ◌++◌, length, codes, refl, Some}
+use Rattle.std.specs.Prelude.{◌≡◌, ℕ, List, [], ◌∷◌, ◌++◌, length, codes, refl, Option, Some}
 use Rattle.std.specs.Int.{to_be_bytes, w16, w32, w64}
 use Rattle.std.proofs.Common.{ap, sym, ◌∙◌}
 use Rattle.std.proofs.lemmas.List.{append_assoc}
+use Rattle.disk_trait.specs.declared.ids.FileId.{FileId}
+use Rattle.disk_trait.specs.Files.{Files, with_bytes, changed}
 use Rattle.office_model.specs.Nodes.{Tree}
 use Rattle.office_model.specs.Office.{Host}
 use Rattle.office_model.specs.Step.{bytes_of}
+
+-- the files with one of them holding these bytes
+abbrev pub with_file : Files → FileId → List ℕ → Files
+with_file files file bytes = with_bytes files file (Some bytes)
+
+-- the same of files that may not be told
+abbrev pub rewritten : Option Files → FileId → List ℕ → Option Files
+rewritten told file bytes = changed told file (Some bytes)
 
 -- a host in Head: its name behind its length, and the number of its backups
 unfoldable pub host_line : List ℕ → ℕ → List ℕ

@@ -57,9 +57,9 @@ fn bytes_of(item: &Item) -> &[u8]
     ensures { result.now ≡ bytes_of (Some item.now) }
 {
     match item {
-        Item::File { attr: _, bytes } => bytes.as_slice(),
-        Item::Dir { attr: _ } => &[],
-        Item::Link { attr: _, target: _ } => &[],
+        Item::File(file) => file.bytes.as_slice(),
+        Item::Dir(_) => &[],
+        Item::Link(_) => &[],
     }
 }
 

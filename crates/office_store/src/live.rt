@@ -1,13 +1,12 @@
 ghost use Rattle.std.specs.Prelude.{◌≡◌, None, Some, IfOk, OnOk, OnErr};
 ghost use Rattle.office_store.specs.Lives.{dumps_with_file, MayCommit, Commits, IsCommitFiles};
 ghost use Rattle.office_model.specs.Office.{host_place, dump_place, dump_of_host};
-ghost use Rattle.office_model.specs.Rules.{rule_of_put};
 
 use crate::layout::{head_file, table_file};
 use crate::parts::{Dump, Host};
-use attr_records::{HostName, Item, PathName, PutRule};
+use attr_records::{HostName, Item, PathName};
 use disk_trait::{Bytes, FileId};
-use office_model::{Event, Rule, SessionName};
+use office_model::{BrokenRule, Event, SessionName};
 use std::alloc::{AllocError, Global};
 use std::marker::Model;
 use stream_traits::Moment;
@@ -31,18 +30,6 @@ fn dump_of_host(dumps: &[Dump], place: usize) -> Option<usize>
     ensures { result ≡ dump_of_host dumps.now place }
 {
     dumps.iter().position(|dump| dump.host() == place)
-}
-
-/// The rule of the office that a rule of trees is.
-fn rule_of_put(rule: PutRule) -> Rule
-    ensures { result ≡ rule_of_put rule }
-{
-    match rule {
-        PutRule::NoParent => Rule::NoParent,
-        PutRule::IsDirectory => Rule::IsDirectory,
-        PutRule::TooManyEntries => Rule::TooManyEntries,
-        PutRule::FileTooLarge => Rule::FileTooLarge,
-    }
 }
 
 /// Puts a file into the dump at this place, where there is one.
@@ -155,7 +142,7 @@ impl LiveOffice {
         &self,
         alloc: Global,
         event: &Event,
-    ) -> Result<Option<Rule>, AllocError>
+    ) -> Result<Option<BrokenRule>, AllocError>
         ensures { IfOk result (λ rule. rule ≡ broken_rule self.now event.now) }
     {
         match event {
@@ -171,35 +158,35 @@ impl LiveOffice {
         }
     }
 
-    fn add_rule(&self, name: &HostName) -> Option<Rule>
+    fn add_rule(&self, name: &HostName) -> Option<BrokenRule>
         ensures { result ≡ add_rule self.now name.now }
     {
         if host_place(&self.hosts, name).is_some() {
-            return Some(Rule::HostExists);
+            return Some(BrokenRule::HostExists);
         }
         if self.hosts.len() >= 1024 {
-            return Some(Rule::HostsFull);
+            return Some(BrokenRule::HostsFull);
         }
         None
     }
 
-    fn open_rule(&self, name: &HostName) -> Option<Rule>
+    fn open_rule(&self, name: &HostName) -> Option<BrokenRule>
         ensures { result ≡ open_rule_at self.now (host_place self.now.hosts name.now) }
     {
         let Some(place) = host_place(&self.hosts, name) else {
-            return Some(Rule::NoHost);
+            return Some(BrokenRule::NoHost);
         };
         let Some(host) = self.hosts.get(place) else {
-            return Some(Rule::NoHost);
+            return Some(BrokenRule::NoHost);
         };
         if dump_of_host(&self.dumps, place).is_some() {
-            return Some(Rule::SessionOpen);
+            return Some(BrokenRule::SessionOpen);
         }
         if host.backups().len() >= 1 << 32 {
-            return Some(Rule::NumbersSpent);
+            return Some(BrokenRule::NumbersSpent);
         }
         if self.sequence == u64::MAX {
-            return Some(Rule::NumbersSpent);
+            return Some(BrokenRule::NumbersSpent);
         }
         None
     }
@@ -210,42 +197,42 @@ impl LiveOffice {
         session: SessionName,
         path: &PathName,
         bytes: &Bytes,
-    ) -> Result<Option<Rule>, AllocError>
+    ) -> Result<Option<BrokenRule>, AllocError>
         ensures { IfOk result (λ rule. rule ≡ put_rule (dump_named self.now.dumps session) path.now bytes.now) }
     {
         let Some(dump) = self.dump(session) else {
-            return Ok(Some(Rule::NoSession));
+            return Ok(Some(BrokenRule::NoSession));
         };
         match dump.broken_put(alloc, path, bytes.len() as u64)? {
-            Some(rule) => Ok(Some(rule_of_put(rule))),
+            Some(rule) => Ok(Some(BrokenRule::Put(rule))),
             None => Ok(None),
         }
     }
 
-    fn commit_rule(&self, session: SessionName) -> Option<Rule>
-        ensures { result ≡ (if is_some (dump_named self.now.dumps session) then None else Some Rule.NoSession) }
+    fn commit_rule(&self, session: SessionName) -> Option<BrokenRule>
+        ensures { result ≡ (if is_some (dump_named self.now.dumps session) then None else Some BrokenRule.NoSession) }
     {
         if self.dump(session).is_some() {
             None
         } else {
-            Some(Rule::NoSession)
+            Some(BrokenRule::NoSession)
         }
     }
 
-    fn read_rule(&self, name: &HostName, number: u32, path: &PathName) -> Option<Rule>
+    fn read_rule(&self, name: &HostName, number: u32, path: &PathName) -> Option<BrokenRule>
         ensures { result ≡ read_rule (host_named self.now.hosts name.now) number path.now }
     {
         let Some(host) = self.host(name) else {
-            return Some(Rule::NoHost);
+            return Some(BrokenRule::NoHost);
         };
         let Some(backup) = host.backups().get(number as usize) else {
-            return Some(Rule::NoBackup);
+            return Some(BrokenRule::NoBackup);
         };
         match backup.node(path) {
-            None => Some(Rule::NoPath),
-            Some(Item::File { attr: _, bytes: _ }) => None,
-            Some(Item::Dir { attr: _ }) => Some(Rule::NotAFile),
-            Some(Item::Link { attr: _, target: _ }) => Some(Rule::NotAFile),
+            None => Some(BrokenRule::NoPath),
+            Some(Item::File(_)) => None,
+            Some(Item::Dir(_)) => Some(BrokenRule::NotAFile),
+            Some(Item::Link(_)) => Some(BrokenRule::NotAFile),
         }
     }
 
@@ -373,9 +360,9 @@ impl LiveOffice {
         };
         match backup.node(path) {
             None => Ok(Bytes::new(alloc)),
-            Some(Item::File { attr: _, bytes }) => Ok(bytes.copy(alloc)?),
-            Some(Item::Dir { attr: _ }) => Ok(Bytes::new(alloc)),
-            Some(Item::Link { attr: _, target: _ }) => Ok(Bytes::new(alloc)),
+            Some(Item::File(file)) => Ok(file.bytes.copy(alloc)?),
+            Some(Item::Dir(_)) => Ok(Bytes::new(alloc)),
+            Some(Item::Link(_)) => Ok(Bytes::new(alloc)),
         }
     }
 

@@ -1,7 +1,7 @@
 ghost use Rattle.std.specs.Prelude.{◌≡◌, IfOk};
 ghost use Rattle.office_model.specs.Rules.{plain_file};
 
-use attr_records::{Attr, HostName, Item, PathName, PutRule};
+use attr_records::{Attr, File, HostName, Item, PathName, PutRule};
 use disk_trait::Bytes;
 use office_model::SessionName;
 use std::alloc::{AllocError, Global};
@@ -128,10 +128,11 @@ impl Host {
 fn plain_file(alloc: Global, bytes: &[u8]) -> Result<Item, AllocError>
     ensures { IfOk result (λ item. item ≡ plain_file bytes.now) }
 {
-    Ok(Item::File {
+    Ok(Item::File(File {
         attr: Attr::file_default(),
+        group: 0,
         bytes: Bytes::from_slice(alloc, bytes)?,
-    })
+    }))
 }
 
 impl Dump {

@@ -1,6 +1,7 @@
-ghost use Rattle.std.specs.Prelude.{◌≡◌, ⊤, Some, IsErr, OnOk};
+ghost use Rattle.std.specs.Prelude.{◌≡◌, ⊤, Some, IsErr, OnOk, OnErr};
 ghost use Rattle.fault_counts.specs.Counts.{Counted};
-ghost use Rattle.disk_trait.specs.Files.{rewritten};
+ghost use Rattle.disk_trait.specs.Files.{SameButOne};
+ghost use Rattle.office_store.specs.Layout.{rewritten};
 
 use crate::layout::first_head_file;
 use crate::live::{CommitFiles, LiveOffice};
@@ -14,6 +15,7 @@ use stream_traits::Moment;
 /// Writes a file and makes it durable.
 fn keep_file<D: Disk>(disk: &mut D, file: FileId, bytes: &[u8]) -> Result<(), Failed>
     ensures told { OnOk result (D.files disk.new ≡ rewritten (D.files disk.old) file bytes.now) }
+    ensures others { OnErr result (SameButOne file (D.files disk.old) (D.files disk.new)) }
     ensures counted { Counted (D.fault_count disk.old) (D.fault_count disk.new) (IsErr result) }
 {
     match disk.write(file, bytes) {

@@ -9,24 +9,24 @@ ghost use Rattle.office_model.specs.Rules.{plain_file, file_rule, read_rule};
 ghost use Rattle.office_model.specs.Step.{with_backup, bytes_of, content_of};
 ghost use Rattle.office_model.specs.Soundness.{dump_with_file, new_host};
 
-use crate::event::Rule;
+use crate::event::BrokenRule;
 use crate::plain::tree::{Row, broken_put, node_at, put_file};
 use crate::session::SessionName;
-use attr_records::{HostName, Item, MOST_FILE_BYTES, PathName, PutRule};
+use attr_records::{HostName, Item, MAX_FILE_BYTES, PathName, PutRule};
 use disk_trait::Bytes;
 use std::alloc::{AllocError, Global};
 use std::marker::Model;
 use stream_traits::Moment;
 
 /// The bytes of a file, or the rule that reading anything else breaks.
-fn bytes_of(item: &Item) -> Result<&Bytes, Rule>
+fn bytes_of(item: &Item) -> Result<&Bytes, BrokenRule>
     ensures ok { IfOk result (λ bytes. bytes.now ≡ bytes_of (Some item.entry.now)) }
     ensures rule { file_rule (Some item.entry.now) ≡ result_err result }
 {
     match item {
-        Item::File { bytes, .. } => Ok(bytes),
-        Item::Dir { .. } => Err(Rule::NotAFile),
-        Item::Link { .. } => Err(Rule::NotAFile),
+        Item::File(file) => Ok(&file.bytes),
+        Item::Dir(_) => Err(BrokenRule::NotAFile),
+        Item::Link(_) => Err(BrokenRule::NotAFile),
     }
 }
 
@@ -48,12 +48,12 @@ impl Model for PlainBackup {
 
 impl PlainBackup {
     /// The bytes of the file at a path, or the rule that reading it breaks.
-    fn file(&self, path: &PathName) -> Result<&Bytes, Rule>
+    fn file(&self, path: &PathName) -> Result<&Bytes, BrokenRule>
         ensures ok { IfOk result (λ bytes. bytes.now ≡ bytes_of (node_at self.entry.now.tree path.now)) }
         ensures rule { file_rule (node_at self.entry.now.tree path.now) ≡ result_err result }
     {
         match node_at(self.tree.as_slice(), path.as_slice()) {
-            None => Err(Rule::NoPath),
+            None => Err(BrokenRule::NoPath),
             Some(item) => bytes_of(item),
         }
     }
@@ -97,12 +97,12 @@ impl PlainHost {
     }
 
     /// The bytes of the file at a path of a backup, or the rule that reading it breaks.
-    fn file(&self, number: u32, path: &PathName) -> Result<&Bytes, Rule>
+    fn file(&self, number: u32, path: &PathName) -> Result<&Bytes, BrokenRule>
         ensures ok { IfOk result (λ bytes. bytes.now ≡ content_of (Some self.entry.now) number path.now) }
         ensures rule { read_rule (Some self.entry.now) number path.now ≡ result_err result }
     {
         match self.backups.get(number as usize) {
-            None => Err(Rule::NoBackup),
+            None => Err(BrokenRule::NoBackup),
             Some(backup) => backup.file(path),
         }
     }
@@ -154,7 +154,7 @@ impl PlainDump {
     pub fn broken_put(&self, path: &PathName, bytes: &Bytes) -> Option<PutRule>
         ensures { result ≡ broken_put self.now.tree path.now (plain_file bytes.now) }
     {
-        let large = bytes.len() as u64 > MOST_FILE_BYTES;
+        let large = bytes.len() as u64 > MAX_FILE_BYTES;
         broken_put(self.tree.as_slice(), path.as_slice(), large)
     }
 
@@ -182,12 +182,12 @@ pub fn file_of<'a>(
     name: &HostName,
     number: u32,
     path: &PathName,
-) -> Result<&'a Bytes, Rule>
+) -> Result<&'a Bytes, BrokenRule>
     ensures ok { IfOk result (λ bytes. bytes.now ≡ content_of (host_named hosts.entry.now name.now) number path.now) }
     ensures rule { read_rule (host_named hosts.entry.now name.now) number path.now ≡ result_err result }
 {
     match host_place(hosts, name) {
-        None => Err(Rule::NoHost),
+        None => Err(BrokenRule::NoHost),
         Some(place) => hosts[place].file(number, path),
     }
 }

@@ -5,7 +5,7 @@ ghost use Rattle.attr_records.specs.Trees.{node_at, with_node, is_dir_at, is_par
 ghost use Rattle.office_model.specs.Rules.{plain_file};
 ghost use Rattle.office_model.specs.PlainTrees.{place_from};
 
-use attr_records::{Attr, Item, MOST_PATHS, PathName, PutRule, compare, parent};
+use attr_records::{Attr, File, Item, MAX_PATHS, PathName, PutRule, compare, parent};
 use disk_trait::Bytes;
 use std::alloc::{AllocError, Global};
 use std::cmp::Ordering;
@@ -79,10 +79,11 @@ fn place_of(tree: &[Row], path: &[u8]) -> Result<usize, usize>
 fn plain_file(alloc: Global, bytes: &Bytes) -> Result<Item, AllocError>
     ensures { IfOk result (λ item. item ≡ plain_file bytes.now) }
 {
-    Ok(Item::File {
+    Ok(Item::File(File {
         attr: Attr::file_default(),
+        group: 0,
         bytes: bytes.copy(alloc)?,
-    })
+    }))
 }
 
 /// A further row, before the row at this place.
@@ -155,7 +156,7 @@ pub fn broken_put(tree: &[Row], path: &[u8], large: bool) -> Option<PutRule>
     if is_dir_at(tree, path) {
         return Some(PutRule::IsDirectory);
     }
-    if tree.len() >= MOST_PATHS && node_at(tree, path).is_none() {
+    if tree.len() >= MAX_PATHS && node_at(tree, path).is_none() {
         return Some(PutRule::TooManyEntries);
     }
     if large {

@@ -1,6 +1,6 @@
 use Rattle.std.proofs.Common.{◌∙◌}
 use Rattle.attr_records.specs.Paths.{path_cmp}
-use Rattle.attr_records.specs.Order.{lookup-find}
+use Rattle.ordered_lists.specs.OrderLaws.{lookup-find}
 use Rattle.office_store.proofs.parts.Backup.node.Goals as goal
 
 pub returns : goal.returns

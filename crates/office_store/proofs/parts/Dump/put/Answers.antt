@@ -1,6 +1,6 @@
 use Rattle.std.proofs.Common.{◌∙◌, ap}
 use Rattle.attr_records.specs.Paths.{path_cmp}
-use Rattle.attr_records.specs.Order.{insert_entry-put}
+use Rattle.ordered_lists.specs.OrderLaws.{insert_entry-put}
 use Rattle.office_store.proofs.parts.Dump.put.Goals as goal
 
 pub returns-clause-put : goal.returns-clause-put
