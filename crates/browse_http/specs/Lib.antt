@@ -1,0 +1,4 @@
+pub mod Messages
+pub mod Scripts
+pub mod Serving
+pub mod Talk

@@ -1,0 +1,44 @@
+-- What a request calls, and what is answered to its calls.
+use Rattle.std.specs.Prelude.{◌≡◌, ℕ, Bool, true, false, List, [], ◌∷◌, ◌++◌, Option, Some, None, Ok, Err}
+use Rattle.office_model.specs.declared.event.Event.{Event}
+use Rattle.office_model.specs.declared.event.Refusal.TheVariants as R
+use Rattle.office_model.specs.Step.{Reply, Call}
+use Rattle.browse_http.specs.Messages.{reply_response}
+
+-- which event a request calls next, after its calls and their replies so far; None when its response is due
+abbrev pub Script : Type 0
+Script = List Call → Option Event
+
+-- the script of a request that asks for an event: this one call
+abbrev pub one_call : Event → Script
+one_call event [] = Some event
+one_call event (call ∷ calls) = None
+
+-- the calls are those of a script, after the calls `made`
+abbrev pub FollowsAfter : Script → List Call → List Call → Type 0
+FollowsAfter next made [] = next made ≡ None
+FollowsAfter next made (call ∷ calls) = (next made ≡ Some call.0) × FollowsAfter next (made ++ call ∷ []) calls
+
+-- the calls are those of a script, to its end
+abbrev pub Follows : Script → List Call → Type 0
+Follows next calls = FollowsAfter next [] calls
+
+-- there was no memory to carry out the last call
+abbrev pub is_memory : Reply → Bool
+is_memory (Err R.Memory) = true
+is_memory (Err (R.Broken rule)) = false
+is_memory (Err R.Halted) = false
+is_memory (Err R.DiskFault) = false
+is_memory (Err (R.Damaged file found)) = false
+is_memory (Ok answer) = false
+
+abbrev pub lacks_memory : List Call → Bool
+lacks_memory [] = false
+lacks_memory (call ∷ []) = is_memory call.1
+lacks_memory (call ∷ next ∷ calls) = lacks_memory (next ∷ calls)
+
+-- the response to a request's calls: that to the reply of the last
+abbrev pub calls_response : List Call → Bool → Bool → List ℕ
+calls_response [] closes is_head = []
+calls_response (call ∷ []) closes is_head = reply_response call.0 call.1 closes is_head
+calls_response (call ∷ next ∷ calls) closes is_head = calls_response (next ∷ calls) closes is_head

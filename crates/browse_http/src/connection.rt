@@ -1,0 +1,106 @@
+ghost use Rattle.std.specs.Prelude.{◌≡◌};
+ghost use Rattle.fault_counts.specs.Counts.{Counted};
+ghost use Rattle.stream_traits.specs.Seen.{seen_of};
+ghost use Rattle.http_wire.specs.Wires.{left_of, written_of, sent_of, faults_of};
+ghost use Rattle.http_routes.specs.Table.{table};
+ghost use Rattle.browse_http.specs.Talk.{Converses, ServesLink};
+
+use crate::end::End;
+use crate::exchange::{REQUEST_LIMIT, exchange};
+use crate::reading::give_up;
+use http_routes::{Route, router};
+use http_wire::Wire;
+use matchit::Router;
+use office_model::Port;
+use std::alloc::Global;
+use stream_traits::{Clock, Failed, Faults, Gate, Link};
+
+/// A connection that was served: how it ended, and its link, handed back.
+#[derive(Drop)]
+pub struct Served<L> {
+    pub end: End,
+    pub link: L,
+}
+
+/// Serves a connection: reads requests, holds each at the gate between its head and its body, calls the port with the event of
+/// each that isn't refused, and writes the responses. It ends after 1,000,000 requests at the latest. What was written is sent
+/// before more is read, and at the end. The order of work, the routes and the responses are those of the interface's
+/// description; heads and bodies are those of HTTP/1.1 (RFC 9112).
+pub fn serve_connection<P: Port, L: Link, C: Clock, G: Gate>(
+    alloc: Global,
+    port: &mut P,
+    link: L,
+    clock: &mut C,
+    gate: &mut G,
+) -> Served<L>
+    ensures { ServesLink P.moves port.old port.new (seen_of ⟦<L as Faults>⟧ link) (seen_of ⟦<L as Faults>⟧ result.link)
+        (C.moments clock.old) (C.moments clock.new) result.end }
+{
+    let mut wire = Wire::new(alloc, link);
+    let end = serve_wire(alloc, port, &mut wire, clock, gate);
+    Served {
+        end,
+        link: wire.into_link(),
+    }
+}
+
+/// Serves the requests of a wire, and sends what was written last.
+fn serve_wire<P: Port, L: Link, C: Clock, G: Gate>(
+    alloc: Global,
+    port: &mut P,
+    wire: &mut Wire<L>,
+    clock: &mut C,
+    gate: &mut G,
+) -> End
+    ensures talk { Converses P.moves port.old port.new (left_of wire.old) (left_of wire.new)
+        (written_of wire.old) (written_of wire.new) (C.moments clock.old) (C.moments clock.new) result }
+    ensures sent { (result ≡ End.LinkFault → ⊥) → sent_of wire.new ≡ written_of wire.new }
+    ensures counted { Counted (faults_of wire.old) (faults_of wire.new) (result ≡ End.LinkFault) }
+{
+    let end = serve_routed(alloc, port, wire, clock, gate);
+    match wire.send() {
+        Ok(()) => end,
+        Err(Failed) => End::LinkFault,
+    }
+}
+
+/// Serves the requests of a wire by the table of routes.
+fn serve_routed<P: Port, L: Link, C: Clock, G: Gate>(
+    alloc: Global,
+    port: &mut P,
+    wire: &mut Wire<L>,
+    clock: &mut C,
+    gate: &mut G,
+) -> End
+    ensures talk { Converses P.moves port.old port.new (left_of wire.old) (left_of wire.new)
+        (written_of wire.old) (written_of wire.new) (C.moments clock.old) (C.moments clock.new) result }
+    ensures counted { Counted (faults_of wire.old) (faults_of wire.new) (result ≡ End.LinkFault) }
+{
+    match router(alloc) {
+        Ok(router) => serve_requests(alloc, port, wire, clock, gate, &router),
+        Err(_) => give_up(wire),
+    }
+}
+
+/// Serves the requests of a wire.
+fn serve_requests<P: Port, L: Link, C: Clock, G: Gate>(
+    alloc: Global,
+    port: &mut P,
+    wire: &mut Wire<L>,
+    clock: &mut C,
+    gate: &mut G,
+    router: &Router<Route>,
+) -> End
+    requires { router.now ≡ table }
+    ensures talk { Converses P.moves port.old port.new (left_of wire.old) (left_of wire.new)
+        (written_of wire.old) (written_of wire.new) (C.moments clock.old) (C.moments clock.new) result }
+    ensures counted { Counted (faults_of wire.old) (faults_of wire.new) (result ≡ End.LinkFault) }
+{
+    for index in 0..REQUEST_LIMIT {
+        match exchange(alloc, port, wire, clock, gate, router, index) {
+            Ok(()) => {}
+            Err(end) => return end,
+        }
+    }
+    unreachable!()
+}

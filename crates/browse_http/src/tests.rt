@@ -1,0 +1,212 @@
+use super::*;
+use office_model::PlainOffice;
+use std::alloc::Global;
+use std::test::Fail;
+use stream_traits::{FixedClock, Gate, MemoryLink, Moment, OpenGate};
+
+/// Serves an input from an office without hosts, and gives the link and the end.
+fn serve(alloc: Global, input: &[u8], fails: u64) -> Result<(MemoryLink, End), Fail> {
+    let fails = Vec::from_array(alloc, [fails])?;
+    let link = MemoryLink::new(alloc, input.to_vec(alloc)?, 8_192, fails)?;
+    let mut clock = FixedClock::new(Moment::first());
+    let mut port = PlainOffice::new(alloc);
+    let served = serve_connection(alloc, &mut port, link, &mut clock, &mut OpenGate);
+    Ok((served.link, served.end))
+}
+
+/// Compares what is sent for an input, and how the connection ends.
+fn expect(alloc: Global, input: &[u8], output: &[u8], end: End) -> Result<(), Fail> {
+    let (link, found) = serve(alloc, input, u64::MAX)?;
+    if link.sent() == output && found == end {
+        return Ok(());
+    }
+    let output = String::from_utf8_lossy(alloc, link.sent())?;
+    Err(Fail::new(format_args!("{found:?}, {output:?}")))
+}
+
+const FIRST_PATH: &[u8] = b"PUT /hosts/pc1 HTTP/1.1\r\nHost: b\r\n\r\n\
+POST /hosts/pc1/dumps?kind=full HTTP/1.1\r\nHost: b\r\n\r\n\
+PUT /dumps/1-0/entry?path=a.txt&kind=file HTTP/1.1\r\nHost: b\r\nContent-Length: 5\r\n\r\nhello\
+POST /dumps/1-0/commit HTTP/1.1\r\nHost: b\r\n\r\n\
+GET /hosts/pc1/backups/0/file?path=a.txt HTTP/1.1\r\nHost: b\r\nConnection: close\r\n\r\n";
+
+const FIRST_OUTPUT: &[u8] =
+    b"HTTP/1.1 201 Created\r\nContent-Type: application/json\r\nContent-Length: 14\r\n\r\n{\"host\":\"pc1\"}\
+HTTP/1.1 201 Created\r\nContent-Type: application/json\r\nContent-Length: 14\r\n\r\n{\"dump\":\"1-0\"}\
+HTTP/1.1 200 OK\r\nContent-Type: application/json\r\nContent-Length: 2\r\n\r\n{}\
+HTTP/1.1 201 Created\r\nContent-Type: application/json\r\nContent-Length: 12\r\n\r\n{\"number\":0}\
+HTTP/1.1 200 OK\r\nContent-Type: application/octet-stream\r\nContent-Length: 5\r\nConnection: close\r\n\r\nhello";
+
+#[test]
+fn the_first_path_is_answered(rt: HostRuntime) -> Result<(), Fail> {
+    expect(rt.alloc(), FIRST_PATH, FIRST_OUTPUT, End::Ended)
+}
+
+#[test]
+fn a_cut_input_has_a_prefix_of_the_responses(rt: HostRuntime) -> Result<(), Fail> {
+    for cut in 0..FIRST_PATH.len() {
+        let (link, end) = serve(rt.alloc(), &FIRST_PATH[..cut], u64::MAX)?;
+        assert!(rt; FIRST_OUTPUT.starts_with(link.sent()));
+        assert!(rt; end == End::Truncated || end == End::Ended);
+    }
+    Ok(())
+}
+
+#[test]
+fn a_failed_call_of_the_link_ends_it(rt: HostRuntime) -> Result<(), Fail> {
+    for fails in 0..13 {
+        let (link, end) = serve(rt.alloc(), FIRST_PATH, fails)?;
+        assert_eq!(rt; end, End::LinkFault);
+        assert!(rt; FIRST_OUTPUT.starts_with(link.output()));
+        assert!(rt; link.output().starts_with(link.sent()));
+    }
+    Ok(())
+}
+
+/// Requests without the end of their heads, and the status lines, fields and bodies of their responses.
+const REQUESTS: [(&str, &str); 19] = [
+    (
+        "PATCH /hosts/pc1",
+        "405 Method Not Allowed\r\nContent-Type: application/json\r\nContent-Length: 22\r\nAllow: PUT\r\n\r\n{\"refused\":\"NoMethod\"}",
+    ),
+    (
+        "HEAD /hosts/pc1",
+        "405 Method Not Allowed\r\nContent-Type: application/json\r\nContent-Length: 22\r\nAllow: PUT\r\n\r\n",
+    ),
+    (
+        "GET /stats",
+        "404 Not Found\r\nContent-Type: application/json\r\nContent-Length: 21\r\n\r\n{\"refused\":\"NoRoute\"}",
+    ),
+    (
+        "PUT /hosts/a%2Db",
+        "400 Bad Request\r\nContent-Type: application/json\r\nContent-Length: 21\r\n\r\n{\"refused\":\"BadName\"}",
+    ),
+    (
+        "GET /hosts/A/backups/01/file?x=1",
+        "400 Bad Request\r\nContent-Type: application/json\r\nContent-Length: 21\r\n\r\n{\"refused\":\"BadName\"}",
+    ),
+    (
+        "GET /hosts/a/backups/01/file?x=1",
+        "400 Bad Request\r\nContent-Type: application/json\r\nContent-Length: 23\r\n\r\n{\"refused\":\"BadNumber\"}",
+    ),
+    (
+        "GET /hosts/a/backups/4294967296/file",
+        "400 Bad Request\r\nContent-Type: application/json\r\nContent-Length: 23\r\n\r\n{\"refused\":\"BadNumber\"}",
+    ),
+    (
+        "PUT /hosts/a?x=%FF",
+        "400 Bad Request\r\nContent-Type: application/json\r\nContent-Length: 27\r\n\r\n{\"refused\":\"BadQuery.Utf8\"}",
+    ),
+    (
+        "PUT /hosts/a?x=1&x=1",
+        "400 Bad Request\r\nContent-Type: application/json\r\nContent-Length: 30\r\n\r\n{\"refused\":\"BadQuery.Unknown\"}",
+    ),
+    (
+        "POST /hosts/a/dumps?kind=incr&kind=incr",
+        "400 Bad Request\r\nContent-Type: application/json\r\nContent-Length: 31\r\n\r\n{\"refused\":\"BadQuery.Repeated\"}",
+    ),
+    (
+        "POST /hosts/a/dumps",
+        "400 Bad Request\r\nContent-Type: application/json\r\nContent-Length: 30\r\n\r\n{\"refused\":\"BadQuery.Missing\"}",
+    ),
+    (
+        "POST /hosts/a/dumps?kind=none",
+        "400 Bad Request\r\nContent-Type: application/json\r\nContent-Length: 28\r\n\r\n{\"refused\":\"BadQuery.Value\"}",
+    ),
+    (
+        "PUT /dumps/x/entry?path=a//b&kind=file",
+        "400 Bad Request\r\nContent-Type: application/json\r\nContent-Length: 36\r\n\r\n{\"refused\":\"BadPath.EmptyComponent\"}",
+    ),
+    (
+        "PUT /dumps/x/entry?kind=file&path=%2e%2e",
+        "400 Bad Request\r\nContent-Type: application/json\r\nContent-Length: 25\r\n\r\n{\"refused\":\"BadPath.Dot\"}",
+    ),
+    (
+        "PUT /dumps/x/entry?kind=file&path=a%00",
+        "400 Bad Request\r\nContent-Type: application/json\r\nContent-Length: 25\r\n\r\n{\"refused\":\"BadPath.Nul\"}",
+    ),
+    (
+        "PUT /dumps/x/entry?kind=file&path=a",
+        "411 Length Required\r\nContent-Type: application/json\r\nContent-Length: 22\r\n\r\n{\"refused\":\"NoLength\"}",
+    ),
+    (
+        "POST /dumps/00-1/commit",
+        "404 Not Found\r\nContent-Type: application/json\r\nContent-Length: 23\r\n\r\n{\"refused\":\"NoSession\"}",
+    ),
+    (
+        "POST /hosts/a/dumps?kind=full",
+        "404 Not Found\r\nContent-Type: application/json\r\nContent-Length: 20\r\n\r\n{\"refused\":\"NoHost\"}",
+    ),
+    (
+        "PUT /hosts/a",
+        "201 Created\r\nContent-Type: application/json\r\nContent-Length: 12\r\n\r\n{\"host\":\"a\"}",
+    ),
+];
+
+/// Serves two requests, of which the first is answered so; the second shows that the connection goes on.
+fn expect_response(alloc: Global, request: &str, response: &str) -> Result<(), Fail> {
+    let input = format!(in alloc; "{request} HTTP/1.1\r\nHost: b\r\n\r\nGET / HTTP/1.0\r\n\r\n")?;
+    let output = format!(in alloc;
+        "HTTP/1.1 {response}HTTP/1.1 404 Not Found\r\nContent-Type: application/json\r\nContent-Length: 21\r\nConnection: close\r\n\r\n{{\"refused\":\"NoRoute\"}}"
+    )?;
+    expect(alloc, input.as_bytes(), output.as_bytes(), End::Ended)
+}
+
+#[test]
+fn each_request_has_its_response(rt: HostRuntime) -> Result<(), Fail> {
+    for (request, response) in REQUESTS {
+        expect_response(rt.alloc(), request, response)?;
+    }
+    Ok(())
+}
+
+/// Whole inputs, what is sent for them, and the end.
+const INPUTS: [(&[u8], &[u8], End); 5] = [
+    (b"", b"", End::Ended),
+    (b"\r\n\r\n", b"", End::Ended),
+    (b"GET / HTTP/1.1\r\nHost", b"", End::Truncated),
+    (
+        b"PUT /dumps/1-0/entry?path=a&kind=file HTTP/1.1\r\nHost: b\r\nExpect: 100-continue\r\nContent-Length: 2\r\n\r\nx",
+        b"HTTP/1.1 100 Continue\r\n\r\n",
+        End::Truncated,
+    ),
+    (
+        b"PUT /hosts/a HTTP/1.1\r\n\r\nPUT /hosts/a HTTP/1.1\r\nHost: b\r\n\r\n",
+        b"HTTP/1.1 400 Bad Request\r\nContent-Type: application/json\r\nContent-Length: 21\r\nConnection: close\r\n\r\n{\"refused\":\"BadHead\"}",
+        End::BadRequest,
+    ),
+];
+
+#[test]
+fn each_input_has_its_end(rt: HostRuntime) -> Result<(), Fail> {
+    for (input, output, end) in INPUTS {
+        expect(rt.alloc(), input, output, end)?;
+    }
+    Ok(())
+}
+
+/// A gate that notes the requests that it holds.
+#[derive(Drop)]
+struct NotedGate {
+    held: u64,
+    last: u64,
+}
+
+impl Gate for NotedGate {
+    fn hold(&mut self, index: u64) {
+        self.held = self.held.wrapping_add(1);
+        self.last = index;
+    }
+}
+
+#[test]
+fn the_gate_holds_each_request_once(rt: HostRuntime) -> Result<(), Fail> {
+    let input = FIRST_PATH.to_vec(rt.alloc())?;
+    let link = MemoryLink::new(rt.alloc(), input, 8_192, Vec::new(rt.alloc()))?;
+    let mut clock = FixedClock::new(Moment::first());
+    let mut gate = NotedGate { held: 0, last: 0 };
+    let mut port = PlainOffice::new(rt.alloc());
+    let served = serve_connection(rt.alloc(), &mut port, link, &mut clock, &mut gate);
+    assert_eq!(rt; (served.end, gate.held, gate.last), (End::Ended, 5, 4));
+    Ok(())
+}

@@ -1,0 +1,4 @@
+pub mod FormLemmas
+pub mod PathLemmas
+pub mod SoundLemmas
+pub mod TableLemmas

@@ -1,0 +1,7 @@
+pub mod Events
+pub mod Keys
+pub mod Names
+pub mod Plans
+pub mod Said
+pub mod Targets
+pub mod Values
