@@ -1,23 +1,15 @@
-//! One connection over any port, and the command `pipe`.
+//! The command line and its commands over a disk, a clock and a link: `run`, whose clauses are the headline. It knows
+//! words, notes with their statuses, and the layers below by their public clauses alone; no bytes of a store's file.
+//!
+//! ```text
+//! let Done { note, disk } = run(alloc, &words, disk, &mut clock, &mut link);
+//! ```
 #![tactic(auto)]
 
-mod connection;
-mod grammar;
-mod head;
 mod note;
 mod pipe;
-mod request;
-mod response;
-mod scan;
-mod text;
-mod texts;
 mod words;
 
-pub use connection::{End, serve_connection};
-pub use grammar::parse_head;
-pub use head::{HeadRead, read_head};
 pub use note::Note;
 pub use pipe::{Done, run};
-pub use request::{Ask, Head, SessionText};
-pub use response::{send_no_memory, send_not_built, send_response};
 pub use words::{CommandLine, LineFault, USAGE, Work, has_parse, parse};

@@ -2,17 +2,46 @@ use crate::words::USAGE;
 use disk_trait::FileId;
 use std::fmt;
 
-/// What the program says on standard error as it ends.
+/// What the program says on standard error as it ends; each has its exit status.
 #[derive(Clone, Copy, Debug, PartialEq, Eq)]
 pub enum Note {
+    /// The connection ended between two requests.
     Nothing,
+    /// The input ended inside a request.
     InputEnded,
+    /// The head of a request was refused.
     NotUnderstood,
+    /// The words are no command line.
     Usage,
+    /// The link failed; its count of faults rose.
     LinkFailed,
+    /// The disk failed; its count of faults rose.
     DiskFailed,
+    /// This file isn't one of the store's.
     Foreign(FileId),
+    /// There was no memory.
     NoMemory,
+}
+
+impl Note {
+    ghost use Rattle.std.specs.Prelude.{◌≡◌};
+    ghost use Rattle.admin_cli.specs.Run.{status_of};
+
+    /// The program's exit status.
+    pub fn status(self) -> u8
+        ensures { result ≡ status_of self }
+    {
+        match self {
+            Note::Nothing => 0,
+            Note::InputEnded => 1,
+            Note::NotUnderstood => 1,
+            Note::Usage => 2,
+            Note::LinkFailed => 3,
+            Note::DiskFailed => 4,
+            Note::Foreign(_) => 5,
+            Note::NoMemory => 6,
+        }
+    }
 }
 
 impl fmt::Display for Note {

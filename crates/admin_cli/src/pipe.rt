@@ -1,47 +1,32 @@
 ghost use Rattle.std.specs.Prelude.{◌≡◌, ◌⊎◌, map};
 ghost use Rattle.std.specs.String.{string_bytes};
+ghost use Rattle.stream_traits.specs.Seen.{seen_of};
 ghost use Rattle.admin_cli.specs.Command.{store_named};
-ghost use Rattle.admin_cli.specs.Run.{status_of, note_of, Serves, Refuses, EndsUnopened, IsComplete};
+ghost use Rattle.admin_cli.specs.Run.{note_of, Serves, Refuses, EndsUnopened, IsComplete};
 
-use crate::connection::{End, serve_connection};
 use crate::note::Note;
 use crate::words::has_parse;
+use browse_http::{End, Served, serve_connection};
 use disk_trait::Disk;
 use office_store::{DirectPort, OpenFault, OpenRefused, Store};
 use std::alloc::Global;
-use stream_traits::{Clock, Faults, Link, Sink, Source};
+use stream_traits::{Clock, Faults, Link, OpenGate};
 
-/// How a run ended: its status, what the program says of it, and the disk, handed back.
+/// How a run ended: what the program says of it, which has the status, and the disk and the link, handed back.
 #[derive(Drop)]
-pub struct Done<D: Disk> {
-    pub status: u8,
+pub struct Done<D: Disk, L> {
     pub note: Note,
     pub disk: D,
-}
-
-/// The status of a run that served its connection.
-fn status_of(end: End, link_failed: bool, halted: bool) -> u8
-    ensures { result ≡ status_of end link_failed halted }
-{
-    match end {
-        End::Memory => 6,
-        End::LinkFault => 3,
-        _ if link_failed => 3,
-        _ if halted => 4,
-        End::Ended => 0,
-        End::Truncated => 1,
-        End::BadRequest => 1,
-    }
+    pub link: L,
 }
 
 /// What is said of a run that served its connection.
-fn note_of(end: End, link_failed: bool, halted: bool) -> Note
-    ensures { result ≡ note_of end link_failed halted }
+fn note_of(end: End, halted: bool) -> Note
+    ensures { result ≡ note_of end halted }
 {
     match end {
         End::Memory => Note::NoMemory,
         End::LinkFault => Note::LinkFailed,
-        _ if link_failed => Note::LinkFailed,
         _ if halted => Note::DiskFailed,
         End::Ended => Note::Nothing,
         End::Truncated => Note::InputEnded,
@@ -56,15 +41,14 @@ pub fn run<D: Disk, C: Clock, L: Link>(
     words: &[String],
     disk: D,
     clock: &mut C,
-    link: &mut L,
-) -> Done<D>
-    ensures headline { Serves D.files D.fault_count disk result.disk (L.left link.old) (L.written link.old) (L.written link.new)
-        (C.moments clock.old) (C.moments clock.new) (L.faults link.old) (L.faults link.new) result.status result.note
+    link: L,
+) -> Done<D, L>
+    ensures headline { Serves D.files D.fault_count disk result.disk (store_named (map string_bytes words.now))
+        (seen_of ⟦<L as Faults>⟧ link) (seen_of ⟦<L as Faults>⟧ result.link) (C.moments clock.old) (C.moments clock.new) result.note
         ⊎ Refuses D.files D.fault_count disk result.disk (store_named (map string_bytes words.now))
-        (L.left link.old) (L.left link.new) (L.written link.old) (L.written link.new) (C.moments clock.old) (C.moments clock.new)
-        result.status result.note }
+        (seen_of ⟦<L as Faults>⟧ link) (seen_of ⟦<L as Faults>⟧ result.link) (C.moments clock.old) (C.moments clock.new) result.note }
     ensures complete { IsComplete D.files D.fault_count disk result.disk (store_named (map string_bytes words.now))
-        (L.faults link.old) (L.faults link.new) result.status }
+        (L.faults link) (L.faults result.link) result.note }
 {
     serve_pipe(alloc, words, disk, clock, link)
 }
@@ -75,58 +59,56 @@ fn serve_pipe<D: Disk, C: Clock, L: Link>(
     words: &[String],
     disk: D,
     clock: &mut C,
-    link: &mut L,
-) -> Done<D>
-    ensures { Serves D.files D.fault_count disk result.disk (L.left link.old) (L.written link.old) (L.written link.new)
-        (C.moments clock.old) (C.moments clock.new) (L.faults link.old) (L.faults link.new) result.status result.note
+    link: L,
+) -> Done<D, L>
+    ensures { Serves D.files D.fault_count disk result.disk (store_named (map string_bytes words.now))
+        (seen_of ⟦<L as Faults>⟧ link) (seen_of ⟦<L as Faults>⟧ result.link) (C.moments clock.old) (C.moments clock.new) result.note
         ⊎ Refuses D.files D.fault_count disk result.disk (store_named (map string_bytes words.now))
-        (L.left link.old) (L.left link.new) (L.written link.old) (L.written link.new) (C.moments clock.old) (C.moments clock.new)
-        result.status result.note }
+        (seen_of ⟦<L as Faults>⟧ link) (seen_of ⟦<L as Faults>⟧ result.link) (C.moments clock.old) (C.moments clock.new) result.note }
 {
     if !has_parse(words) {
         return Done {
-            status: 2,
             note: Note::Usage,
             disk,
+            link,
         };
     }
     let store = match Store::open(alloc, disk) {
         Ok(store) => store,
-        Err(refused) => return not_opened(refused),
+        Err(refused) => return not_opened(refused, link),
     };
-    let faults = link.faults();
     let mut port = DirectPort::new(store);
-    let end = serve_connection(alloc, &mut port, link, clock);
+    let Served { end, link } = serve_connection(alloc, &mut port, link, clock, &mut OpenGate);
     let store = port.into_store();
     let halted = store.halted();
-    let link_failed = link.faults() > faults;
     Done {
-        status: status_of(end, link_failed, halted),
-        note: note_of(end, link_failed, halted),
+        note: note_of(end, halted),
         disk: store.close(),
+        link,
     }
 }
 
 /// The end of a run whose store wasn't opened.
-fn not_opened<D: Disk>(refused: OpenRefused<D>) -> Done<D>
-    ensures { EndsUnopened refused.disk refused.fault result.disk result.status result.note }
+fn not_opened<D: Disk, L: Link>(refused: OpenRefused<D>, link: L) -> Done<D, L>
+    ensures ends { EndsUnopened refused.disk refused.fault result.disk result.note }
+    ensures link { result.link ≡ link }
 {
     let OpenRefused { disk, fault } = refused;
     match fault {
         OpenFault::Foreign { file, found: _ } => Done {
-            status: 5,
             note: Note::Foreign(file),
             disk,
+            link,
         },
         OpenFault::Disk => Done {
-            status: 4,
             note: Note::DiskFailed,
             disk,
+            link,
         },
         OpenFault::Memory => Done {
-            status: 6,
             note: Note::NoMemory,
             disk,
+            link,
         },
     }
 }

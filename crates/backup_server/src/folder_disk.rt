@@ -1,29 +1,38 @@
-ghost use Rattle.std.specs.Prelude.{None};
+//! The disk over a folder of the system.
 
+ghost use Rattle.std.specs.Prelude.{◌≡◌, None};
+ghost use Rattle.backup_server.specs.Untold.{untold};
+
+use crate::disk_fault::DiskFault;
 use crate::fault_count::FaultCount;
-use disk_trait::{Bytes, Disk, DiskError, Failed, FileId};
+use crate::pending::Pending;
+use crate::store_folder::{Access, make_folder, open_file};
+use disk_trait::{Bytes, Disk, DiskError, Failed, FileId, FileList};
+use file_names::file_named;
 use std::alloc::{AllocError, Global};
 use std::fs::{Files, OpenFile};
-use std::io::{ErrorKind, Read, Write};
-use std::path::Path;
+use std::io::{ErrorKind, Read, Seek, SeekFrom, Write};
 use std::{fs, io};
 
-/// The disk that keeps its files in a folder of the system, each under its real name. It tells
-/// nothing of them.
+/// The disk that keeps its files in a folder of the system, each under its real name; other names in the folder are
+/// passed over. It tells nothing of its files.
 ///
-/// A write makes its bytes durable, and a sync makes durable which files the folder has: so a crash
-/// of the machine after a sync keeps each file that was written before it.
+/// A file that was written keeps the handle that wrote it until a sync makes it durable by that handle; where there
+/// are many, the oldest are made durable early. A sync then makes durable which files the folder has: so a crash of
+/// the machine after a sync keeps each file as it was. After a sync that failed each later one fails, since the
+/// system may then take for durable what it has lost.
 #[derive(Drop)]
 pub struct FolderDisk<R: Files> {
     rt: R,
     path: String,
     folder: R::File,
-    /// Whether a sync failed: the system may then take for durable what it has lost.
+    pending: Pending<R>,
     is_doubtful: bool,
+    fault: Option<DiskFault>,
     faults: FaultCount,
 }
 
-impl<R: Files + AllocGlobal + Drop> FolderDisk<R> {
+impl<R: Files + AllocGlobal + Clone + Drop> FolderDisk<R> {
     /// The disk over the folder at this path, which is made where it isn't there.
     pub fn open(rt: R, path: &str) -> io::Result<FolderDisk<R>> {
         let alloc = rt.alloc();
@@ -33,9 +42,16 @@ impl<R: Files + AllocGlobal + Drop> FolderDisk<R> {
             rt,
             path: String::from_str(alloc, path)?,
             folder,
+            pending: Pending::new(alloc),
             is_doubtful: false,
+            fault: None,
             faults: FaultCount::new(),
         })
+    }
+
+    /// What failed first, if a call failed.
+    pub fn fault(&self) -> Option<&DiskFault> {
+        self.fault.as_ref()
     }
 
     /// The path of a file.
@@ -44,37 +60,205 @@ impl<R: Files + AllocGlobal + Drop> FolderDisk<R> {
         format!(in self.rt.alloc(); "{folder}/{file}")
     }
 
+    /// A handle to a file.
+    fn open_file(&self, file: FileId, access: Access) -> io::Result<R::File> {
+        let path = self.path_of(file)?;
+        open_file(&self.rt, path.as_str(), access)
+    }
+
     /// The bytes of a file.
     fn bytes_of(&self, alloc: Global, file: FileId) -> io::Result<Vec<u8>> {
-        let path = self.path_of(file)?;
-        let mut handle = fs::open(&self.rt, path)?;
+        let mut handle = self.open_file(file, Access::Read)?;
         let mut bytes = Vec::new(alloc);
         handle.read_to_end(&mut bytes)?;
         Ok(bytes)
     }
 
-    /// Makes these bytes the file, and durable.
-    fn put(&self, file: FileId, bytes: &[u8]) -> io::Result<()> {
+    /// `room` bytes of a file from an offset on, or all that are left.
+    fn piece_of(&self, alloc: Global, file: FileId, from: u64, room: usize) -> io::Result<Vec<u8>> {
+        let mut handle = self.open_file(file, Access::Read)?;
+        let mut bytes = Vec::new(alloc);
+        if handle.metadata()?.len() <= from {
+            return Ok(bytes);
+        }
+        handle.seek(SeekFrom::Start(from))?;
+        handle.take(room as u64).read_to_end(&mut bytes)?;
+        Ok(bytes)
+    }
+
+    /// The files of the folder.
+    fn names(&self, alloc: Global) -> io::Result<FileList> {
+        let mut list = FileList::new(alloc);
+        for entry in fs::read_dir(&self.rt, self.path.as_str())? {
+            match entry {
+                Ok(entry) => {
+                    if let Some(file) = file_named(entry.file_name().as_bytes()) {
+                        list.push(file)?;
+                    }
+                }
+                Err(error) => {
+                    if error.kind() != ErrorKind::InvalidFilename {
+                        return Err(error);
+                    }
+                }
+            }
+        }
+        Ok(list)
+    }
+
+    /// Makes these bytes the file. The handle is kept after a failure too, since the next sync speaks of what it left.
+    fn put(&mut self, file: FileId, bytes: &[u8]) -> io::Result<()>
+        ensures { self.new.faults ≡ self.old.faults }
+    {
+        let mut handle = self.open_file(file, Access::Replace)?;
+        let written = handle.write_all(bytes);
+        self.keep(file, handle);
+        written
+    }
+
+    /// Puts bytes at the end of a file.
+    fn extend(&mut self, file: FileId, bytes: &[u8]) -> io::Result<()>
+        ensures { self.new.faults ≡ self.old.faults }
+    {
+        let mut handle = match self.pending.take(file) {
+            Some(handle) => handle,
+            None => self.open_file(file, Access::Append)?,
+        };
+        let written = handle.write_all(bytes);
+        self.keep(file, handle);
+        written
+    }
+
+    /// Keeps the handle that wrote a file. What was to be made durable early and isn't fails the next sync.
+    fn keep(&mut self, file: FileId, handle: R::File)
+        ensures { self.new.faults ≡ self.old.faults }
+    {
+        match self.pending.keep(file, handle) {
+            Ok(()) => {}
+            Err(fault) => {
+                self.is_doubtful = true;
+                self.note(fault);
+            }
+        }
+    }
+
+    /// Takes a file away, if it is there.
+    fn take_away(&mut self, file: FileId) -> io::Result<()>
+        ensures { self.new.faults ≡ self.old.faults }
+    {
         let path = self.path_of(file)?;
-        let mut handle = fs::create(&self.rt, path)?;
-        handle.write_all(bytes)?;
-        handle.sync_all()
+        match fs::remove_file(&self.rt, path) {
+            Ok(()) => {
+                let _ = self.pending.take(file);
+                Ok(())
+            }
+            Err(error) => match error.kind() {
+                ErrorKind::NotFound => Ok(()),
+                _ => Err(error),
+            },
+        }
+    }
+
+    /// Makes all durable.
+    fn settle(&mut self) -> Result<(), DiskFault>
+        ensures { self.new.faults ≡ self.old.faults }
+    {
+        self.pending.settle()?;
+        match self.folder.sync_all() {
+            Ok(()) => Ok(()),
+            Err(error) => Err(DiskFault::of_folder(error)),
+        }
+    }
+
+    /// Keeps what failed, if it is the first.
+    fn note(&mut self, fault: DiskFault)
+        ensures { self.new.faults ≡ self.old.faults }
+    {
+        if self.fault.is_none() {
+            self.fault = Some(fault);
+        }
     }
 }
 
-impl<R: Files + AllocGlobal + Drop> Disk for FolderDisk<R> {
+/// The answer to a read.
+enum Found<T> {
+    Some(T),
+    Absent,
+    Memory,
+    Failed(io::Error),
+}
+
+/// A read's answer by its cause.
+fn answer_of<T>(answer: io::Result<T>) -> Found<T> {
+    match answer {
+        Ok(found) => Found::Some(found),
+        Err(error) => match error.kind() {
+            ErrorKind::NotFound => Found::Absent,
+            ErrorKind::OutOfMemory => Found::Memory,
+            _ => Found::Failed(error),
+        },
+    }
+}
+
+impl<R: Files + AllocGlobal + Clone + Drop> Disk for FolderDisk<R> {
+    ghost use Rattle.disk_trait.specs.Images.{nothing};
+
     ghost files = { λ _. None };
+
+    ghost uncertain = { λ _. nothing };
+
+    ghost moment = { λ _. 0 };
+
+    ghost left_since = { λ _ _ _. ⊥ };
 
     ghost fault_count = { λ disk. disk.faults };
 
+    ghost counts_now = { λ disk t image le may. untold may.is };
+
+    ghost only_now = { λ disk image left. absurd left };
+
+    ghost tells = { λ disk other told. told };
+
     fn read(&mut self, alloc: Global, file: FileId) -> Result<Option<Bytes>, DiskError> {
-        match self.bytes_of(alloc, file) {
-            Ok(bytes) => Ok(Some(Bytes::from_vec(bytes))),
+        match answer_of(self.bytes_of(alloc, file)) {
+            Found::Some(bytes) => Ok(Some(Bytes::from_vec(bytes))),
+            Found::Absent => Ok(None),
+            Found::Memory => Err(DiskError::Memory),
+            Found::Failed(error) => {
+                self.faults.raise();
+                self.note(DiskFault::of_file(file, error));
+                Err(DiskError::Failed)
+            }
+        }
+    }
+
+    fn read_at(
+        &mut self,
+        alloc: Global,
+        file: FileId,
+        from: u64,
+        room: usize,
+    ) -> Result<Option<Bytes>, DiskError> {
+        match answer_of(self.piece_of(alloc, file, from, room)) {
+            Found::Some(bytes) => Ok(Some(Bytes::from_vec(bytes))),
+            Found::Absent => Ok(None),
+            Found::Memory => Err(DiskError::Memory),
+            Found::Failed(error) => {
+                self.faults.raise();
+                self.note(DiskFault::of_file(file, error));
+                Err(DiskError::Failed)
+            }
+        }
+    }
+
+    fn list(&mut self, alloc: Global) -> Result<FileList, DiskError> {
+        match self.names(alloc) {
+            Ok(list) => Ok(list),
             Err(error) => match error.kind() {
-                ErrorKind::NotFound => Ok(None),
                 ErrorKind::OutOfMemory => Err(DiskError::Memory),
                 _ => {
                     self.faults.raise();
+                    self.note(DiskFault::of_folder(error));
                     Err(DiskError::Failed)
                 }
             },
@@ -84,8 +268,31 @@ impl<R: Files + AllocGlobal + Drop> Disk for FolderDisk<R> {
     fn write(&mut self, file: FileId, bytes: &[u8]) -> Result<(), Failed> {
         match self.put(file, bytes) {
             Ok(()) => Ok(()),
-            Err(_) => {
+            Err(error) => {
                 self.faults.raise();
+                self.note(DiskFault::of_file(file, error));
+                Err(Failed)
+            }
+        }
+    }
+
+    fn append(&mut self, file: FileId, bytes: &[u8]) -> Result<(), Failed> {
+        match self.extend(file, bytes) {
+            Ok(()) => Ok(()),
+            Err(error) => {
+                self.faults.raise();
+                self.note(DiskFault::of_file(file, error));
+                Err(Failed)
+            }
+        }
+    }
+
+    fn remove(&mut self, file: FileId) -> Result<(), Failed> {
+        match self.take_away(file) {
+            Ok(()) => Ok(()),
+            Err(error) => {
+                self.faults.raise();
+                self.note(DiskFault::of_file(file, error));
                 Err(Failed)
             }
         }
@@ -93,37 +300,22 @@ impl<R: Files + AllocGlobal + Drop> Disk for FolderDisk<R> {
 
     /// After a failure each later sync fails too.
     fn sync(&mut self) -> Result<(), Failed> {
-        if self.is_doubtful || self.folder.sync_all().is_err() {
-            self.is_doubtful = true;
+        if self.is_doubtful {
             self.faults.raise();
             return Err(Failed);
         }
-        Ok(())
+        match self.settle() {
+            Ok(()) => Ok(()),
+            Err(fault) => {
+                self.is_doubtful = true;
+                self.faults.raise();
+                self.note(fault);
+                Err(Failed)
+            }
+        }
     }
 
     fn faults(&self) -> u64 {
         self.faults.value()
     }
-}
-
-/// Makes the folder, and those above it, where they aren't there, so that a crash keeps them.
-fn make_folder<R: Files>(rt: &R, alloc: Global, path: &str) -> io::Result<()> {
-    let mut above = Vec::new(alloc);
-    for folder in Path::new(path).ancestors() {
-        if folder.is_dir(rt) {
-            break;
-        }
-        if let Some(parent) = folder.parent() {
-            above.push(parent)?;
-        }
-    }
-    fs::create_dir_all(rt, path)?;
-    for parent in above {
-        let name = match parent.as_str() {
-            "" => ".",
-            name => name,
-        };
-        fs::open(rt, name)?.sync_all()?;
-    }
-    Ok(())
 }

@@ -1,24 +1,22 @@
 //! The program: real files, streams and clock behind the traits that the layers below know.
 #![tactic(auto)]
 
+mod disk_fault;
 mod fault_count;
 mod folder_disk;
+mod pending;
 mod standard_streams;
+mod store_folder;
 mod system_clock;
 
 use crate::folder_disk::FolderDisk;
 use crate::standard_streams::StandardStreams;
+use crate::store_folder::lock_folder;
 use crate::system_clock::SystemClock;
 use admin_cli::{Done, LineFault, Note, parse, run};
 use std::io::{ErrorKind, Stdin, Stdout};
 use std::process::ExitCode;
 use std::{env, fmt, io};
-
-/// The status where the words are no command line.
-const NO_PARSE: u8 = 2;
-
-/// The status where there was no memory.
-const NO_MEMORY: u8 = 6;
 
 /// The status where the store's folder or the standard streams can't be had.
 const NOT_MADE: u8 = 8;
@@ -48,23 +46,46 @@ fn obey(rt: &HostRuntime, words: &[String]) -> u8 {
         Ok(line) => line,
         Err(fault) => return refuse(rt, fault),
     };
-    match FolderDisk::open(*rt, line.store.as_str()) {
-        Ok(disk) => serve(rt, words, disk),
-        Err(error) => {
-            let folder = line.store.as_str();
-            not_made(
-                rt,
-                error,
-                format_args!("the folder {folder} can't be made or opened"),
-            )
+    let folder = line.store.as_str();
+    match FolderDisk::open(*rt, folder) {
+        Ok(disk) => serve_alone(rt, words, folder, disk),
+        Err(error) => not_made(
+            rt,
+            error,
+            format_args!("the folder {folder} can't be made or opened"),
+        ),
+    }
+}
+
+/// Does what the words ask while no other process works on the folder, and gives the status.
+fn serve_alone(
+    rt: &HostRuntime,
+    words: &[String],
+    folder: &str,
+    disk: FolderDisk<HostRuntime>,
+) -> u8 {
+    match lock_folder(rt, folder) {
+        Ok(Some(lock)) => {
+            let status = serve(rt, words, folder, disk);
+            drop(lock);
+            status
         }
+        Ok(None) => {
+            let _ = eprintln!(rt; "the folder {folder} is in use");
+            NOT_MADE
+        }
+        Err(error) => not_made(
+            rt,
+            error,
+            format_args!("the folder {folder} can't be locked"),
+        ),
     }
 }
 
 /// Does what the words ask, over the standard streams and the system's clock, and gives the status.
 /// What was given to the link goes out before it returns.
-fn serve(rt: &HostRuntime, words: &[String], disk: FolderDisk<HostRuntime>) -> u8 {
-    let mut link = match link_of(rt) {
+fn serve(rt: &HostRuntime, words: &[String], folder: &str, disk: FolderDisk<HostRuntime>) -> u8 {
+    let link = match link_of(rt) {
         Ok(link) => link,
         Err(error) => return not_made(
             rt,
@@ -74,11 +95,28 @@ fn serve(rt: &HostRuntime, words: &[String], disk: FolderDisk<HostRuntime>) -> u
     };
     let mut clock = SystemClock::new(*rt);
     let Done {
-        status,
         note,
-        disk: _,
-    } = run(rt.alloc(), words, disk, &mut clock, &mut link);
-    end(rt, status, note)
+        disk,
+        link: _,
+    } = run(rt.alloc(), words, disk, &mut clock, link);
+    let status = end(rt, note);
+    explain(rt, folder, note, &disk);
+    status
+}
+
+/// Says on standard error, in a second line, where and why the disk failed, or which folder has a foreign file.
+fn explain(rt: &HostRuntime, folder: &str, note: Note, disk: &FolderDisk<HostRuntime>) {
+    match note {
+        Note::DiskFailed => {
+            if let Some(fault) = disk.fault() {
+                let _ = eprintln!(rt; "{folder}{fault}");
+            }
+        }
+        Note::Foreign(_) => {
+            let _ = eprintln!(rt; "in the folder {folder}");
+        }
+        _ => {}
+    }
 }
 
 /// Standard input and output.
@@ -89,7 +127,7 @@ fn link_of(rt: &HostRuntime) -> io::Result<StandardStreams<Stdin, Stdout>> {
 /// Says why what the program works with can't be had, and gives the status.
 fn not_made(rt: &HostRuntime, error: io::Error, what: impl fmt::Display + Drop) -> u8 {
     if error.kind() == ErrorKind::OutOfMemory {
-        return end(rt, NO_MEMORY, Note::NoMemory);
+        return end(rt, Note::NoMemory);
     }
     let _ = eprintln!(rt; "{what}: {error}");
     NOT_MADE
@@ -98,15 +136,15 @@ fn not_made(rt: &HostRuntime, error: io::Error, what: impl fmt::Display + Drop) 
 /// Says why nothing was done, and gives the status.
 fn refuse(rt: &HostRuntime, fault: LineFault) -> u8 {
     match fault {
-        LineFault::NoParse => end(rt, NO_PARSE, Note::Usage),
-        LineFault::Memory => end(rt, NO_MEMORY, Note::NoMemory),
+        LineFault::NoParse => end(rt, Note::Usage),
+        LineFault::Memory => end(rt, Note::NoMemory),
     }
 }
 
-/// Says the note on standard error, where there is one, and gives the status back.
-fn end(rt: &HostRuntime, status: u8, note: Note) -> u8 {
+/// Says the note on standard error, where there is one, and gives its status.
+fn end(rt: &HostRuntime, note: Note) -> u8 {
     if note != Note::Nothing {
         let _ = eprintln!(rt; "{note}");
     }
-    status
+    note.status()
 }

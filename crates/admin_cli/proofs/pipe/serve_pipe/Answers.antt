@@ -1,9 +1,8 @@
-use Rattle.std.proofs.Common.{inl}
-use Rattle.admin_cli.proofs.RunLaws.{serves_told}
+use Rattle.std.proofs.Common.{inl, sym, ◌∙◌}
+use Rattle.admin_cli.proofs.RunLaws.{serves}
 use Rattle.admin_cli.proofs.pipe.serve_pipe.Goals as goal
 
 pub returns : goal.returns
 returns g c =
-    inl (serves_told c.args.disk c.in-Ok.store c.into_store-store.result c.in-Ok.ensures.opened _ _ _ _ _ _ _ _ _ _ _ _ _ _ _ _
-    c.new-port.ensures c.serve_connection-end.ensures.talk c.serve_connection-end.ensures.counted c.into_store-store.ensures
-    c.close.ensures c.faults-faults.ensures c.faults.ensures c.halted-halted.ensures c.status_of.ensures c.note_of.ensures)
+    inl (serves c.args.disk c.in-Ok.store c.into_store-store.result c.in-Ok.ensures.opened _ _ _ _ _ _ _ _ _ _ _
+    (sym c.has_parse.ensures ∙ c.if-not-has_parse.false) c.new-port.ensures c.serve_connection-end.ensures c.into_store-store.ensures c.close.ensures c.halted-halted.ensures c.note_of.ensures)
