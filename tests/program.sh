@@ -54,13 +54,16 @@ expect 'words that are no command line make nothing'
 
 attempt pipe --store empty/a/b
 judge 'no input' 0 ''
-[ "$(ls empty/a/b)" = head ]
-expect 'a store without hosts has its head alone'
+[ "$(ls empty/a/b | tr '\n' ' ')" = 'head lock ' ]
+expect 'a store without hosts has its head and the lock alone'
+[ "$(stat -c %a empty/a/b empty/a/b/head empty/a/b/lock | tr '\n' ' ')" = '700 600 600 ' ]
+expect 'the folder and its files are their owner'"'"'s alone'
 
 find empty -type f -exec cksum {} + >before
 printf 'PUT /hosts/pc1 HTTP/1.1\r\nHost: b\r\n\r\n' >in
 attempt pipe --store empty/a/b
-judge 'a folder that has a head' 5 'foreign head'
+judge 'a folder that has a head' 5 'foreign head
+in the folder empty/a/b'
 find empty -type f -exec cksum {} + >after
 cmp -s before after
 expect 'a folder that has a head stays as it was'
@@ -86,9 +89,14 @@ attempt pipe --store cut
 judge 'a body cut after 7 of 10 bytes' 1 'input ended inside a request'
 
 printf 'GET /stats HTTP/1.1\r\nHost: b\r\n\r\n' >in
-printf 'HTTP/1.1 400 Bad Request\r\nContent-Type: application/json\r\nContent-Length: 22\r\nConnection: close\r\n\r\n{"refused":"NotBuilt"}' >want
-attempt pipe --store stats
-judge 'a request that is not built' 1 'request not understood'
+printf 'HTTP/1.1 404 Not Found\r\nContent-Type: application/json\r\nContent-Length: 21\r\n\r\n{"refused":"NoRoute"}' >want
+attempt pipe --store routes
+judge 'a target that has no route' 0 ''
+
+printf 'GET /stats HTTP/1.1\r\n\r\n' >in
+printf 'HTTP/1.1 400 Bad Request\r\nContent-Type: application/json\r\nContent-Length: 21\r\nConnection: close\r\n\r\n{"refused":"BadHead"}' >want
+attempt pipe --store heads
+judge 'a head without its Host' 1 'request not understood'
 
 printf 'PUT /hosts/pc1 HTTP/1.1\r\nHost: b\r\n\r\n' >in
 : >want
@@ -99,7 +107,66 @@ judge 'standard output that takes nothing' 3 'link failed'
 
 mkdir -p away/head
 attempt pipe --store away
-judge 'a head that cannot be read' 4 'disk failed'
+judge 'a head that cannot be read' 4 'disk failed
+away/head: Is a directory (os error 21)'
+
+mkdir -p linked
+echo kept >target
+ln -s ../target linked/head
+attempt pipe --store linked
+[ "$(cat target)" = kept ] && [ -L linked/head ]
+expect 'a symbolic link in the place of a head is not written through'
+mkdir -p dangling
+ln -s ../nowhere dangling/head
+attempt pipe --store dangling
+judge 'a dangling symbolic link in the place of a head' 4 'disk failed
+dangling/head: Too many levels of symbolic links (os error 40)'
+[ ! -e nowhere ]
+expect 'a dangling symbolic link is not written through'
+mkdir -p lock_linked
+ln -s ../nowhere lock_linked/lock
+attempt pipe --store lock_linked
+judge 'a symbolic link in the place of the lock' 8 "the folder lock_linked can't be locked: Too many levels of symbolic links (os error 40)"
+
+# A user who isn't root meets files without permission; root does not.
+if [ "$(id -u)" != 0 ]; then
+    mkdir -p closed
+    : >closed/head
+    chmod 000 closed/head
+    attempt pipe --store closed
+    judge 'a head without permission' 4 'disk failed
+closed/head: Permission denied (os error 13)'
+fi
+
+mkdir -p strange
+: >strange/host-00
+: >strange/table-1
+attempt pipe --store strange
+printf 'HTTP/1.1 201 Created\r\nContent-Type: application/json\r\nContent-Length: 14\r\n\r\n{"host":"pc1"}' >want
+judge 'a folder with other files' 0 ''
+[ "$(ls strange | tr '\n' ' ')" = 'head host-00 lock table-1 ' ]
+expect 'other files stay'
+
+# Two processes on one folder: the first has the lock until its input ends.
+mkfifo door
+"$program" pipe --store taken <door >first 2>first_err &
+first=$!
+exec 3>door
+tries=0
+until [ -e taken/head ] || [ "$tries" = 100 ]; do
+    tries=$((tries + 1))
+    sleep 0.1
+done
+: >want
+attempt pipe --store taken
+judge 'a second process on one folder' 8 'the folder taken is in use'
+exec 3>&-
+wait "$first"
+[ $? = 0 ] && [ ! -s first ] && [ ! -s first_err ]
+expect 'the first process goes on and ends'
+attempt pipe --store taken
+[ "$status" = 5 ]
+expect 'after it the folder is free'
 
 echo "$passed passed, $failed failed"
 [ "$failed" = 0 ]

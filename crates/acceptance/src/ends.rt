@@ -27,8 +27,8 @@ pub const QUIET: Case<'static> = Case {
     input: &[],
     disk_fails: u64::MAX,
     disk_room: DiskRoom {
-        changes: 1_000_000,
-        bytes: 1_000_000_000,
+        changes: 1_000,
+        bytes: 1_000_000,
     },
     link_fails: u64::MAX,
     link_room: 65_536,
@@ -63,7 +63,7 @@ fn joined(alloc: Global, pieces: &[&str]) -> Result<Vec<u8>, AllocError> {
 /// The disk of a case, which has no files.
 pub fn disk_of(alloc: Global, case: &Case<'_>) -> Result<MemoryDisk, AllocError> {
     let fails = Vec::from_array(alloc, [case.disk_fails])?;
-    Ok(MemoryDisk::new(alloc, fails, case.disk_room))
+    MemoryDisk::new(alloc, fails, case.disk_room)
 }
 
 /// The link of a case.
@@ -83,41 +83,38 @@ pub fn run_over(
     alloc: Global,
     case: &Case<'_>,
     disk: MemoryDisk,
-) -> Result<(Done<MemoryDisk>, MemoryLink), AllocError> {
+) -> Result<Done<MemoryDisk, MemoryLink>, AllocError> {
     let words = words_of(alloc, case.line)?;
-    let mut link = link_of(alloc, case)?;
+    let link = link_of(alloc, case)?;
     let mut clock = new_clock();
-    let done = run(alloc, words.as_slice(), disk, &mut clock, &mut link);
-    Ok((done, link))
+    Ok(run(alloc, words.as_slice(), disk, &mut clock, link))
 }
 
 /// Whether a run ended as it was to.
 fn is_wanted<D: Disk>(
     alloc: Global,
-    done: &Done<D>,
-    output: &[u8],
+    done: &Done<D, MemoryLink>,
     want: &Want<'_>,
 ) -> Result<bool, AllocError> {
     let note = done.note;
     let said = format!(in alloc; "{note}")?;
     let wanted = joined(alloc, want.output)?;
-    Ok(done.status == want.status && said.as_str() == want.said && output == wanted.as_slice())
+    let output = done.link.output();
+    Ok(note.status() == want.status && said.as_str() == want.said && output == wanted.as_slice())
 }
 
 /// Fails where a run didn't end as it was to.
 pub fn expect_end<D: Disk>(
     alloc: Global,
-    done: &Done<D>,
-    link: &MemoryLink,
+    done: &Done<D, MemoryLink>,
     want: &Want<'_>,
 ) -> Result<(), Fail> {
-    let output = link.output();
-    if is_wanted(alloc, done, output, want) == Ok(true) {
+    if is_wanted(alloc, done, want) == Ok(true) {
         return Ok(());
     }
-    let status = done.status;
     let note = done.note;
-    let output = String::from_utf8_lossy(alloc, output)?;
+    let status = note.status();
+    let output = String::from_utf8_lossy(alloc, done.link.output())?;
     Err(Fail::new(format_args!("status {status}, {note:?}, {output:?}")))
 }
 
@@ -128,8 +125,8 @@ pub fn expect_run_over(
     disk: MemoryDisk,
     want: &Want<'_>,
 ) -> Result<MemoryDisk, Fail> {
-    let (done, link) = run_over(alloc, case, disk)?;
-    expect_end(alloc, &done, &link, want)?;
+    let done = run_over(alloc, case, disk)?;
+    expect_end(alloc, &done, want)?;
     Ok(done.disk)
 }
 

@@ -86,7 +86,7 @@ fn expect_link_fault(
     alloc: Global,
     link_fails: u64,
     link_room: usize,
-    output: &str,
+    output: &[&str],
     head: &[u8],
 ) -> Result<(), Fail> {
     let case = Case {
@@ -98,22 +98,32 @@ fn expect_link_fault(
     let want = Want {
         status: 3,
         said: "link failed",
-        output: &[output],
+        output,
     };
     let mut disk = expect_run(alloc, &case, &want)?;
     expect_file(alloc, &mut disk, FileId::Head, Some(head))
 }
 
-/// The first request has 34 bytes, each read by a call; then its response is written and sent on.
+/// The response to the second, which adds it again.
+const ADDED_AGAIN: &str =
+    "HTTP/1.1 409 Conflict\r\nContent-Type: application/json\r\nContent-Length: 24\r\n\r\n{\"refused\":\"HostExists\"}";
+
+/// The number of the link's call that fails, the room for its output, the output and Head.
+const LINK_FAULTS: [(u64, usize, &[&str], &[u8]); 7] = [
+    (0, 999, &[], FIRST_HEAD),
+    (1, 999, &[], FIRST_HEAD),
+    (2, 999, &[], SECOND_HEAD),
+    (4, 999, &[ADDED], SECOND_HEAD),
+    (6, 999, &[ADDED, ADDED_AGAIN], SECOND_HEAD),
+    (7, 999, &[ADDED, ADDED_AGAIN], SECOND_HEAD),
+    (99, 10, &["HTTP/1.1 2"], SECOND_HEAD),
+];
+
+/// What was written before is sent (call 0), both requests are read (1), the head and the body of each response are written (2
+/// to 5) and sent (6), and the end is read (7).
 #[test]
 fn a_fault_of_the_link_has_its_status(rt: HostRuntime) -> Result<(), Fail> {
-    for (link_fails, link_room, output, head) in [
-        (0, 999, "", FIRST_HEAD),
-        (33, 999, "", FIRST_HEAD),
-        (34, 999, "", SECOND_HEAD),
-        (35, 999, ADDED, SECOND_HEAD),
-        (99, 10, "HTTP/1.1 2", SECOND_HEAD),
-    ] {
+    for (link_fails, link_room, output, head) in LINK_FAULTS {
         expect_link_fault(rt.alloc(), link_fails, link_room, output, head)?;
     }
     Ok(())

@@ -1,9 +1,9 @@
 //! The store against the plain office, which has no store.
 
-use crate::ends::{QUIET, disk_of};
-use attr_records::{HostName, PathName};
-use disk_trait::{Bytes, MemoryDisk};
-use office_model::{Answer, Event, Kind, PlainOffice, Refusal, Rule, SessionName};
+use crate::ends::{Case, QUIET, disk_of};
+use attr_records::{HostName, PathName, PutRule};
+use disk_trait::{Bytes, DiskRoom, MemoryDisk};
+use office_model::{Answer, BrokenRule, Event, Kind, PlainOffice, Refusal, SessionName};
 use office_store::Store;
 use std::alloc::Global;
 use std::test::Fail;
@@ -29,7 +29,7 @@ enum Want {
     Dump(u64),
     Backup(u32),
     Content(&'static str),
-    Broken(Rule),
+    Broken(BrokenRule),
 }
 
 fn dump_named(sequence: u64) -> SessionName {
@@ -118,7 +118,14 @@ fn expect_both(
 
 /// A store without hosts, in its first epoch.
 fn new_store(alloc: Global) -> Result<Store<MemoryDisk>, Fail> {
-    let disk = disk_of(alloc, &QUIET)?;
+    let case = Case {
+        disk_room: DiskRoom {
+            changes: 2_100,
+            bytes: 10_000_000,
+        },
+        ..QUIET
+    };
+    let disk = disk_of(alloc, &case)?;
     match Store::open(alloc, disk) {
         Ok(store) => Ok(store),
         Err(_) => Err(Fail::new("no store")),
@@ -127,33 +134,45 @@ fn new_store(alloc: Global) -> Result<Store<MemoryDisk>, Fail> {
 
 const SCRIPT: [(Ask<'static>, Want); 31] = [
     (Ask::Add("pc1"), Want::Done),
-    (Ask::Add("pc1"), Want::Broken(Rule::HostExists)),
-    (Ask::Open("none"), Want::Broken(Rule::NoHost)),
-    (Ask::Read("none", 0, "a"), Want::Broken(Rule::NoHost)),
-    (Ask::Read("pc1", 0, "a"), Want::Broken(Rule::NoBackup)),
-    (Ask::Put(0, "a", "early"), Want::Broken(Rule::NoSession)),
-    (Ask::Commit(0), Want::Broken(Rule::NoSession)),
+    (Ask::Add("pc1"), Want::Broken(BrokenRule::HostExists)),
+    (Ask::Open("none"), Want::Broken(BrokenRule::NoHost)),
+    (Ask::Read("none", 0, "a"), Want::Broken(BrokenRule::NoHost)),
+    (Ask::Read("pc1", 0, "a"), Want::Broken(BrokenRule::NoBackup)),
+    (
+        Ask::Put(0, "a", "early"),
+        Want::Broken(BrokenRule::NoSession),
+    ),
+    (Ask::Commit(0), Want::Broken(BrokenRule::NoSession)),
     (Ask::Open("pc1"), Want::Dump(0)),
-    (Ask::Open("pc1"), Want::Broken(Rule::SessionOpen)),
-    (Ask::Put(0, "a/b", "x"), Want::Broken(Rule::NoParent)),
+    (Ask::Open("pc1"), Want::Broken(BrokenRule::SessionOpen)),
+    (
+        Ask::Put(0, "a/b", "x"),
+        Want::Broken(BrokenRule::Put(PutRule::NoParent)),
+    ),
     (Ask::Put(0, "a", "hello"), Want::Done),
-    (Ask::Put(0, "a/b", "x"), Want::Broken(Rule::NoParent)),
+    (
+        Ask::Put(0, "a/b", "x"),
+        Want::Broken(BrokenRule::Put(PutRule::NoParent)),
+    ),
     (Ask::Put(0, "a", "bye"), Want::Done),
     (Ask::Put(0, "b", ""), Want::Done),
     (Ask::Add("pc2"), Want::Done),
     (Ask::Open("pc2"), Want::Dump(1)),
     (Ask::Put(1, "x", "two"), Want::Done),
-    (Ask::Read("pc1", 0, "a"), Want::Broken(Rule::NoBackup)),
+    (Ask::Read("pc1", 0, "a"), Want::Broken(BrokenRule::NoBackup)),
     (Ask::Commit(0), Want::Backup(0)),
-    (Ask::Commit(0), Want::Broken(Rule::NoSession)),
-    (Ask::Put(0, "a", "late"), Want::Broken(Rule::NoSession)),
+    (Ask::Commit(0), Want::Broken(BrokenRule::NoSession)),
+    (
+        Ask::Put(0, "a", "late"),
+        Want::Broken(BrokenRule::NoSession),
+    ),
     (Ask::Read("pc1", 0, "a"), Want::Content("bye")),
     (Ask::Read("pc1", 0, "b"), Want::Content("")),
-    (Ask::Read("pc1", 0, "x"), Want::Broken(Rule::NoPath)),
-    (Ask::Read("pc1", 1, "a"), Want::Broken(Rule::NoBackup)),
+    (Ask::Read("pc1", 0, "x"), Want::Broken(BrokenRule::NoPath)),
+    (Ask::Read("pc1", 1, "a"), Want::Broken(BrokenRule::NoBackup)),
     (Ask::Open("pc1"), Want::Dump(2)),
     (Ask::Commit(2), Want::Backup(1)),
-    (Ask::Read("pc1", 1, "a"), Want::Broken(Rule::NoPath)),
+    (Ask::Read("pc1", 1, "a"), Want::Broken(BrokenRule::NoPath)),
     (Ask::Commit(1), Want::Backup(0)),
     (Ask::Read("pc2", 0, "x"), Want::Content("two")),
     (Ask::Read("pc1", 0, "a"), Want::Content("bye")),
@@ -183,12 +202,12 @@ fn expect_added(
 
 /// What breaks a limit in an office of 1,024 hosts.
 const LIMITS: [(Ask<'static>, Want); 4] = [
-    (Ask::Add("pc0"), Want::Broken(Rule::HostExists)),
-    (Ask::Add("pc1024"), Want::Broken(Rule::HostsFull)),
+    (Ask::Add("pc0"), Want::Broken(BrokenRule::HostExists)),
+    (Ask::Add("pc1024"), Want::Broken(BrokenRule::HostsFull)),
     (Ask::Open("pc1023"), Want::Dump(0)),
     (
         Ask::PutZeros(0, "a", 67_108_865),
-        Want::Broken(Rule::FileTooLarge),
+        Want::Broken(BrokenRule::Put(PutRule::FileTooLarge)),
     ),
 ];
 

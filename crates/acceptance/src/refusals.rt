@@ -2,7 +2,7 @@
 
 use crate::ends::{Case, QUIET, Want, disk_of, expect_file, expect_run, expect_run_over, words_of};
 use admin_cli::{LineFault, parse};
-use disk_trait::{Bytes, FileId};
+use disk_trait::{Disk, FileId};
 use std::alloc::Global;
 use std::test::Fail;
 
@@ -11,21 +11,19 @@ const ADD: &str = "PUT /hosts/pc1 HTTP/1.1\r\nHost: b\r\n\r\n";
 const ADDED: &str =
     "HTTP/1.1 201 Created\r\nContent-Type: application/json\r\nContent-Length: 14\r\n\r\n{\"host\":\"pc1\"}";
 
-/// The response to what is not built, after which the connection closes.
-const NOT_BUILT: &str =
-    "HTTP/1.1 400 Bad Request\r\nContent-Type: application/json\r\nContent-Length: 22\r\nConnection: close\r\n\r\n{\"refused\":\"NotBuilt\"}";
+/// The response to a second host of that name.
+const EXISTS: &str =
+    "HTTP/1.1 409 Conflict\r\nContent-Type: application/json\r\nContent-Length: 24\r\n\r\n{\"refused\":\"HostExists\"}";
 
-/// Heads of another form. The last one's name has 65 characters.
-const OTHER_HEADS: [&str; 8] = [
-    "GET /stats HTTP/1.1\r\nHost: b\r\n\r\n",
-    "PUT /hosts/pc1 HTTP/1.0\r\nHost: b\r\n\r\n",
-    "PUT /hosts/pc1 HTTP/1.1\r\nHost: b\r\nAccept: */*\r\n\r\n",
-    "PUT /hosts/pc1 HTTP/1.1\nHost: b\n\r\n\r\n",
-    "PUT /hosts/pc1 HTTP/1.1\r\nHost: b\r\nContent-Length: 05\r\n\r\n12345",
-    "PUT /dumps/1-0/entry?path=a.txt&kind=file HTTP/1.1\r\nHost: b\r\n\r\n",
-    "PUT /hosts/PC1 HTTP/1.1\r\nHost: b\r\n\r\n",
-    "PUT /hosts/0123456789012345678901234567890123456789012345678901234567890123x HTTP/1.1\r\nHost: b\r\n\r\n",
-];
+/// A request without its field `Host`, and the response to it, after which the connection closes.
+const BAD: &str = "PUT /hosts/pc1 HTTP/1.1\r\n\r\n";
+
+const BAD_HEAD: &str =
+    "HTTP/1.1 400 Bad Request\r\nContent-Type: application/json\r\nContent-Length: 21\r\nConnection: close\r\n\r\n{\"refused\":\"BadHead\"}";
+
+/// The response to a head that is too large.
+const TOO_LARGE: &str =
+    "HTTP/1.1 431 Request Header Fields Too Large\r\nContent-Type: application/json\r\nContent-Length: 26\r\nConnection: close\r\n\r\n{\"refused\":\"HeadTooLarge\"}";
 
 /// Fails where a run on this input doesn't end so.
 fn expect_on(
@@ -45,21 +43,18 @@ fn expect_on(
 }
 
 #[test]
-fn what_is_not_built_is_said_so(rt: HostRuntime) -> Result<(), Fail> {
-    for head in OTHER_HEADS {
-        expect_on(
-            rt.alloc(),
-            &[head],
-            1,
-            "request not understood",
-            &[NOT_BUILT],
-        )?;
-    }
-    Ok(())
+fn a_bad_head_ends_the_run(rt: HostRuntime) -> Result<(), Fail> {
+    expect_on(
+        rt.alloc(),
+        &[ADD, BAD, ADD],
+        1,
+        "request not understood",
+        &[ADDED, BAD_HEAD],
+    )
 }
 
 #[test]
-fn too_long_a_head_is_not_built(rt: HostRuntime) -> Result<(), Fail> {
+fn too_large_a_head_ends_the_run(rt: HostRuntime) -> Result<(), Fail> {
     let text = String::from_utf8(vec![in rt.alloc(); b'x'; 16_383]?)?;
     let short = text.as_str();
     expect_on(rt.alloc(), &[short], 1, "input ended inside a request", &[])?;
@@ -68,19 +63,13 @@ fn too_long_a_head_is_not_built(rt: HostRuntime) -> Result<(), Fail> {
         &[short, "x"],
         1,
         "request not understood",
-        &[NOT_BUILT],
+        &[TOO_LARGE],
     )
 }
 
 #[test]
-fn a_host_added_twice_closes_the_connection(rt: HostRuntime) -> Result<(), Fail> {
-    expect_on(
-        rt.alloc(),
-        &[ADD, ADD, ADD],
-        1,
-        "request not understood",
-        &[ADDED, NOT_BUILT],
-    )
+fn a_host_added_twice_is_refused(rt: HostRuntime) -> Result<(), Fail> {
+    expect_on(rt.alloc(), &[ADD, ADD], 0, "", &[ADDED, EXISTS])
 }
 
 /// Requests for what isn't there. The first one's name has 64 characters.
@@ -144,8 +133,8 @@ fn words_name_the_folder(rt: HostRuntime) -> Result<(), Fail> {
 #[test]
 fn a_head_on_the_disk_is_foreign(rt: HostRuntime) -> Result<(), Fail> {
     let alloc = rt.alloc();
-    let found = Bytes::from_slice(alloc, b"abc")?;
-    let disk = disk_of(alloc, &QUIET)?.with_file(FileId::Head, found)?;
+    let mut disk = disk_of(alloc, &QUIET)?;
+    disk.write(FileId::Head, b"abc")?;
     let case = Case {
         input: &[ADD],
         ..QUIET

@@ -13,19 +13,16 @@ use std::thread::{Threads, join};
 use stream_traits::{Clock, Link};
 
 /// Takes a disk, a clock and a link into a thread, where the program runs over them, and gives back
-/// how it ended, and the link.
+/// how it ended.
 fn run_apart<D: Disk + Send + Drop, C: Clock + Drop, L: Link + Drop>(
     rt: &impl Threads,
     alloc: Global,
     words: Vec<String>,
     disk: D,
     mut clock: C,
-    mut link: L,
-) -> (Done<D>, L) {
-    let work = move || {
-        let done = run(alloc, words.as_slice(), disk, &mut clock, &mut link);
-        (done, link)
-    };
+    link: L,
+) -> Done<D, L> {
+    let work = move || run(alloc, words.as_slice(), disk, &mut clock, link);
     let (seen, ()) = join(rt, work, || ());
     seen
 }
@@ -55,8 +52,8 @@ fn expect_apart(
     let words = words_of(alloc, case.line)?;
     let disk = disk_of(alloc, case)?;
     let link = link_of(alloc, case)?;
-    let (done, link) = run_apart(rt, alloc, words, disk, new_clock(), link);
-    expect_end(alloc, &done, &link, want)
+    let done = run_apart(rt, alloc, words, disk, new_clock(), link);
+    expect_end(alloc, &done, want)
 }
 
 #[test]

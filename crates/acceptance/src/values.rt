@@ -1,6 +1,5 @@
 //! Values that are made where there is memory, and that the other tests have no need of.
 
-use admin_cli::SessionText;
 use attr_records::{HostName, LinkTarget, PathName};
 use disk_trait::Bytes;
 use std::alloc::Global;
@@ -21,18 +20,11 @@ fn has_parent(alloc: Global, path: &[u8], parent: &[u8]) -> Option<bool> {
     Some(bytes.as_slice() == path_copy.as_slice() && path_parent.as_slice() == parent)
 }
 
-/// Whether a text names a session of this epoch.
-fn is_of_epoch(alloc: Global, text: &[u8], epoch: u64) -> Option<bool> {
-    let text = SessionText::read(alloc, text).ok()??;
-    Some(text.session().epoch == epoch)
-}
-
 #[test]
 fn names_are_made_where_there_is_memory(rt: HostRuntime) -> Result<(), Fail> {
     let alloc = rt.alloc();
     if are_copied(alloc, b"pc1", b"../motd") == Some(true)
         && has_parent(alloc, b"etc/motd", b"etc") == Some(true)
-        && is_of_epoch(alloc, b"12-34", 12) == Some(true)
     {
         return Ok(());
     }
