@@ -1,6 +1,8 @@
-use http_wire::{HeadRefusal, WireFault};
+use browse_http::End;
+use http_wire::HeadRefusal;
 use std::alloc::AllocError;
 use std::io;
+use stream_traits::Failed;
 
 /// Why nothing more is measured.
 #[derive(Debug, Drop)]
@@ -15,6 +17,8 @@ pub enum Fault {
     Truncated,
     /// The link failed.
     Link,
+    /// A connection ended otherwise than at the end of its input.
+    Connection(End),
     /// The clock or standard output failed.
     Io(io::Error),
 }
@@ -25,12 +29,9 @@ impl From<AllocError> for Fault {
     }
 }
 
-impl From<WireFault> for Fault {
-    fn from(fault: WireFault) -> Fault {
-        match fault {
-            WireFault::LinkFault => Fault::Link,
-            WireFault::Memory => Fault::Memory,
-        }
+impl From<Failed> for Fault {
+    fn from(_fault: Failed) -> Fault {
+        Fault::Link
     }
 }
 

@@ -4,7 +4,6 @@ use crate::fault::Fault;
 use crate::report::Report;
 use http::StatusCode;
 use http_wire::{Response, Wire, write_response};
-use std::alloc::Global;
 use stream_traits::MemoryLink;
 
 /// The most bytes that a response here has.
@@ -19,22 +18,26 @@ const DONE: Response<'static> = Response {
     is_head: false,
 };
 
-/// Writes so many responses.
-fn write_all(alloc: Global, wire: &mut Wire<MemoryLink>, count: u32) -> Result<(), Fault> {
-    for _ in 0..count {
-        write_response(alloc, wire, &DONE)?;
+/// Writes `count` responses, and sends them.
+fn write_all(wire: &mut Wire<MemoryLink>, count: u32) -> Result<(), Fault> {
+    if !DONE.has_short_head() {
+        return Err(Fault::Link);
     }
+    for _ in 0..count {
+        write_response(wire, &DONE)?;
+    }
+    wire.send()?;
     Ok(())
 }
 
-/// Measures how long it takes to write so many responses.
+/// Measures how long it takes to write `count` responses.
 pub fn measure(report: &Report, count: u32) -> Result<(), Fault> {
     let alloc = report.alloc();
     let room = MOST * count as usize;
     let link = MemoryLink::new(alloc, Vec::new(alloc), room, Vec::new(alloc))?;
     let mut wire = Wire::new(alloc, link);
     let begin = report.begin()?;
-    write_all(alloc, &mut wire, count)?;
+    write_all(&mut wire, count)?;
     let micros = report.micros_since(begin)?;
     let bytes = wire.into_link().output().len();
     report.say(

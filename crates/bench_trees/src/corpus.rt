@@ -5,8 +5,8 @@ ghost use Rattle.attr_tables.specs.Records.{IsSound};
 ghost use Rattle.merge_view.specs.Views.{is_mark};
 
 use crate::fault::Fault;
-use attr_records::{Attr, PathName};
-use attr_tables::Record;
+use attr_records::{Attr, Dir, PathName};
+use attr_tables::{Record, StoredFile};
 use disk_trait::PoolId;
 use std::alloc::Global;
 
@@ -43,14 +43,15 @@ pub fn file_record(number: u32) -> Record
     ensures no_mark { is_mark result ≡ false }
 {
     let [a, b, c, d] = number.to_be_bytes();
-    Record::File {
+    Record::File(StoredFile {
         attr: Attr::file_default(),
+        group: 0,
         size: u64::from(number) + 1,
         content: Some(PoolId {
             digest: [a, b, c, d, d, c, b, a, a, b, c, d, d, c, b, a],
             extension: 0,
         }),
-    }
+    })
 }
 
 /// A folder.
@@ -59,7 +60,7 @@ pub fn dir_record() -> Record
     ensures no_mark { is_mark result ≡ false }
 {
     let attr = Attr::dir_default();
-    Record::Dir { attr }
+    Record::Dir(Dir { attr })
 }
 
 /// Numbers that look random, the same in each run.
@@ -73,7 +74,7 @@ impl Numbers {
         Numbers { state: 1 }
     }
 
-    /// The next number below a bound, or 0 where the bound is 0.
+    /// The next number below a bound, or 0 if the bound is 0.
     pub fn below(&mut self, bound: u32) -> u32 {
         self.state = self
             .state

@@ -1,11 +1,5 @@
 //! Edits of an open dump.
 
-ghost use Rattle.std.specs.Prelude.{IfOk};
-ghost use Rattle.std.specs.Arc.{arc_value};
-ghost use Rattle.attr_records.specs.Trees.{IsTree};
-ghost use Rattle.attr_tables.specs.Records.{is_dir};
-ghost use Rattle.merge_view.specs.Views.{IsWhole};
-
 use crate::corpus::{FILES, Numbers, dir_record, file_path, file_record, folder_path};
 use crate::fault::Fault;
 use crate::report::Report;
@@ -37,10 +31,7 @@ fn put_folders(alloc: Global, dump: &mut Session, folders: u32) -> Result<(), Fa
 }
 
 /// The tree of a dump, measured.
-fn tree_of(report: &Report, dump: &Session) -> Result<Table, Fault>
-    ensures is_whole { IfOk result IsWhole }
-    ensures is_tree { IfOk result (IsTree is_dir) }
-{
+fn tree_of(report: &Report, dump: &Session) -> Result<Table, Fault> {
     let begin = report.begin()?;
     let tree = dump.tree(report.alloc())?;
     let micros = report.micros_since(begin)?;
@@ -48,11 +39,8 @@ fn tree_of(report: &Report, dump: &Session) -> Result<Table, Fault>
     Ok(tree)
 }
 
-/// The tree of so many folders, put in order into an empty dump.
-pub fn fill(report: &Report, folders: u32) -> Result<Table, Fault>
-    ensures is_whole { IfOk result IsWhole }
-    ensures is_tree { IfOk result (IsTree is_dir) }
-{
+/// The tree of this many folders, put in order into an empty dump.
+pub fn fill(report: &Report, folders: u32) -> Result<Table, Fault> {
     let mut dump = Session::begin_full(report.alloc())?;
     let begin = report.begin()?;
     put_folders(report.alloc(), &mut dump, folders)?;
@@ -64,7 +52,7 @@ pub fn fill(report: &Report, folders: u32) -> Result<Table, Fault>
     tree_of(report, &dump)
 }
 
-/// Puts a file at a place that a number gives: two of three are files of the base, and others may be new.
+/// Puts a file at a path that a number gives: two of three are files of the base, and others may be new.
 /// Gives whether it was put.
 fn put_somewhere(
     alloc: Global,
@@ -123,7 +111,7 @@ fn remove(alloc: Global, dump: &mut Session, path: &PathName) -> Result<bool, Fa
     }
 }
 
-/// Removes so many files at places that look random, and gives at how many something was.
+/// Removes this many files at places that look random, and gives at how many something was.
 fn remove_files(
     alloc: Global,
     dump: &mut Session,
@@ -181,10 +169,7 @@ fn measure_removes(
 }
 
 /// The tree of a dump that began with the base, after puts and removals.
-pub fn edit(report: &Report, base: &Arc<Table>, sizes: Sizes) -> Result<Table, Fault>
-    requires is_whole { IsWhole (arc_value base.now) }
-    requires is_tree { IsTree is_dir (arc_value base.now) }
-{
+pub fn edit(report: &Report, base: &Arc<Table>, sizes: Sizes) -> Result<Table, Fault> {
     let begin = report.begin()?;
     let mut dump = Session::begin_incr(report.alloc(), Arc::try_clone(base)?);
     let micros = report.micros_since(begin)?;

@@ -8,7 +8,7 @@ use disk_trait::Bytes;
 use md5::{Digest, Md5};
 use std::alloc::Global;
 
-/// Puts the rows of a folder behind the others.
+/// Appends the rows of a folder.
 fn push_folder(alloc: Global, table: &mut Table, folder: u32) -> Result<(), Fault> {
     table.push(Row::new(folder_path(alloc, folder)?, dir_record()))?;
     for file in 0..FILES {
@@ -21,7 +21,7 @@ fn push_folder(alloc: Global, table: &mut Table, folder: u32) -> Result<(), Faul
     Ok(())
 }
 
-/// The table of so many folders.
+/// The table of this many folders.
 pub fn build(alloc: Global, folders: u32) -> Result<Table, Fault> {
     let mut table = Table::new(alloc);
     for folder in 0..folders {
@@ -46,11 +46,11 @@ fn hash_micros(report: &Report, bytes: &[u8]) -> Result<u64, Fault> {
 /// Reads the file of a table, and writes it again.
 fn measure_read(report: &Report, file: &Bytes, hash_micros: u64) -> Result<(), Fault> {
     let begin = report.begin()?;
-    let table = read_table(report.alloc(), file.as_slice())?;
+    let read = read_table(report.alloc(), file.as_slice())?;
     let micros = report.micros_since(begin)?;
-    let again = write_table(report.alloc(), &table)?;
+    let again = write_table(report.alloc(), &read.table)?;
     let is_same = again == *file;
-    let rows = table.len();
+    let rows = read.table.len();
     report.say_beside(
         micros,
         hash_micros,
