@@ -16,8 +16,8 @@ pub laid : (byte : ℕ) (items : List IndexItem) (first a b c d : List ℕ) → 
 unfolding field followed_by seen_as items_of index_grammar
 laid byte items first a b c d e0 e1 e2 e3 e4 =
     e4 ∙ ap (λ (l : List ℕ). l ++ items_bytes item_bytes items)
-      (e3 ∙ ap (λ (l : List ℕ). l ++ number_bytes w64 (length items))
-        (e2 ∙ ap (λ (l : List ℕ). l ++ byte ∷ []) (e1 ∙ ap (λ (l : List ℕ). l ++ index_magic (Some byte)) e0)))
+    (e3 ∙ ap (λ (l : List ℕ). l ++ number_bytes w64 (length items))
+    (e2 ∙ ap (λ (l : List ℕ). l ++ byte ∷ []) (e1 ∙ ap (λ (l : List ℕ). l ++ index_magic (Some byte)) e0)))
 
 items_of_contents : (items : List IndexItem) → AllByRecursion IsInRange items → AllByRecursion (λ item. 0 < item.size) items → AllByRecursion IsItem items
 items_of_contents [] range sized = tt

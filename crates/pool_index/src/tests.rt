@@ -7,7 +7,10 @@ use wire_bytes::seal;
 // The content `hello`: its digest is its MD5 (RFC 1321).
 const HELLO: IndexItem = IndexItem {
     id: PoolId {
-        digest: [0x5d, 0x41, 0x40, 0x2a, 0xbc, 0x4b, 0x2a, 0x76, 0xb9, 0x71, 0x9d, 0x91, 0x10, 0x17, 0xc5, 0x92],
+        digest: [
+            0x5d, 0x41, 0x40, 0x2a, 0xbc, 0x4b, 0x2a, 0x76, 0xb9, 0x71, 0x9d, 0x91, 0x10, 0x17,
+            0xc5, 0x92,
+        ],
         extension: 0,
     },
     size: 5,
@@ -17,8 +20,8 @@ const HELLO: IndexItem = IndexItem {
 // The body of the file of the byte 5d with this item alone, and the MD5 of the body, as Python's `hashlib` gives it.
 const BUCKET: &[u8; 40] =
     b"RPB1\x5d\x00\x00\x00\x00\x00\x00\x00\x01\x5dA\x40\x2a\xbcK\x2av\xb9q\x9d\x91\x10\x17\xc5\x92\x00\x00\x00\x00\x00\x00\x00\x00\x00\x05\x00";
-const BUCKET_SEAL: &[u8; 16] =
-    b"\x2d\x4d\xf6\xb9\xfa\xbe\x42\x75\x0d\x87\xb1\x2f\x2b\xc3\xa7\x25";
+
+const BUCKET_SEAL: &[u8; 16] = b"\x2d\x4d\xf6\xb9\xfa\xbe\x42\x75\x0d\x87\xb1\x2f\x2b\xc3\xa7\x25";
 
 // The body of the one file of an older store, with `hello`, which is marked, and another item of two bytes.
 const INDEX: &[u8; 66] =

@@ -19,11 +19,11 @@ unfolding index_grammar
 returns-in-Err-read_counted c =
     seen_refuses (index_sees c.args.byte)
     (then_refuses (λ _. followed_by (magic (byte_bytes c.args.byte)) (λ _. items_grammar c.args.byte)) c.in-Ok.ensures
-      (then_refuses (λ _. items_grammar c.args.byte) c.in-Ok-read_byte.ensures c.in-Err-read_counted.ensures))
+    (then_refuses (λ _. items_grammar c.args.byte) c.in-Ok-read_byte.ensures c.in-Err-read_counted.ensures))
 
 pub returns-in-Ok-read_counted : goal.returns-in-Ok-read_counted
 unfolding index_grammar
 returns-in-Ok-read_counted c =
     seen_finds (index_sees c.args.byte)
     (then_finds (λ _. followed_by (magic (byte_bytes c.args.byte)) (λ _. items_grammar c.args.byte)) c.in-Ok.ensures
-      (then_finds (λ _. items_grammar c.args.byte) c.in-Ok-read_byte.ensures c.in-Ok-read_counted.ensures))
+    (then_finds (λ _. items_grammar c.args.byte) c.in-Ok-read_byte.ensures c.in-Ok-read_counted.ensures))

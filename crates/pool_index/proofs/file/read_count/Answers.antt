@@ -16,8 +16,8 @@ returns-then-not-is_enough c =
     let wrong : false ≡ is_enough c.args.byte c.in-Ok.count = c.if-not-is_enough.ensures in
     none_refuses (number_bytes w64)
     (λ value rest fits e.
-      let same : c.in-Ok.count ≡ value = (c.in-Ok.ensures.field.reads.back value rest fits.number e).0 in
-      false≢true (wrong ∙ ap (is_enough c.args.byte) same ∙ fits.enough))
+    let same : c.in-Ok.count ≡ value = (c.in-Ok.ensures.field.reads.back value rest fits.number e).0 in
+    false≢true (wrong ∙ ap (is_enough c.args.byte) same ∙ fits.enough))
     (ap Some c.offset-start.ensures.value)
 
 pub returns : goal.returns

@@ -16,8 +16,8 @@ returns-then-not-is_next c =
     let wrong : false ≡ is_next c.args.byte c.args.before.now c.in-Ok.item.id = c.if-not-is_next.ensures in
     none_refuses item_bytes
     (λ value rest fits e.
-      let same : c.in-Ok.item ≡ value = (c.in-Ok.ensures.back value rest fits.is e).0 in
-      false≢true (wrong ∙ ap (λ (item : IndexItem). is_next c.args.byte c.args.before.now item.id) same ∙ fits.next))
+    let same : c.in-Ok.item ≡ value = (c.in-Ok.ensures.back value rest fits.is e).0 in
+    false≢true (wrong ∙ ap (λ (item : IndexItem). is_next c.args.byte c.args.before.now item.id) same ∙ fits.next))
     (ap Some c.offset-start.ensures.value)
 
 pub returns : goal.returns
