@@ -3,8 +3,8 @@
 use crate::ends::{Case, QUIET, disk_of};
 use attr_records::{HostName, PathName, PutRule};
 use disk_trait::{Bytes, DiskRoom, MemoryDisk};
-use office_model::{Answer, BrokenRule, Event, Kind, PlainOffice, Refusal, SessionName};
-use office_store::Store;
+use first_model::{Answer, BrokenRule, Event, Kind, PlainOffice, Refusal, SessionName};
+use first_store::Store;
 use std::alloc::Global;
 use std::test::Fail;
 use stream_traits::Moment;

@@ -5,11 +5,11 @@ use Rattle.std.proofs.Common.{◌≡◌, ℕ, ◌-◌, ◌^◌, ◌<◌, Bool, t
 use Rattle.fault_counts.specs.Counts.{Rose, Counted}
 use Rattle.disk_trait.specs.declared.disk.Disk.{Ghosts}
 use Rattle.disk_trait.specs.Files.{Files}
-use Rattle.office_model.specs.Office.{Office, reopened}
-use Rattle.office_model.specs.Step.{Call, State, Running, Halted}
-use Rattle.office_store.specs.declared.store.Store.{Store}
-use Rattle.office_store.specs.declared.port.DirectPort.{DirectPort}
-use Rattle.office_store.specs.Kept.{Tells, InState, Moves, Opens}
+use Rattle.first_model.specs.Office.{Office, reopened}
+use Rattle.first_model.specs.Step.{Call, State, Running, Halted}
+use Rattle.first_store.specs.declared.store.Store.{Store}
+use Rattle.first_store.specs.declared.port.DirectPort.{DirectPort}
+use Rattle.first_store.specs.Kept.{Tells, InState, Moves, Opens}
 use Rattle.stream_traits.specs.Seen.{LinkSeen}
 use Rattle.browse_http.specs.declared.end.End.{End}
 use Rattle.browse_http.specs.declared.end.End.TheVariants.{Ended, Truncated, BadRequest, LinkFault, Memory}

@@ -5,12 +5,12 @@ use Rattle.fault_counts.specs.Counts.{Rose, Counted}
 use Rattle.disk_trait.specs.declared.ids.FileId.TheVariants.{Head}
 use Rattle.disk_trait.specs.Files.{Files, SameButOne}
 use Rattle.stream_traits.specs.Seen.{LinkSeen}
-use Rattle.office_model.specs.Office.{Office, durable, reopened}
-use Rattle.office_model.specs.Step.{Call, State, Running, Halted}
-use Rattle.office_model.specs.History.{Leads}
-use Rattle.office_store.specs.Kept.{Tells}
-use Rattle.office_store.specs.declared.open.OpenFault.{OpenFault}
-use Rattle.office_store.specs.declared.open.OpenFault.TheVariants as O
+use Rattle.first_model.specs.Office.{Office, durable, reopened}
+use Rattle.first_model.specs.Step.{Call, State, Running, Halted}
+use Rattle.first_model.specs.History.{Leads}
+use Rattle.first_store.specs.Kept.{Tells}
+use Rattle.first_store.specs.declared.open.OpenFault.{OpenFault}
+use Rattle.first_store.specs.declared.open.OpenFault.TheVariants as O
 use Rattle.browse_http.specs.declared.end.End.{End}
 use Rattle.browse_http.specs.declared.end.End.TheVariants.{Ended, Truncated, BadRequest, LinkFault, Memory}
 use Rattle.browse_http.specs.Talk.{ServesLink}

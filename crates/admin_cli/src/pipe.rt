@@ -8,7 +8,7 @@ use crate::note::Note;
 use crate::words::has_parse;
 use browse_http::{End, Served, serve_connection};
 use disk_trait::Disk;
-use office_store::{DirectPort, OpenFault, OpenRefused, Store};
+use first_store::{DirectPort, OpenFault, OpenRefused, Store};
 use std::alloc::Global;
 use stream_traits::{Clock, Faults, Link, OpenGate};
 

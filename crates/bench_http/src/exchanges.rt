@@ -4,7 +4,7 @@ use crate::fault::Fault;
 use crate::input::{copies, put_of};
 use crate::report::Report;
 use browse_http::{End, Served, serve_connection};
-use office_model::PlainOffice;
+use first_model::PlainOffice;
 use std::alloc::{AllocError, Global};
 use stream_traits::{FixedClock, MemoryLink, Moment, OpenGate};
 

@@ -10,8 +10,8 @@ use Rattle.stream_traits.specs.Seen.{LinkSeen}
 use Rattle.stream_traits.specs.Told.{before, behind, IsShort, TookFront}
 use Rattle.stream_traits.specs.ToldLaws.{behind_nil, behind_append, before_nil, before_append}
 use Rattle.stream_traits.specs.Moments.{first_moment, after_reading}
-use Rattle.office_model.specs.declared.event.Event.{Event}
-use Rattle.office_model.specs.Step.{Reply, Call}
+use Rattle.first_model.specs.declared.event.Event.{Event}
+use Rattle.first_model.specs.Step.{Reply, Call}
 use Rattle.http_heads.specs.declared.refusal.HeadRefusal.{HeadRefusal}
 use Rattle.http_heads.specs.Heads.{HeadParts}
 use Rattle.http_heads.specs.Fronts.{Bad as IsBad, Ended as IsEnded, Truncated as IsTruncated}
@@ -24,7 +24,7 @@ use Rattle.request_events.specs.Said.{Says}
 use Rattle.request_events.specs.Events.{event_asked}
 use Rattle.browse_http.specs.declared.end.End.{End}
 use Rattle.browse_http.specs.declared.end.End.TheVariants.{Ended, Truncated, BadRequest, LinkFault, Memory}
-use Rattle.office_model.specs.declared.event.Refusal.TheVariants as R
+use Rattle.first_model.specs.declared.event.Refusal.TheVariants as R
 use Rattle.browse_http.specs.Messages.{bad_response, reply_response}
 use Rattle.browse_http.specs.Scripts.{is_memory, lacks_memory, calls_response}
 use Rattle.browse_http.specs.Talk.{Outcome, Refused, Called, Lost, Exchange, IsOutcome, EndsInBody, AreExchanges, Gave, GoOn, AsksFor, MayAsk, requests, said, said_at, response_of, calls_in, calls_of, moments_of, goes_on, is_last, asks_head, has_no_memory, request_limit, final_list, Stops, StopsUncalled, StopsCalled, Converses, ServesLink}

@@ -13,15 +13,15 @@ use Rattle.http_query.specs.declared.keys.QueryRule.TheVariants as Q
 use Rattle.http_routes.specs.Actions.{allow_of}
 use Rattle.request_events.specs.declared.refusal.RequestRefusal.{RequestRefusal}
 use Rattle.request_events.specs.declared.refusal.RequestRefusal.TheVariants.{NoRoute, NoMethod, BadName, BadNumber, BadQuery, BadPath as RefusedPath, NoLength}
-use Rattle.office_model.specs.declared.event.Event.{Event}
-use Rattle.office_model.specs.declared.event.Event.TheVariants as E
-use Rattle.office_model.specs.declared.event.Answer.{Answer}
-use Rattle.office_model.specs.declared.event.Answer.TheVariants as A
-use Rattle.office_model.specs.declared.event.BrokenRule.{BrokenRule}
-use Rattle.office_model.specs.declared.event.BrokenRule.TheVariants as B
-use Rattle.office_model.specs.declared.event.Refusal.{Refusal}
-use Rattle.office_model.specs.declared.event.Refusal.TheVariants as R
-use Rattle.office_model.specs.Step.{Reply}
+use Rattle.first_model.specs.declared.event.Event.{Event}
+use Rattle.first_model.specs.declared.event.Event.TheVariants as E
+use Rattle.first_model.specs.declared.event.Answer.{Answer}
+use Rattle.first_model.specs.declared.event.Answer.TheVariants as A
+use Rattle.first_model.specs.declared.event.BrokenRule.{BrokenRule}
+use Rattle.first_model.specs.declared.event.BrokenRule.TheVariants as B
+use Rattle.first_model.specs.declared.event.Refusal.{Refusal}
+use Rattle.first_model.specs.declared.event.Refusal.TheVariants as R
+use Rattle.first_model.specs.Step.{Reply}
 use Rattle.reply_bodies.specs.Objects.{object_text}
 use Rattle.reply_bodies.specs.Replies.{short_fields, refused, refusal_fields}
 

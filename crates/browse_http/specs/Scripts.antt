@@ -1,8 +1,8 @@
 -- What a request calls, and what is answered to its calls.
 use Rattle.std.specs.Prelude.{◌≡◌, ℕ, Bool, true, false, List, [], ◌∷◌, ◌++◌, Option, Some, None, Ok, Err}
-use Rattle.office_model.specs.declared.event.Event.{Event}
-use Rattle.office_model.specs.declared.event.Refusal.TheVariants as R
-use Rattle.office_model.specs.Step.{Reply, Call}
+use Rattle.first_model.specs.declared.event.Event.{Event}
+use Rattle.first_model.specs.declared.event.Refusal.TheVariants as R
+use Rattle.first_model.specs.Step.{Reply, Call}
 use Rattle.browse_http.specs.Messages.{reply_response}
 
 -- which event a request calls next, after its calls and their replies so far; None when its response is due

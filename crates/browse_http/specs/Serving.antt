@@ -1,8 +1,8 @@
 -- What the steps of a connection give: a request, an exchange, the exchanges so far.
 use Rattle.std.specs.Prelude.{◌≡◌, ℕ, ◌<◌, Bool, true, false, List, [], ◌∷◌, ◌++◌, length, Option, Some, ◌⊎◌, Result, Ok, Err}
 use Rattle.stream_traits.specs.Told.{before, behind, WroteFront}
-use Rattle.office_model.specs.Step.{Call}
-use Rattle.office_model.specs.declared.event.Event.{Event}
+use Rattle.first_model.specs.Step.{Call}
+use Rattle.first_model.specs.declared.event.Event.{Event}
 use Rattle.request_events.specs.declared.refusal.RequestFault.{RequestFault}
 use Rattle.request_events.specs.declared.refusal.RequestFault.TheVariants.{Refused as RefusedAs, Memory as NoMemory}
 use Rattle.http_heads.specs.Heads.{HeadParts}

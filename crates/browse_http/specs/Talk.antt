@@ -5,8 +5,8 @@ use Rattle.stream_traits.specs.Moments.{first_moment, after_reading}
 use Rattle.fault_counts.specs.Counts.{Counted}
 use Rattle.stream_traits.specs.Seen.{LinkSeen}
 use Rattle.stream_traits.specs.Told.{before}
-use Rattle.office_model.specs.declared.event.Event.{Event}
-use Rattle.office_model.specs.Step.{Call}
+use Rattle.first_model.specs.declared.event.Event.{Event}
+use Rattle.first_model.specs.Step.{Call}
 use Rattle.http_heads.specs.declared.refusal.HeadRefusal.{HeadRefusal}
 use Rattle.http_heads.specs.Heads.{HeadParts}
 use Rattle.http_heads.specs.Fronts.{Read, Bad as IsBad, Ended as IsEnded, Truncated as IsTruncated, IsHeadRead}

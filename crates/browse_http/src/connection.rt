@@ -8,10 +8,10 @@ ghost use Rattle.browse_http.specs.Talk.{Converses, ServesLink};
 use crate::end::End;
 use crate::exchange::{REQUEST_LIMIT, exchange};
 use crate::reading::give_up;
+use first_model::Port;
 use http_routes::{Route, router};
 use http_wire::Wire;
 use matchit::Router;
-use office_model::Port;
 use std::alloc::Global;
 use stream_traits::{Clock, Failed, Faults, Gate, Link};
 

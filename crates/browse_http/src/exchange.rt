@@ -11,11 +11,11 @@ ghost use Rattle.browse_http.specs.Serving.{EndsCalled, Responds, CarriesOut, Ca
 use crate::end::End;
 use crate::reading::{Request, give_up, read_request};
 use crate::replies::{write_refusal, write_reply};
+use first_model::{Answer, Event, Port, Refusal};
 use http_heads::Head;
 use http_routes::Route;
 use http_wire::Wire;
 use matchit::Router;
-use office_model::{Answer, Event, Port, Refusal};
 use request_events::{RequestFault, RequestRefusal, event_asked};
 use std::alloc::Global;
 use stream_traits::{Clock, Failed, Faults, Gate, Link};

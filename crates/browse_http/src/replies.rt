@@ -10,10 +10,10 @@ ghost use Rattle.browse_http.specs.Messages.{json_message, bytes_message, bad_re
 
 use crate::names::{allowed_by, request_name};
 use crate::statuses::{answer_status, bytes_status, head_status, refusal_status, request_status};
+use first_model::{Answer, Event, Refusal};
 use http::StatusCode;
 use http_heads::HeadRefusal;
 use http_wire::{Response, Wire, write_no_memory, write_response};
-use office_model::{Answer, Event, Refusal};
 use reply_bodies::{answer_text, refusal_text, refused_text};
 use request_events::RequestRefusal;
 use short_text::ShortText;

@@ -6,9 +6,9 @@ ghost use Rattle.http_wire.specs.Message.{phrase};
 ghost use Rattle.browse_http.specs.Messages.{request_refusal_status, put_rule_status, rule_status, refusal_status, done_status, answer_status};
 
 use attr_records::PutRule;
+use first_model::{Answer, BrokenRule, Event, Refusal};
 use http::StatusCode;
 use http_heads::HeadRefusal;
-use office_model::{Answer, BrokenRule, Event, Refusal};
 use request_events::RequestRefusal;
 
 /// The status of what refuses a head.

@@ -1,5 +1,5 @@
 use super::*;
-use office_model::PlainOffice;
+use first_model::PlainOffice;
 use std::alloc::Global;
 use std::test::Fail;
 use stream_traits::{FixedClock, Gate, MemoryLink, Moment, OpenGate};

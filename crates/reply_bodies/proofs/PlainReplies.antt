@@ -9,19 +9,19 @@ use Rattle.std.proofs.lemmas.Str.Parse.{digit_from_value}
 use Rattle.std.proofs.lemmas.Fmt.{decimal_is_IsNumeral}
 use Rattle.attr_records.specs.Names.{is_host_name, is_host_byte, begins_with_letter_or_digit}
 use Rattle.serde_json.specs.Written.{compact_text}
-use Rattle.office_model.specs.declared.session.SessionName.{SessionName}
-use Rattle.office_model.specs.declared.event.Event.{Event}
-use Rattle.office_model.specs.declared.event.Event.TheVariants as E
-use Rattle.office_model.specs.declared.event.Answer.{Answer}
-use Rattle.office_model.specs.declared.event.Answer.TheVariants as A
+use Rattle.first_model.specs.declared.session.SessionName.{SessionName}
+use Rattle.first_model.specs.declared.event.Event.{Event}
+use Rattle.first_model.specs.declared.event.Event.TheVariants as E
+use Rattle.first_model.specs.declared.event.Answer.{Answer}
+use Rattle.first_model.specs.declared.event.Answer.TheVariants as A
 use Rattle.reply_bodies.specs.Objects.{Field, Text, Count, is_plain_byte, is_plain_text, are_plain, object_of, object_text}
 use Rattle.reply_bodies.specs.Replies.{done_fields, short_fields, refusal_fields}
-use Rattle.office_model.specs.Session.{session_text}
-use Rattle.office_model.specs.RuleNames.{rule_name, put_rule_name}
-use Rattle.office_model.specs.declared.event.BrokenRule.{BrokenRule}
-use Rattle.office_model.specs.declared.event.BrokenRule.TheVariants as B
-use Rattle.office_model.specs.declared.event.Refusal.{Refusal}
-use Rattle.office_model.specs.declared.event.Refusal.TheVariants.{Broken, Halted, DiskFault, Damaged, Memory}
+use Rattle.first_model.specs.Session.{session_text}
+use Rattle.first_model.specs.RuleNames.{rule_name, put_rule_name}
+use Rattle.first_model.specs.declared.event.BrokenRule.{BrokenRule}
+use Rattle.first_model.specs.declared.event.BrokenRule.TheVariants as B
+use Rattle.first_model.specs.declared.event.Refusal.{Refusal}
+use Rattle.first_model.specs.declared.event.Refusal.TheVariants.{Broken, Halted, DiskFault, Damaged, Memory}
 use Rattle.attr_records.specs.declared.trees.PutRule.{PutRule}
 use Rattle.attr_records.specs.declared.trees.PutRule.TheVariants.{NoParent, IsDirectory, TooManyEntries, FileTooLarge}
 use Rattle.disk_trait.specs.Names.{content_name, real_name}

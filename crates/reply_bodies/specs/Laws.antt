@@ -4,13 +4,13 @@ use Rattle.attr_records.specs.Names.{is_host_name}
 use Rattle.disk_trait.specs.declared.ids.FileId.{FileId}
 use Rattle.disk_trait.specs.declared.ids.FileId.TheVariants as F
 use Rattle.serde_json.specs.Written.{compact_text}
-use Rattle.office_model.specs.declared.session.SessionName.{SessionName}
-use Rattle.office_model.specs.declared.event.Event.{Event}
-use Rattle.office_model.specs.declared.event.Event.TheVariants as E
-use Rattle.office_model.specs.declared.event.Answer.{Answer}
-use Rattle.office_model.specs.declared.event.Answer.TheVariants as A
-use Rattle.office_model.specs.declared.event.Refusal.{Refusal}
-use Rattle.office_model.specs.declared.event.Refusal.TheVariants.{Broken, Halted, DiskFault, Damaged, Memory}
+use Rattle.first_model.specs.declared.session.SessionName.{SessionName}
+use Rattle.first_model.specs.declared.event.Event.{Event}
+use Rattle.first_model.specs.declared.event.Event.TheVariants as E
+use Rattle.first_model.specs.declared.event.Answer.{Answer}
+use Rattle.first_model.specs.declared.event.Answer.TheVariants as A
+use Rattle.first_model.specs.declared.event.Refusal.{Refusal}
+use Rattle.first_model.specs.declared.event.Refusal.TheVariants.{Broken, Halted, DiskFault, Damaged, Memory}
 use Rattle.reply_bodies.specs.Objects.{Field, object_of, object_text}
 use Rattle.reply_bodies.specs.Replies.{short_fields, refusal_fields}
 

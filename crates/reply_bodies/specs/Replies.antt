@@ -1,14 +1,14 @@
 -- The body of the response to a reply, as the members of its object.
 use Rattle.std.specs.Prelude.{ℕ, List, [], ◌∷◌, codes, Option, Some, None}
 use Rattle.disk_trait.specs.Names.{real_name}
-use Rattle.office_model.specs.declared.event.Event.{Event}
-use Rattle.office_model.specs.declared.event.Event.TheVariants as E
-use Rattle.office_model.specs.declared.event.Answer.{Answer}
-use Rattle.office_model.specs.declared.event.Answer.TheVariants as A
-use Rattle.office_model.specs.declared.event.Refusal.{Refusal}
-use Rattle.office_model.specs.declared.event.Refusal.TheVariants.{Broken, Halted, DiskFault, Damaged, Memory}
-use Rattle.office_model.specs.RuleNames.{rule_name}
-use Rattle.office_model.specs.Session.{session_text}
+use Rattle.first_model.specs.declared.event.Event.{Event}
+use Rattle.first_model.specs.declared.event.Event.TheVariants as E
+use Rattle.first_model.specs.declared.event.Answer.{Answer}
+use Rattle.first_model.specs.declared.event.Answer.TheVariants as A
+use Rattle.first_model.specs.declared.event.Refusal.{Refusal}
+use Rattle.first_model.specs.declared.event.Refusal.TheVariants.{Broken, Halted, DiskFault, Damaged, Memory}
+use Rattle.first_model.specs.RuleNames.{rule_name}
+use Rattle.first_model.specs.Session.{session_text}
 use Rattle.reply_bodies.specs.Objects.{Field, Text, Count}
 
 -- the answer to an event that was done and gives nothing

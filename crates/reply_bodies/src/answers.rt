@@ -1,11 +1,11 @@
 ghost use Rattle.std.specs.Prelude.{◌≡◌, ◌≤◌, length};
 ghost use Rattle.std.specs.Option.{option_map};
-ghost use Rattle.office_model.specs.Session.{session_text};
+ghost use Rattle.first_model.specs.Session.{session_text};
 ghost use Rattle.reply_bodies.specs.Objects.{object_text};
 ghost use Rattle.reply_bodies.specs.Replies.{done_fields, short_fields};
 
 use crate::members::{counted, empty, named};
-use office_model::{Answer, Event, SessionName};
+use first_model::{Answer, Event, SessionName};
 use short_text::ShortText;
 
 /// The body of a short answer, None if the answer isn't short: the bytes of a file.

@@ -1,7 +1,7 @@
 use super::*;
 use attr_records::HostName;
 use disk_trait::{FileId, PoolId};
-use office_model::{Answer, BrokenRule, Event, Refusal, SessionName};
+use first_model::{Answer, BrokenRule, Event, Refusal, SessionName};
 use std::alloc::Global;
 use std::test::Fail;
 

@@ -1,8 +1,8 @@
 -- From a plan, a body and a moment to the event.
 use Rattle.std.specs.Prelude.{ℕ, Bool, List, Ok, Err, is_some, if◌then◌else◌}
-use Rattle.office_model.specs.declared.event.Event.{Event}
-use Rattle.office_model.specs.declared.event.Event.TheVariants as E
-use Rattle.office_model.specs.declared.session.SessionName.{SessionName}
+use Rattle.first_model.specs.declared.event.Event.{Event}
+use Rattle.first_model.specs.declared.event.Event.TheVariants as E
+use Rattle.first_model.specs.declared.session.SessionName.{SessionName}
 use Rattle.http_heads.specs.Heads.{HeadParts}
 use Rattle.request_events.specs.declared.refusal.RequestRefusal.TheVariants.{NoLength}
 use Rattle.request_events.specs.declared.plan.Plan.{Plan}

@@ -1,6 +1,6 @@
 -- From a head to what it asks for, or to why it is refused.
 use Rattle.std.specs.Prelude.{ℕ, List, Option, Some, None, Ok, Err, codes}
-use Rattle.office_model.specs.declared.session.SessionName.{SessionName}
+use Rattle.first_model.specs.declared.session.SessionName.{SessionName}
 use Rattle.http_heads.specs.Heads.{HeadParts}
 use Rattle.http_query.specs.Query.{query_pairs}
 use Rattle.http_routes.specs.Actions.{route_of, action_of}

@@ -2,8 +2,8 @@
 use Rattle.std.specs.Prelude.{ℕ, List, codes, Option, Some, None, Ok, Err, bytes_eq, if◌then◌else◌}
 use Rattle.attr_records.specs.PathRules.{broken_path_rule}
 use Rattle.attr_records.specs.declared.paths.BadPath.{BadPath}
-use Rattle.office_model.specs.declared.event.Kind.{Kind}
-use Rattle.office_model.specs.declared.event.Kind.TheVariants.{Full}
+use Rattle.first_model.specs.declared.event.Kind.{Kind}
+use Rattle.first_model.specs.declared.event.Kind.TheVariants.{Full}
 use Rattle.http_query.specs.declared.keys.QueryRule.TheVariants.{Missing, Value}
 use Rattle.http_query.specs.Query.{Pair, value_of}
 use Rattle.request_events.specs.declared.refusal.RequestRefusal.TheVariants.{BadQuery, BadPath as RefusedPath}

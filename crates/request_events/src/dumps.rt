@@ -12,8 +12,8 @@ use crate::refusal::RequestFault;
 use crate::target::Target;
 use crate::values::{ItemKind, dump_kind_in, item_kind_in, path_in};
 use attr_records::PathName;
+use first_model::SessionName;
 use http_routes::Action;
-use office_model::SessionName;
 use std::alloc::Global;
 
 /// `POST /hosts/{host}/dumps`

@@ -7,10 +7,10 @@ use crate::plan::{Plan, plan_of};
 use crate::refusal::{RequestFault, RequestRefusal};
 use attr_records::PathName;
 use disk_trait::Bytes;
+use first_model::{Event, SessionName};
 use http_heads::Head;
 use http_routes::Route;
 use matchit::Router;
-use office_model::{Event, SessionName};
 use std::alloc::Global;
 use stream_traits::Moment;
 

@@ -10,11 +10,11 @@ use crate::hosts::add_host;
 use crate::refusal::{RequestFault, RequestRefusal};
 use crate::target::Target;
 use attr_records::{HostName, PathName};
+use first_model::{Kind, SessionName};
 use http_heads::Head;
 use http_query::Query;
 use http_routes::{Action, Route, route_of, split_target};
 use matchit::Router;
-use office_model::{Kind, SessionName};
 use std::alloc::Global;
 
 /// What a head asks for: an event without what its body and the moment add.

@@ -3,11 +3,11 @@ ghost use Rattle.http_routes.specs.Table.{table};
 
 use super::*;
 use attr_records::BadPath;
+use first_model::Event;
 use http_heads::{Front, read_front};
 use http_query::QueryRule;
 use http_routes::{Route, router};
 use matchit::Router;
-use office_model::Event;
 use std::alloc::Global;
 use std::test::Fail;
 use stream_traits::Moment;

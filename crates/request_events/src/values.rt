@@ -6,8 +6,8 @@ ghost use Rattle.request_events.specs.declared.refusal.RequestRefusal.TheVariant
 
 use crate::refusal::{RequestFault, RequestRefusal};
 use attr_records::{BadPath, PathName};
+use first_model::Kind;
 use http_query::{Query, QueryRule};
-use office_model::Kind;
 use std::alloc::Global;
 
 /// The kinds of an item.
