@@ -4,12 +4,12 @@ ghost use Rattle.std.specs.Prelude.{◌≡◌, ℕ, List, [], ◌++◌, length};
 
 /// Gives a content its digest: a function of its bytes, however they are cut into pieces. Contents that differ may
 /// have one digest.
-pub trait Namer: Copy + Send {
+pub trait Namer: Copy {
     // the digest of a content
     ghost digest_of: { List ℕ → List ℕ };
 
     /// A digest that is being made, of the pieces that it was given.
-    type State: Drop + Send;
+    type State: Drop;
 
     // the state has taken in this content
     ghost holds: { Self.State → List ℕ → Type 0 };
