@@ -1,24 +1,28 @@
-# make build   builds bin/backup_server where it is out of date: it proves the crates and compiles the program
-# make demo    backs up two files into a fresh store and reads one back
-# make clean   removes what these made
+# make build   proves the crates and compiles bin/backup_server, if it is out of date
+# make demo    backs up two files into a fresh store and gives one back: each request, and what came of it
+# make test    the gate, and then the scripts of tests/ on the program that it built
+# make clean   removes what these made, the crates' out/ too, so that the next build proves everything again
+# make help    says this
 
 RT ?= rt
 SOURCES := crates.txt $(shell find $(wildcard crates/*/src crates/*/specs crates/*/proofs) -name '*.rt' -o -name '*.antt')
 
-.PHONY: build demo clean
+.DEFAULT_GOAL := build
+.PHONY: build demo test help clean
+
+help:
+	@sed -n 's/^# //p' Makefile
 
 build: bin/backup_server
 
-# The kit builds a program only to run it: here once, on an empty input.
 bin/backup_server: $(SOURCES)
-	rm -rf build/empty
-	cd crates/backup_server && $(RT) run -- pipe --store '$(CURDIR)/build/empty' < /dev/null
-	mkdir -p bin
-	cp crates/backup_server/out/backup_server $@
+	@RT='$(RT)' tests/build.sh
 
 demo: bin/backup_server
-	rm -rf build/demo
-	bin/backup_server pipe --store build/demo < demo/requests.http
+	@demo/run.py
+
+test:
+	.ci/run
 
 clean:
-	rm -rf bin build
+	rm -rf bin build crates/*/out

@@ -10,6 +10,7 @@ build=$(mktemp)
 trap 'rm -f "$build"' EXIT
 
 cd "$top/crates/bench_http"
+echo "proving and building, which takes minutes the first time"
 rt run > "$build" 2>&1 || { cat "$build"; exit 1; }
 uptime
 out/bench_http 100000 67108864 time

@@ -9,6 +9,7 @@ build=$(mktemp)
 trap 'rm -f "$build"' EXIT
 
 cd "$top/crates/bench_journal"
+echo "proving and building, which takes minutes the first time"
 rt run > "$build" 2>&1 || { cat "$build"; exit 1; }
 uptime
 out/bench_journal 64 16384 time

@@ -89,6 +89,8 @@ def measure_large(store, size):
 
 
 def main():
+    if not os.path.exists(f"{TOP}/bin/backup_server"):
+        raise SystemExit("bin/backup_server isn't there: make build first")
     words = argparse.ArgumentParser(description=__doc__)
     words.add_argument("--count", type=int, default=100_000, help="how many small files")
     words.add_argument("--small", type=int, default=1_000, help="the bytes of each")

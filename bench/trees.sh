@@ -9,6 +9,7 @@ lines=$(mktemp -d)
 trap 'rm -rf "$lines"' EXIT
 
 cd "$top/crates/bench_trees"
+echo "proving and building, which takes minutes the first time"
 rt run > "$lines/build" 2>&1 || { cat "$lines/build"; exit 1; }
 
 measure() {

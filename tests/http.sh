@@ -2,10 +2,11 @@
 # Real clients against bin/backup_server: curl, and Python's http.client. The program serves one connection over its
 # standard streams, so a relay of a few lines (relay.py) listens, and starts it with a fresh store for each connection.
 # Run it from anywhere after `make build`; it needs curl and python3.
-# The last line is 'N passed, M failed'; the status is 0 where none failed.
+# The last line is 'N passed, M failed'; the status is 0 if none failed.
 
 top=$(cd "$(dirname "$0")/.." && pwd)
 program=${1:-$top/bin/backup_server}
+[ -x "$program" ] || { echo "$program isn't there: make build first"; exit 1; }
 room=$(mktemp -d)
 python3 "$top/tests/relay.py" "$program" "$room" >"$room/port" &
 relay=$!

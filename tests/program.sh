@@ -1,9 +1,10 @@
 #!/bin/sh
 # Tries of bin/backup_server that the gate's one stored run doesn't make: how it ends, what it says on
-# standard error, and what it leaves. Run it from anywhere after `make build`.
-# The last line is 'N passed, M failed'; the status is 0 where none failed.
+# standard error, and what it leaves. Run it from anywhere after `make build`, or with another program's path.
+# The last line is 'N passed, M failed'; the status is 0 if none failed.
 
-program=$(cd "$(dirname "$0")/.." && pwd)/bin/backup_server
+program=${1:-$(cd "$(dirname "$0")/.." && pwd)/bin/backup_server}
+[ -x "$program" ] || { echo "$program isn't there: make build first"; exit 1; }
 room=$(mktemp -d)
 trap 'rm -rf "$room"' EXIT
 cd "$room" || exit 1
