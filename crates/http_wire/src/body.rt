@@ -47,17 +47,10 @@ fn read_count<L: Link>(
     ensures written { written_of wire.new ≡ written_of wire.old }
     ensures counted { Counted (faults_of wire.old) (faults_of wire.new) (IsErrOf result ReadFault.Failed) }
 {
-    match wire.send_before(count) {
-        Ok(()) => {}
-        Err(Failed) => return Err(ReadFault::Failed),
-    }
-    let Ok(mut body) = wire.take_copy(alloc, count) else {
-        return Err(ReadFault::Memory);
-    };
-    match read_rest(&mut wire.link, &mut body, count) {
-        Ok(()) => Ok(body),
-        Err(fault) => Err(fault),
-    }
+    wire.send_before(count)?;
+    let mut body = wire.take_copy(alloc, count)?;
+    read_rest(&mut wire.link, &mut body, count)?;
+    Ok(body)
 }
 
 /// Reads the rest of `count` bytes.
@@ -74,10 +67,7 @@ fn read_rest<S: Source>(source: &mut S, body: &mut Vec<u8>, count: usize) -> Res
     ensures counted { Counted (S.faults source.old) (S.faults source.new) (IsErrOf result ReadFault.Failed) }
 {
     while body.len() < count {
-        match add_piece(source, body, count - body.len()) {
-            Ok(()) => {}
-            Err(fault) => return Err(fault),
-        }
+        add_piece(source, body, count - body.len())?;
     }
     Ok(())
 }
@@ -95,17 +85,13 @@ fn add_piece<S: Source>(source: &mut S, body: &mut Vec<u8>, most: usize) -> Resu
     ensures counted { Counted (S.faults source.old) (S.faults source.new) (IsErrOf result ReadFault.Failed) }
 {
     let had = body.len();
-    let Ok(()) = add_zeros(body, most.min(PIECE)) else {
-        return Err(ReadFault::Memory);
-    };
-    match source.read(&mut body[had..]) {
-        Ok(0) => Err(ReadFault::Ended),
-        Ok(count) => {
-            body.truncate(had + count);
-            Ok(())
-        }
-        Err(Failed) => Err(ReadFault::Failed),
+    add_zeros(body, most.min(PIECE))?;
+    let count = source.read(&mut body[had..])?;
+    if count == 0 {
+        return Err(ReadFault::Ended);
     }
+    body.truncate(had + count);
+    Ok(())
 }
 
 /// Appends `count` zeros.

@@ -28,6 +28,26 @@ impl fmt::Display for WireFault {
 
 impl Error for WireFault {}
 
+impl From<Failed> for WireFault {
+    ghost use Rattle.http_wire.specs.declared.wire.WireFault.TheVariants.{LinkFault};
+
+    ghost from_gives = { λ _ fault. fault ≡ LinkFault };
+
+    fn from(_failed: Failed) -> WireFault {
+        WireFault::LinkFault
+    }
+}
+
+impl From<AllocError> for WireFault {
+    ghost use Rattle.http_wire.specs.declared.wire.WireFault.TheVariants.{Memory};
+
+    ghost from_gives = { λ _ fault. fault ≡ Memory };
+
+    fn from(_error: AllocError) -> WireFault {
+        WireFault::Memory
+    }
+}
+
 /// The room for what is read ahead: three heads of the most bytes.
 const ROOM: usize = 49_152;
 
@@ -183,17 +203,9 @@ impl<L: Link> Wire<L> {
         ensures written { written_of self.new ≡ written_of self.old }
         ensures counted { Counted (faults_of self.old) (faults_of self.new) (IsErrOf result WireFault.LinkFault) }
     {
-        match self.send() {
-            Ok(()) => {}
-            Err(Failed) => return Err(WireFault::LinkFault),
-        }
-        if self.make_room(alloc).is_err() {
-            return Err(WireFault::Memory);
-        }
-        match self.read_piece() {
-            Ok(count) => Ok(count),
-            Err(Failed) => Err(WireFault::LinkFault),
-        }
+        self.send()?;
+        self.make_room(alloc)?;
+        Ok(self.read_piece()?)
     }
 
     /// Reads bytes into the room behind what was read ahead, and says how many.

@@ -4,7 +4,7 @@ ghost use Rattle.fault_counts.specs.Counts.{Counted};
 ghost use Rattle.stream_traits.specs.Told.{before, IsEnd, IsShort, TookFront, AddsPiece};
 
 use crate::link::{Failed, Faults, Source};
-use std::alloc::Global;
+use std::alloc::{AllocError, Global};
 use std::error::Error;
 use std::fmt;
 
@@ -30,6 +30,26 @@ impl fmt::Display for ReadFault {
 }
 
 impl Error for ReadFault {}
+
+impl From<Failed> for ReadFault {
+    ghost use Rattle.stream_traits.specs.declared.reading.ReadFault.TheVariants.{Failed};
+
+    ghost from_gives = { λ _ fault. fault ≡ Failed };
+
+    fn from(_failed: Failed) -> ReadFault {
+        ReadFault::Failed
+    }
+}
+
+impl From<AllocError> for ReadFault {
+    ghost use Rattle.stream_traits.specs.declared.reading.ReadFault.TheVariants.{Memory};
+
+    ghost from_gives = { λ _ fault. fault ≡ Memory };
+
+    fn from(_error: AllocError) -> ReadFault {
+        ReadFault::Memory
+    }
+}
 
 /// The most bytes that are read in one call.
 const PIECE: usize = 65_536;
@@ -70,16 +90,11 @@ pub fn read_exactly<S: Source>(
     ensures sent { S.sent source.new ≡ S.sent source.old }
     ensures counted { Counted (S.faults source.old) (S.faults source.new) (IsErrOf result ReadFault.Failed) }
 {
-    let Ok(mut room) = vec![in alloc; 0u8; count.min(PIECE)] else {
-        return Err(ReadFault::Memory);
-    };
+    let mut room = vec![in alloc; 0u8; count.min(PIECE)]?;
     let mut got = Vec::new(alloc);
     while got.len() < count {
         let wanted = room.len().min(count - got.len());
-        match add_piece(source, &mut room[..wanted], &mut got) {
-            Ok(()) => {}
-            Err(fault) => return Err(fault),
-        }
+        add_piece(source, &mut room[..wanted], &mut got)?;
     }
     Ok(got)
 }
@@ -96,12 +111,10 @@ fn add_piece<S: Source>(source: &mut S, room: &mut [u8], got: &mut Vec<u8>) -> R
     ensures sent { S.sent source.new ≡ S.sent source.old }
     ensures counted { Counted (S.faults source.old) (S.faults source.new) (IsErrOf result ReadFault.Failed) }
 {
-    match source.read(room) {
-        Ok(0) => Err(ReadFault::Ended),
-        Ok(taken) => match got.extend_from_slice(&room[..taken]) {
-            Ok(()) => Ok(()),
-            Err(_) => Err(ReadFault::Memory),
-        },
-        Err(Failed) => Err(ReadFault::Failed),
+    let taken = source.read(room)?;
+    if taken == 0 {
+        return Err(ReadFault::Ended);
     }
+    got.extend_from_slice(&room[..taken])?;
+    Ok(())
 }
