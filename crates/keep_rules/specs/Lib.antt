@@ -1,0 +1,10 @@
+pub mod Groups
+pub mod Keeping
+pub mod Gaps
+pub mod Sets
+pub mod Named
+pub mod Flags
+pub mod Walk
+pub mod SetLaws
+pub mod FlagLaws
+pub mod Laws
