@@ -8,10 +8,10 @@ use Rattle.disk_trait.specs.Names.{is_same_file}
 use Rattle.disk_trait.specs.Files.{Files, lists, IsListing}
 use Rattle.intent_journal.specs.ChangesLaws.{either}
 use Rattle.pool_index.specs.Items.{is_same_id}
-use Rattle.pool_store.specs.declared.slot.Slot.{Slot}
-use Rattle.pool_store.specs.declared.slot.Slot.TheVariants.{Doomed}
-use Rattle.pool_store.specs.Slots.{Slots, with_slot}
-use Rattle.pool_store.specs.Kept.{IsSame}
+use Rattle.pool_changes.specs.declared.slot.Slot.{Slot}
+use Rattle.pool_changes.specs.declared.slot.Slot.TheVariants.{Doomed}
+use Rattle.pool_changes.specs.Slots.{Slots, with_slot}
+use Rattle.pool_changes.specs.Kept.{IsSame}
 use Rattle.pool_store.specs.Opening.{doomed_at, doomed_by, AreDoomed, AreThePoolFiles}
 
 with_alike : (a b : Slots) (id : PoolId) (slot : Option Slot) → IsSame a b → IsSame (with_slot a id slot) (with_slot b id slot)

@@ -16,7 +16,7 @@ use Rattle.intent_journal.specs.declared.fault.JournalFault.{JournalFault}
 use Rattle.intent_journal.specs.ChangesLaws.{either}
 use Rattle.intent_journal.specs.OverlayLaws.{start_image, also_other}
 use Rattle.intent_journal.specs.Calls.{Reads, Touches}
-use Rattle.pool_store.specs.Slots.{Slots, is_live, unlisted, one_id}
+use Rattle.pool_changes.specs.Slots.{Slots, is_live, unlisted, one_id}
 use Rattle.pool_store.specs.Pools.{IsCertain}
 
 pub within_then : (a b c : FileSet) → IsWithin b a → IsWithin c b → IsWithin c a

@@ -1,12 +1,5 @@
 pub mod Chaining
-pub mod Changing
 pub mod Dooming
 pub mod Imaging
-pub mod Layering
 pub mod Lists
-pub mod Naming
-pub mod Picking
-pub mod Ranging
 pub mod Sweeping
-pub mod Totals
-pub mod Turning

@@ -7,7 +7,7 @@ use Rattle.pool_store.specs.declared.fault.PoolFault.{PoolFault}
 use Rattle.pool_store.specs.declared.fault.PoolFault.TheVariants.{Foreign, Disk, Memory, Damaged, ChainFull}
 use Rattle.pool_store.specs.declared.chain.Met.{Met}
 use Rattle.pool_store.specs.declared.chain.Met.TheVariants.{Same, Free, Full}
-use Rattle.pool_store.specs.Slots.{Slots, is_given, id_of}
+use Rattle.pool_changes.specs.Slots.{Slots, is_given, id_of}
 
 -- no live or staged file of the digest with a lesser extension holds the content
 abbrev pub AreOthers : Slots → List ℕ → Files → List ℕ → ℕ → Type 0

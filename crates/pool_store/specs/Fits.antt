@@ -9,16 +9,14 @@ use Rattle.disk_trait.specs.Names.{is_same_file}
 use Rattle.disk_trait.specs.Files.{Files, with_bytes}
 use Rattle.disk_trait.specs.Images.{FileSet}
 use Rattle.intent_journal.specs.ChangesLaws.{either, with_bytes_there, with_bytes_other}
-use Rattle.pool_store.specs.declared.slot.Slot.{Slot}
-use Rattle.pool_store.specs.declared.slot.Slot.TheVariants.{Live, Staged, Doomed}
+use Rattle.pool_changes.specs.declared.slot.Slot.{Slot}
+use Rattle.pool_changes.specs.declared.slot.Slot.TheVariants.{Live, Staged, Doomed}
 use Rattle.pool_index.specs.Items.{is_same_id}
-use Rattle.pool_store.specs.Slots.{Slots, is_live, is_given, size_of, claimed, let_go, one_id, with_slot, id_of}
-use Rattle.pool_store.specs.Kept.{IsSet}
+use Rattle.pool_changes.specs.Slots.{Slots, is_live, is_given, size_of, claimed, let_go, one_id, with_slot, id_of}
+use Rattle.pool_changes.specs.Kept.{IsSet}
 use Rattle.pool_store.specs.Chains.{IsDamaged}
 use Rattle.pool_store.specs.Pools.{IsCertain, Adds, Takes}
-use Rattle.pool_store.specs.declared.slot.Turn.{Turn}
-use Rattle.pool_store.specs.declared.slot.Turn.TheVariants.{Add, Mark, Unmark, Remove}
-use Rattle.pool_store.specs.Relisted.{turned, relisted}
+use Rattle.pool_changes.specs.StillLaws.{AreStill}
 use Rattle.pool_store.specs.Sweeps.{IsPruned, Sweeps}
 
 -- the file of a name holds a content of its digest and size
@@ -295,44 +293,6 @@ same_content digest_of old new uncertain all told told' id other content fits is
 ]
 
 -- ---- a change of the index, behind its commit
-
-pub turned_given : (turn : Turn) (slot : Option Slot) → is_given (turned turn slot) ≡ true → (is_given slot ≡ true) × (size_of (turned turn slot) ≡ size_of slot)
-turned_given Add None e = (e, refl)
-turned_given Add (Some (Live size mark claims)) e = (refl, refl)
-turned_given Add (Some (Staged size claims)) e = (refl, refl)
-turned_given Add (Some Doomed) e = (e, refl)
-turned_given Mark None e = (e, refl)
-turned_given Mark (Some (Live size mark claims)) e = (refl, refl)
-turned_given Mark (Some (Staged size claims)) e = (refl, refl)
-turned_given Mark (Some Doomed) e = (e, refl)
-turned_given Unmark None e = (e, refl)
-turned_given Unmark (Some (Live size mark claims)) e = (refl, refl)
-turned_given Unmark (Some (Staged size claims)) e = (refl, refl)
-turned_given Unmark (Some Doomed) e = (e, refl)
-turned_given Remove None e = (e, refl)
-turned_given Remove (Some (Live size mark claims)) e = absurd (false≢true e)
-turned_given Remove (Some (Staged size claims)) e = (refl, refl)
-turned_given Remove (Some Doomed) e = (e, refl)
-
--- what is given now was, with the same size
-abbrev pub AreStill : (old new : Slots) → Type 0
-AreStill old new = (asked : PoolId) → is_given (new asked) ≡ true → (is_given (old asked) ≡ true) × (size_of (new asked) ≡ size_of (old asked))
-
-pub still_relisted : (turn : Turn) (ids : List PoolId) (slots : Slots) → AreStill slots (relisted turn ids slots)
-still_relisted turn [] slots asked given = (given, refl)
-still_relisted turn (id ∷ ids) slots asked given =
-    let rest = still_relisted turn ids (with_slot slots id (turned turn (slots id))) asked given in
-    elim (either (is_same_id asked id)) [
-      | inl same ↦
-          let there : with_slot slots id (turned turn (slots id)) asked ≡ turned turn (slots id) = rw same refl in
-          let one = turned_given turn (slots id) (sym (ap is_given there) ∙ rest.0) in (
-            ap (λ (x : PoolId). is_given (slots x)) (one_id asked id same) ∙ one.0,
-            rest.1 ∙ ap size_of there ∙ one.1 ∙ sym (ap (λ (x : PoolId). size_of (slots x)) (one_id asked id same)),
-          )
-      | inr other ↦
-          let there : with_slot slots id (turned turn (slots id)) asked ≡ slots asked = rw other refl in
-          (sym (ap is_given there) ∙ rest.0, rest.1 ∙ ap size_of there)
-    ]
 
 -- where all is durable and the files of names are the same
 pub fits_still : (digest_of : List ℕ → List ℕ) (old new : Slots) (uncertain uncertain' : FileSet) (all all' : Files) → AreStill old new

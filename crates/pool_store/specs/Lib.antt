@@ -1,15 +1,7 @@
-pub mod Slots
-pub mod Kept
-pub mod Named
-pub mod Listed
 pub mod Opened
 pub mod Opening
-pub mod Written
-pub mod Writing
 pub mod Chains
 pub mod Pools
 pub mod Sweeps
-pub mod Relisted
-pub mod Indexed
 pub mod Fits
 pub mod Accepted

@@ -10,13 +10,13 @@ use Rattle.pool_index.specs.declared.item.IndexItem.{IndexItem}
 use Rattle.pool_index.specs.Items.{item_at, byte_of}
 use Rattle.pool_index.specs.Layout.{AreItemsOf, IsIndex, index_file, bucket_of}
 use Rattle.pool_index.specs.Index.{index_id, TellsByte}
-use Rattle.pool_store.specs.declared.slot.Slot.{Slot}
-use Rattle.pool_store.specs.declared.slot.Slot.TheVariants.{Live, Doomed}
+use Rattle.pool_changes.specs.declared.slot.Slot.{Slot}
+use Rattle.pool_changes.specs.declared.slot.Slot.TheVariants.{Live, Doomed}
 use Rattle.pool_store.specs.declared.fault.PoolFault.{PoolFault}
 use Rattle.pool_store.specs.declared.fault.PoolFault.TheVariants.{Foreign, Disk, Memory, Damaged, ChainFull}
-use Rattle.pool_store.specs.Slots.{Slots, with_slot}
-use Rattle.pool_store.specs.Kept.{IsSame}
-use Rattle.pool_store.specs.Listed.{index_of}
+use Rattle.pool_changes.specs.Slots.{Slots, with_slot}
+use Rattle.pool_changes.specs.Kept.{IsSame}
+use Rattle.pool_changes.specs.Listed.{index_of}
 use Rattle.pool_store.specs.Opened.{IsForeign, IsFresh}
 
 -- the faults that an opening may have

@@ -6,11 +6,11 @@ use Rattle.disk_trait.specs.declared.ids.PoolId.{PoolId}
 use Rattle.disk_trait.specs.declared.ids.FileId.TheVariants.{Pool}
 use Rattle.disk_trait.specs.Files.{Files, changed, SameButOne}
 use Rattle.disk_trait.specs.Images.{FileSet}
-use Rattle.pool_store.specs.declared.slot.Slot.TheVariants.{Staged, Doomed}
+use Rattle.pool_changes.specs.declared.slot.Slot.TheVariants.{Staged, Doomed}
 use Rattle.pool_store.specs.declared.fault.PoolFault.{PoolFault}
 use Rattle.pool_store.specs.declared.fault.PoolFault.TheVariants.{Foreign, Disk, Memory, Damaged, ChainFull}
-use Rattle.pool_store.specs.Slots.{Slots, is_live, is_given, claimed, id_of}
-use Rattle.pool_store.specs.Kept.{IsSet, IsSame}
+use Rattle.pool_changes.specs.Slots.{Slots, is_live, is_given, claimed, id_of}
+use Rattle.pool_changes.specs.Kept.{IsSet, IsSame}
 use Rattle.pool_store.specs.Chains.{AreOthers, AreUsed, IsFree}
 
 -- the faults that taking a content in may have

@@ -3,19 +3,18 @@
 ghost use Rattle.std.specs.Prelude.{◌≡◌, ◌⊎◌, ◌↔◌, ◌≤◌, ◌<◌, ℕ, List, Option, false, true, Some, None, IfOk, IfErr, IfSome, OnOk, IsErrOf, IsSome, length};
 ghost use Rattle.fault_counts.specs.Counts.{Counted};
 ghost use Rattle.disk_trait.specs.declared.ids.PoolId.{PoolId};
-ghost use Rattle.pool_store.specs.Slots.{is_given};
+ghost use Rattle.pool_changes.specs.Slots.{is_given};
 ghost use Rattle.disk_trait.specs.declared.ids.FileId.TheVariants.{Pool as PoolFile};
 ghost use Rattle.disk_trait.specs.Files.{Files};
 ghost use Rattle.intent_journal.specs.Calls.{Reads};
-ghost use Rattle.pool_store.specs.Kept.{slots_of};
-ghost use Rattle.pool_store.specs.Slots.{id_of};
+ghost use Rattle.pool_changes.specs.Kept.{slots_of};
+ghost use Rattle.pool_changes.specs.Slots.{id_of};
 ghost use Rattle.pool_store.specs.Chains.{IsMet, SaysDamaged, SaysGiven, OfReading, freed};
 
 use crate::fault::PoolFault;
-use crate::names::Names;
-use crate::slot::Slot;
 use disk_trait::{Bytes, Disk, FileId, PoolId};
 use intent_journal::{Journal, JournalFault};
+use pool_changes::{Names, Slot};
 use pool_name::Namer;
 use std::alloc::Global;
 

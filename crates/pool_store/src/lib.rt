@@ -27,18 +27,11 @@
 
 mod chain;
 mod fault;
-mod index;
-mod listing;
-mod names;
 mod opening;
 mod pool;
-mod slot;
 mod stage;
 mod sweep;
-mod writing;
 
 pub use fault::PoolFault;
-pub use index::IndexChange;
-pub use listing::{BucketItem, BucketItemList, PoolStats};
 pub use pool::Pool;
-pub use slot::Slot;
+pub use pool_changes::{BucketItem, BucketItemList, IndexChange, PoolStats, Slot};

@@ -8,17 +8,16 @@ ghost use Rattle.disk_trait.specs.declared.ids.FileId.TheVariants.{Pool as PoolF
 ghost use Rattle.disk_trait.specs.Files.{Files, IsListing};
 ghost use Rattle.intent_journal.specs.Calls.{Reads};
 ghost use Rattle.pool_index.specs.Index.{index_id, TellsIn};
-ghost use Rattle.pool_store.specs.Kept.{slots_of, IsSet, IsSame};
-ghost use Rattle.pool_store.specs.Listed.{index_of};
+ghost use Rattle.pool_changes.specs.Kept.{slots_of, IsSet, IsSame};
+ghost use Rattle.pool_changes.specs.Listed.{index_of};
 ghost use Rattle.pool_store.specs.Opened.{IsFresh};
 ghost use Rattle.pool_store.specs.Opening.{OfOpening, doomed_at, doomed_by, AreDoomed, AreThePoolFiles, UsesSame, live_of, listed_by, IsMissing, IsListedFrom, IsListedByte, SaysBroken, SaysForeignOver, AreFresh, AreListedBuckets, IsBesideAny, HasNoBucket, IsOf};
 
 use crate::chain::{fault_of, read_file};
 use crate::fault::PoolFault;
-use crate::names::Names;
-use crate::slot::Slot;
 use disk_trait::{Bytes, Disk, FileId, FileList};
 use intent_journal::Journal;
+use pool_changes::{Names, Slot};
 use pool_index::{IndexFault, IndexItem, read_index};
 use std::alloc::{AllocError, Global};
 

@@ -8,29 +8,26 @@ ghost use Rattle.disk_trait.specs.Files.{Files};
 ghost use Rattle.disk_trait.specs.Images.{LeavesOnly};
 ghost use Rattle.intent_journal.specs.Overlay.{ComesTo};
 ghost use Rattle.intent_journal.specs.Calls.{Reads};
-ghost use Rattle.pool_store.specs.Kept.{slots_of, IsSet, IsSame};
-ghost use Rattle.pool_store.specs.Slots.{is_live, is_given, claims_of, claimed, let_go, unlisted};
+ghost use Rattle.pool_changes.specs.Kept.{slots_of, IsSet, IsSame};
+ghost use Rattle.pool_changes.specs.Slots.{is_live, is_given, claims_of, claimed, let_go, unlisted};
 ghost use Rattle.pool_store.specs.Chains.{SaysDamaged, SaysGiven};
 ghost use Rattle.pool_store.specs.Chains.{OfReading};
-ghost use Rattle.pool_store.specs.Listed.{index_of, IsBucketOf, IsStatsOf};
+ghost use Rattle.pool_changes.specs.Listed.{index_of, IsBucketOf, IsStatsOf};
 ghost use Rattle.pool_store.specs.Opened.{Opens};
 ghost use Rattle.pool_store.specs.Opening.{OfOpening, SaysForeign, AreFresh};
-ghost use Rattle.pool_store.specs.Written.{LeadsIndex};
-ghost use Rattle.pool_store.specs.Indexed.{after, IsOf, AreGiven, AreLive, AreUnclaimed};
-ghost use Rattle.pool_store.specs.Sweeps.{NoneDoomed, IsPruned, Sweeps, AreAllUsed, AreAllGiven};
+ghost use Rattle.pool_changes.specs.Written.{LeadsIndex};
+ghost use Rattle.pool_changes.specs.Indexed.{after, IsOf, AreGiven, AreLive, AreUnclaimed};
+ghost use Rattle.pool_store.specs.Sweeps.{IsPruned, Sweeps, AreAllUsed, AreAllGiven};
+ghost use Rattle.pool_changes.specs.Named.{NoneDoomed};
 
 use crate::chain::{Met, read_file};
 use crate::fault::PoolFault;
-use crate::index::{IndexChange, turn_all};
-use crate::listing::{BucketItemList, PoolStats, bucket_items, stats};
-use crate::names::Names;
 use crate::opening::{doomed_names, list_index};
-use crate::slot::{Slot, Turn};
 use crate::stage::{find_place, stage_new};
 use crate::sweep::sweep_names;
-use crate::writing::write_index;
 use disk_trait::{Bytes, Disk, FileId, PoolId};
 use intent_journal::Journal;
+use pool_changes::{BucketItemList, IndexChange, Names, PoolStats, Slot, bucket_items, stats};
 use pool_name::Namer;
 use std::alloc::{AllocError, Global};
 
@@ -253,15 +250,7 @@ impl<N: Namer> Pool<N> {
         ensures added { IfOk result (λ change. IsOf change ids.now [] [] []) }
         ensures leads { IfOk result (λ change. LeadsIndex self.now.in_one_file (index_of (slots_of self.now.names)) (index_of (after change (slots_of self.now.names))) change.changes) }
     {
-        let changes = write_index(alloc, &self.names, self.in_one_file, ids, &[], &[], &[])?;
-        let added = Vec::from_slice(alloc, ids)?;
-        Ok(IndexChange {
-            added,
-            marked: Vec::new(alloc),
-            unmarked: Vec::new(alloc),
-            removed: Vec::new(alloc),
-            changes,
-        })
+        IndexChange::new(alloc, &self.names, self.in_one_file, ids, &[], &[], &[])
     }
 
     /// The change of the index that marks, unmarks and removes these names.
@@ -278,7 +267,7 @@ impl<N: Namer> Pool<N> {
         ensures of { IfOk result (λ change. IsOf change [] marked.now unmarked.now removed.now) }
         ensures leads { IfOk result (λ change. LeadsIndex self.now.in_one_file (index_of (slots_of self.now.names)) (index_of (after change (slots_of self.now.names))) change.changes) }
     {
-        let changes = write_index(
+        IndexChange::new(
             alloc,
             &self.names,
             self.in_one_file,
@@ -286,17 +275,7 @@ impl<N: Namer> Pool<N> {
             marked,
             unmarked,
             removed,
-        )?;
-        let marked = Vec::from_slice(alloc, marked)?;
-        let unmarked = Vec::from_slice(alloc, unmarked)?;
-        let removed = Vec::from_slice(alloc, removed)?;
-        Ok(IndexChange {
-            added: Vec::new(alloc),
-            marked,
-            unmarked,
-            removed,
-            changes,
-        })
+        )
     }
 
     /// Makes the change, after the journal's commit; takes no memory.
@@ -305,10 +284,7 @@ impl<N: Namer> Pool<N> {
         ensures in_buckets { self.new.in_one_file ≡ false }
         ensures spare { self.new.spare ≡ self.old.spare }
     {
-        turn_all(&mut self.names, change.added.as_slice(), Turn::Add);
-        turn_all(&mut self.names, change.marked.as_slice(), Turn::Mark);
-        turn_all(&mut self.names, change.unmarked.as_slice(), Turn::Unmark);
-        turn_all(&mut self.names, change.removed.as_slice(), Turn::Remove);
+        change.make(&mut self.names);
         self.in_one_file = false;
     }
 

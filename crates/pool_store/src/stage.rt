@@ -6,18 +6,17 @@ ghost use Rattle.disk_trait.specs.declared.ids.FileId.TheVariants.{Pool as PoolF
 ghost use Rattle.disk_trait.specs.Files.{Files, changed};
 ghost use Rattle.disk_trait.specs.Images.{LeavesOnly};
 ghost use Rattle.intent_journal.specs.Overlay.{ComesTo};
-ghost use Rattle.pool_store.specs.declared.slot.Slot.TheVariants.{Staged};
-ghost use Rattle.pool_store.specs.Kept.{slots_of, IsSet, IsSame};
-ghost use Rattle.pool_store.specs.Slots.{unlisted};
+ghost use Rattle.pool_changes.specs.declared.slot.Slot.TheVariants.{Staged};
+ghost use Rattle.pool_changes.specs.Kept.{slots_of, IsSet, IsSame};
+ghost use Rattle.pool_changes.specs.Slots.{unlisted};
 ghost use Rattle.pool_store.specs.Chains.{IsMet, SaysDamaged, SaysGiven, OfReading};
 ghost use Rattle.pool_store.specs.Pools.{IsCertain, IsUnstaged};
 
 use crate::chain::{Met, meet};
 use crate::fault::PoolFault;
-use crate::names::Names;
-use crate::slot::Slot;
 use disk_trait::{Disk, FileId, PoolId};
 use intent_journal::{Journal, JournalFault};
+use pool_changes::{Names, Slot};
 use pool_name::Namer;
 use std::alloc::Global;
 

@@ -1,7 +1,7 @@
 use Rattle.std.proofs.Common.{◌-◌, ◌≡◌, ◌≤◌, false, Some}
 use Rattle.disk_trait.specs.Files.{Files}
 use Rattle.intent_journal.specs.Calls.{Reads}
-use Rattle.pool_store.specs.Kept.{slots_of}
+use Rattle.pool_changes.specs.Kept.{slots_of}
 use Rattle.pool_store.specs.Chains.{IsLeast, AreOthers}
 use Rattle.pool_store.proofs.chain.meet.Given as goal
 

@@ -1,5 +1,5 @@
-use Rattle.pool_store.specs.Kept.{slots_of}
-use Rattle.pool_store.proofs.Turning.{first_of}
+use Rattle.pool_changes.specs.Kept.{slots_of}
+use Rattle.pool_changes.specs.StepLaws.{first_of}
 use Rattle.pool_store.proofs.Dooming.{doomed_next}
 use Rattle.pool_store.proofs.opening.doom_files.Goals as goal
 

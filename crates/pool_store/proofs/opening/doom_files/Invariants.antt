@@ -1,5 +1,5 @@
 use Rattle.std.proofs.Common.{drop}
-use Rattle.pool_store.specs.Kept.{slots_of, IsSame}
+use Rattle.pool_changes.specs.Kept.{slots_of, IsSame}
 use Rattle.pool_store.specs.Opening.{doomed_by}
 use Rattle.pool_store.proofs.opening.doom_files.Given as goal
 

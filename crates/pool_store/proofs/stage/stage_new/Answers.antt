@@ -1,8 +1,8 @@
 use Rattle.std.proofs.Common.{ap}
 use Rattle.disk_trait.specs.declared.ids.FileId.TheVariants.{Pool}
 use Rattle.disk_trait.specs.Images.{also, only_wider}
-use Rattle.pool_store.specs.Kept.{slots_of}
-use Rattle.pool_store.specs.Slots.{is_live}
+use Rattle.pool_changes.specs.Kept.{slots_of}
+use Rattle.pool_changes.specs.Slots.{is_live}
 use Rattle.pool_store.proofs.Imaging.{certain_within, certain_also, comes_unlisted}
 use Rattle.pool_store.proofs.stage.stage_new.Goals as goal
 

@@ -1,6 +1,6 @@
 -- What isn't of a pool is told of the files at the start.
 use Rattle.std.proofs.Common.{refl}
-use Rattle.pool_store.specs.Kept.{slots_of}
+use Rattle.pool_changes.specs.Kept.{slots_of}
 use Rattle.pool_store.proofs.Lists.{foreign_back}
 use Rattle.pool_store.proofs.pool.Pool.open.Goals as goal
 

@@ -1,0 +1,11 @@
+pub mod Slots
+pub mod Kept
+pub mod Named
+pub mod NameLaws
+pub mod Listed
+pub mod Written
+pub mod Writing
+pub mod Relisted
+pub mod Indexed
+pub mod StepLaws
+pub mod StillLaws

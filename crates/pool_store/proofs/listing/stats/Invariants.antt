@@ -1,6 +1,0 @@
-use Rattle.pool_store.proofs.Picking.{picked}
-use Rattle.pool_store.proofs.Totals.{item_pick, AreTotalsWith}
-use Rattle.pool_store.proofs.listing.stats.Given as goal
-
-abbrev pub invariant-loop-slot : goal.invariant-loop-slot
-invariant-loop-slot l = AreTotalsWith l.stats (picked item_pick l.slot-iterator) (picked item_pick l.names.map.entries)
