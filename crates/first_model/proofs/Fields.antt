@@ -4,8 +4,8 @@ use Rattle.std.specs.Option.{option_map_or}
 use Rattle.std.proofs.lemmas.Option.{slice_get_read, slice_get_cases, slice_get_within, same_Some}
 use Rattle.first_model.specs.Office.{Office, Host, Dump, IsSound, number_limit}
 use Rattle.first_model.specs.Rules.{add_rule, open_rule_at, put_rule}
-use Rattle.first_model.specs.Step.{with_file_put, with_backup, with_dump_committed, next_number}
-use Rattle.first_model.specs.Soundness.{host_of_dump, new_host, new_dump, dump_with_file, with_file_put-at, with_dump_committed-at, IsSound-host_added, IsSound-dump_opened, IsSound-file_put, IsSound-dump_committed}
+use Rattle.first_model.specs.Step.{new_host, new_dump, dump_with_file, with_file_put, with_backup, with_dump_committed, next_number}
+use Rattle.first_model.specs.SoundnessLaws.{host_of_dump, with_file_put-at, with_dump_committed-at, IsSound-host_added, IsSound-dump_opened, IsSound-file_put, IsSound-dump_committed}
 
 abbrev pub office_of : ℕ → List Host → List Dump → ℕ → Office
 office_of epoch hosts dumps sequence = record { epoch = epoch; hosts = hosts; dumps = dumps; sequence = sequence }

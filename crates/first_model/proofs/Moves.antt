@@ -5,8 +5,9 @@ use Rattle.first_model.specs.declared.event.Event.{Event}
 use Rattle.first_model.specs.declared.event.Refusal.TheVariants.{DiskFault}
 use Rattle.first_model.specs.Office.{Office, IsSound}
 use Rattle.first_model.specs.Step.{Reply, Running, IsStep}
-use Rattle.first_model.specs.History.{Leads, Leads-one}
-use Rattle.first_model.specs.Soundness.{IsSoundState-step}
+use Rattle.first_model.specs.History.{Leads}
+use Rattle.first_model.specs.HistoryLaws.{Leads-one}
+use Rattle.first_model.specs.SoundnessLaws.{IsSoundState-step}
 
 no_fault : (old new : Office) (event : Event) (reply : Reply) → IsStep (Running old) event reply (Running new) → reply ≡ Err DiskFault → Rose 0 0
 no_fault old new event reply step fault = absurd (stopped (subst (λ r. IsStep (Running old) event r (Running new)) fault step))

@@ -1,11 +1,14 @@
 pub mod Nodes
+pub mod NodeLaws
 pub mod Session
 pub mod Office
 pub mod Rules
 pub mod RuleNames
 pub mod Step
 pub mod History
+pub mod HistoryLaws
 pub mod Places
-pub mod Lookups
-pub mod Soundness
+pub mod PlaceLaws
+pub mod LookupLaws
+pub mod SoundnessLaws
 pub mod PlainTrees

@@ -19,19 +19,29 @@ use Rattle.first_model.specs.Rules.{broken_rule, plain_file}
 abbrev pub next_session : Office → SessionName
 next_session office = record { epoch = office.epoch; sequence = office.sequence }
 
+-- a host without backups
+abbrev pub new_host : List ℕ → Host
+new_host name = record { name = name; backups = [] }
+
+-- an open dump of an empty tree
+abbrev pub new_dump : Office → ℕ → ℕ → Dump
+new_dump office place now = record { name = next_session office; host = place; start = now; tree = [] }
+
 -- a further open dump of the host at this place
 abbrev pub with_dump : Office → ℕ → ℕ → Office
-with_dump office place now = record office {
-  dumps = office.dumps ++ (record { name = next_session office; host = place; start = now; tree = [] }) ∷ [];
-  sequence = office.sequence + 1;
-}
+with_dump office place now = record office { dumps = office.dumps ++ new_dump office place now ∷ []; sequence = office.sequence + 1 }
+
+-- the dump with one more file
+abbrev pub dump_with_file : Dump → List ℕ → List ℕ → Dump
+dump_with_file dump path bytes = record dump { tree = with_node dump.tree path (plain_file bytes) }
 
 -- the dump at this place with one more file
 abbrev pub with_file_put : Office → ℕ → List ℕ → List ℕ → Office
 with_file_put office place path bytes = option_map_or
-    (λ dump. record office { dumps = slice_set office.dumps place (record dump { tree = with_node dump.tree path (plain_file bytes) }) })
+    (λ dump. record office { dumps = slice_set office.dumps place (dump_with_file dump path bytes) })
     (slice_get office.dumps place) office
 
+-- the host with the dump as its next backup
 abbrev pub with_backup : Host → Dump → ℕ → Host
 with_backup host dump now = record host { backups = host.backups ++ (record { start = dump.start; end = now; tree = dump.tree }) ∷ [] }
 
@@ -45,7 +55,7 @@ with_dump_committed office place now = option_map_or
 
 -- the office after an event that breaks no rule
 abbrev pub after : Office → Event → Office
-after office (AddHost name) = record office { hosts = office.hosts ++ (record { name = name; backups = [] }) ∷ [] }
+after office (AddHost name) = record office { hosts = office.hosts ++ new_host name ∷ [] }
 after office (OpenDump name kind now) = with_dump office (unwrap_or (host_place office.hosts name) 0) now
 after office (Put session path bytes) = with_file_put office (unwrap_or (dump_place office.dumps session) 0) path bytes
 after office (Commit session now) = with_dump_committed office (unwrap_or (dump_place office.dumps session) 0) now
@@ -63,6 +73,7 @@ bytes_of (Some (File file)) = file.bytes
 bytes_of (Some (Dir dir)) = []
 bytes_of (Some (Link link)) = []
 
+-- the bytes of the file at a path of a backup of a host
 abbrev pub content_of : Option Host → ℕ → List ℕ → List ℕ
 content_of None number path = []
 content_of (Some host) number path = option_map_or (λ backup. bytes_of (node_at backup.tree path)) (backup_of host number) []
@@ -91,6 +102,7 @@ is_commit (Put session path bytes) = false
 is_commit (Commit session now) = true
 is_commit (ReadFile name number path) = false
 
+-- an answer, or why there is none
 abbrev pub Reply : Type 0
 Reply = Result Answer Refusal
 
@@ -103,6 +115,7 @@ pub data State : Type 0 where
   Running : Office → State
   Halted : Office → Office → State
 
+-- each office that the state may stand for is sound
 abbrev pub IsSoundState : State → Type 0
 IsSoundState (Running office) = IsSound office
 IsSoundState (Halted before next) = IsSound before × IsSound next

@@ -4,6 +4,7 @@ ghost use Rattle.first_model.specs.RuleNames.{put_rule_name};
 use crate::session::SessionName;
 use attr_records::{HostName, PathName, PutRule};
 use disk_trait::{Bytes, FileId};
+use std::alloc::AllocError;
 use std::error::Error;
 use std::fmt;
 use stream_traits::Moment;
@@ -166,3 +167,23 @@ impl fmt::Display for Refusal {
 }
 
 impl Error for Refusal {}
+
+impl From<BrokenRule> for Refusal {
+    ghost use Rattle.first_model.specs.declared.event.Refusal.TheVariants.{Broken};
+
+    ghost from_gives = { λ rule refusal. refusal ≡ Broken rule };
+
+    fn from(rule: BrokenRule) -> Refusal {
+        Refusal::Broken(rule)
+    }
+}
+
+impl From<AllocError> for Refusal {
+    ghost use Rattle.first_model.specs.declared.event.Refusal.TheVariants.{Memory};
+
+    ghost from_gives = { λ _ refusal. refusal ≡ Memory };
+
+    fn from(_error: AllocError) -> Refusal {
+        Refusal::Memory
+    }
+}

@@ -11,6 +11,7 @@ use crate::plain::parts::{
 use crate::port::Port;
 use crate::session::SessionName;
 use attr_records::{HostName, PathName};
+use backup_index::{MAX_HOSTS, MAX_NEXT};
 use disk_trait::Bytes;
 use std::alloc::{AllocError, Global};
 use std::marker::Model;
@@ -18,12 +19,6 @@ use stream_traits::Moment;
 
 mod parts;
 mod tree;
-
-/// The most hosts of an office.
-const MOST_HOSTS: usize = 1024;
-
-/// The numbers that a host's backups can have.
-const NUMBERS: usize = 1 << 32;
 
 /// The sessions that an epoch can have.
 const MOST_SESSIONS: u64 = u64::MAX;
@@ -81,16 +76,11 @@ impl PlainOffice {
         if host_place(self.hosts.as_slice(), name).is_some() {
             return Err(Refusal::Broken(BrokenRule::HostExists));
         }
-        if self.hosts.len() >= MOST_HOSTS {
+        if self.hosts.len() >= MAX_HOSTS {
             return Err(Refusal::Broken(BrokenRule::HostsFull));
         }
-        if self.hosts.reserve(1).is_err() {
-            return Err(Refusal::Memory);
-        }
-        let host = match PlainHost::new(alloc, name) {
-            Ok(host) => host,
-            Err(_) => return Err(Refusal::Memory),
-        };
+        self.hosts.reserve(1)?;
+        let host = PlainHost::new(alloc, name)?;
         match self.hosts.push(host) {
             Ok(()) => Ok(Answer::Done),
             Err(_) => unreachable!(),
@@ -109,7 +99,7 @@ impl PlainOffice {
         if dump_of_host(self.dumps.as_slice(), place).is_some() {
             return Err(BrokenRule::SessionOpen);
         }
-        if self.hosts[place].number_of_backups() >= NUMBERS {
+        if self.hosts[place].number_of_backups() as u64 >= MAX_NEXT {
             return Err(BrokenRule::NumbersSpent);
         }
         if self.sequence >= MOST_SESSIONS {
@@ -153,14 +143,9 @@ impl PlainOffice {
     ) -> Result<Answer, Refusal>
         ensures { IsOfficeStep self.old (Event.OpenDump name.now kind now) result (Running self.new) }
     {
-        let place = match self.opening(name) {
-            Ok(place) => place,
-            Err(rule) => return Err(Refusal::Broken(rule)),
-        };
-        match self.push_dump(alloc, place, now) {
-            Ok(session) => Ok(Answer::Dump(session)),
-            Err(_) => Err(Refusal::Memory),
-        }
+        let place = self.opening(name)?;
+        let session = self.push_dump(alloc, place, now)?;
+        Ok(Answer::Dump(session))
     }
 
     /// The place of the open dump that a file may be put into, or the rule that the put breaks.
@@ -208,14 +193,9 @@ impl PlainOffice {
     ) -> Result<Answer, Refusal>
         ensures { IsOfficeStep self.old (Event.Put session path.now bytes.now) result (Running self.new) }
     {
-        let place = match self.putting(session, path, bytes) {
-            Ok(place) => place,
-            Err(rule) => return Err(Refusal::Broken(rule)),
-        };
-        match self.put_at(alloc, place, path, bytes) {
-            Ok(()) => Ok(Answer::Done),
-            Err(_) => Err(Refusal::Memory),
-        }
+        let place = self.putting(session, path, bytes)?;
+        self.put_at(alloc, place, path, bytes)?;
+        Ok(Answer::Done)
     }
 
     /// Makes the dump at this place the next backup of its host, and answers its number. Without
@@ -237,10 +217,8 @@ impl PlainOffice {
             Some(place) => place,
             None => return Err(Refusal::Broken(BrokenRule::NoSession)),
         };
-        match self.commit_at(place, now) {
-            Ok(number) => Ok(Answer::Committed(number)),
-            Err(_) => Err(Refusal::Memory),
-        }
+        let number = self.commit_at(place, now)?;
+        Ok(Answer::Committed(number))
     }
 
     fn read_file(
@@ -252,20 +230,16 @@ impl PlainOffice {
     ) -> Result<Answer, Refusal>
         ensures { IsOfficeStep self.now (Event.ReadFile name.now number path.now) result (Running self.now) }
     {
-        let bytes = match file_of(self.hosts.as_slice(), name, number, path) {
-            Ok(bytes) => bytes,
-            Err(rule) => return Err(Refusal::Broken(rule)),
-        };
-        match bytes.copy(alloc) {
-            Ok(copy) => Ok(Answer::Content(copy)),
-            Err(_) => Err(Refusal::Memory),
-        }
+        let bytes = file_of(self.hosts.as_slice(), name, number, path)?;
+        let copy = bytes.copy(alloc)?;
+        Ok(Answer::Content(copy))
     }
 }
 
 /// A port whose moves are the legal histories of an office without faults.
 impl Port for PlainOffice {
-    ghost use Rattle.first_model.specs.History.{Leads, Leads-none, Leads-append};
+    ghost use Rattle.first_model.specs.History.{Leads};
+    ghost use Rattle.first_model.specs.HistoryLaws.{Leads-none, Leads-append};
     ghost use Rattle.first_model.specs.Step.{Running};
 
     ghost moves = { λ p calls q. Leads (Running p) 0 calls (Running q) 0 };

@@ -6,8 +6,7 @@ ghost use Rattle.attr_records.specs.Trees.{node_at};
 ghost use Rattle.first_model.specs.Session.{is_same_session};
 ghost use Rattle.first_model.specs.Office.{Host, Backup, Dump, host_place, host_named, dump_place, dump_of_host};
 ghost use Rattle.first_model.specs.Rules.{plain_file, file_rule, read_rule};
-ghost use Rattle.first_model.specs.Step.{with_backup, bytes_of, content_of};
-ghost use Rattle.first_model.specs.Soundness.{dump_with_file, new_host};
+ghost use Rattle.first_model.specs.Step.{new_host, dump_with_file, with_backup, bytes_of, content_of};
 
 use crate::event::BrokenRule;
 use crate::plain::tree::{Row, broken_put, node_at, put_file};

@@ -1,5 +1,5 @@
 use Rattle.std.proofs.Common.{◌≡◌, [], ◌∷◌, ◌++◌}
-use Rattle.first_model.specs.Soundness.{new_dump}
+use Rattle.first_model.specs.Step.{new_dump}
 use Rattle.first_model.proofs.Fields.{office_of, dump_opened}
 use Rattle.first_model.proofs.plain.PlainOffice.push_dump.Goals as goal
 

@@ -1,6 +1,7 @@
 use Rattle.std.proofs.Common.{◌≡◌, Ok, Err}
 use Rattle.first_model.specs.Rules.{plain_file}
-use Rattle.first_model.specs.PlainTrees.{place_from, put-replaces, put-inserts}
+use Rattle.first_model.specs.PlainTrees.{place_from}
+use Rattle.first_model.proofs.PlainTreeLaws.{put-replaces, put-inserts}
 use Rattle.first_model.proofs.plain.tree.put_file.Goals as goal
 
 pub returns-in-Ok-clause-ok : goal.returns-in-Ok-clause-ok

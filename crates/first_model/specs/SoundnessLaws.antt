@@ -1,5 +1,5 @@
 -- The laws of soundness: the office without hosts is sound, and stays sound by each event that breaks no rule and by each reopening.
-use Rattle.std.specs.Prelude.{◌≡◌, ◌≢◌, ℕ, ◌+◌, ◌-◌, ◌<◌, ◌≤◌, ◌^◌, Bool, true, false, List, [], ◌∷◌, ◌++◌, length, get_or, Option, Some, None, Ok, Err, IfOk, ◌⊎◌, is_some, nat_le, if◌then◌else◌, slice_get, slice_set, unwrap_or}
+use Rattle.std.specs.Prelude.{◌≡◌, ◌≢◌, ℕ, ◌+◌, ◌-◌, ◌<◌, ◌≤◌, ◌^◌, Bool, true, false, List, [], ◌∷◌, ◌++◌, length, get_or, Option, Some, None, Ok, Err, ◌⊎◌, is_some, nat_le, if◌then◌else◌, slice_get, slice_set, unwrap_or}
 use Rattle.std.specs.List.{remove}
 use Rattle.std.specs.Option.{option_map, option_map_or, option_and_then}
 use Rattle.std.proofs.Common.{refl, sym, ap, ◌∙◌, subst, inl, inr, arith, length-append}
@@ -7,19 +7,20 @@ use Rattle.std.proofs.Math.ListN.{length-set}
 use Rattle.std.proofs.lemmas.Bool.Decides.{nat_tests}
 use Rattle.std.proofs.lemmas.Option.{slice_get_within, slice_get_cases}
 use Rattle.attr_records.specs.declared.trees.PutRule.{PutRule}
-use Rattle.attr_records.specs.Trees as Trees
-use Rattle.first_model.specs.Nodes.{IsTree, IsTree-nil, IsTree-with_file, broken_put}
+use Rattle.first_model.specs.Nodes.{IsTree, broken_put}
+use Rattle.first_model.specs.NodeLaws.{IsTree-nil, IsTree-with_file}
 use Rattle.first_model.specs.declared.session.SessionName.{SessionName}
 use Rattle.first_model.specs.declared.event.Event.{Event}
 use Rattle.first_model.specs.declared.event.Event.TheVariants.{AddHost, OpenDump, Put, Commit, ReadFile}
 use Rattle.first_model.specs.declared.event.BrokenRule.{BrokenRule}
 use Rattle.first_model.specs.declared.event.BrokenRule.TheVariants.{NoHost, Put as BrokenPut}
 use Rattle.first_model.specs.declared.event.Refusal.TheVariants.{Broken, Halted as HaltedReply, DiskFault, Damaged, Memory}
-use Rattle.first_model.specs.Office.{Office, Host, Backup, Dump, no_office, durable, reopened, host_place, host_named, dump_place, dump_named, dump_of_host, number_limit, host_limit, IsSoundDump, IsSoundHost, IsSound}
+use Rattle.first_model.specs.Office.{Office, Host, Backup, Dump, no_office, durable, reopened, host_place, dump_place, dump_of_host, number_limit, host_limit, IsSoundDump, IsSoundHost, IsSound}
 use Rattle.first_model.specs.Rules.{broken_rule, add_rule, open_rule, open_rule_at, put_rule, plain_file}
-use Rattle.first_model.specs.Step.{with_dump, with_file_put, with_backup, with_dump_committed, after, next_session, Reply, State, Running, Halted, IsSoundState, IsStep, IsAnswerTo, answer_of, next_number, content_of}
-use Rattle.first_model.specs.Places.{AtEach-longer, AtEach-set, Differ-longer, Differ-set, Differ-remove, slice_get-set_other, slice_get-remove, place_before, place_before-other, in_longer}
-use Rattle.first_model.specs.Lookups.{host_place-none, dump_of_host-none}
+use Rattle.first_model.specs.Step.{new_host, new_dump, dump_with_file, with_dump, with_file_put, with_backup, with_dump_committed, after, Reply, State, Running, Halted, IsSoundState, IsStep}
+use Rattle.first_model.specs.Places.{place_before}
+use Rattle.first_model.specs.PlaceLaws.{AtEach-longer, AtEach-set, Differ-longer, Differ-set, Differ-remove, slice_get-set_other, slice_get-remove, place_before-other, in_longer}
+use Rattle.first_model.specs.LookupLaws.{host_place-none, dump_of_host-none}
 
 -- the host of an open dump is there
 pub host_of_dump : (office : Office) (place : ℕ) (dump : Dump) → IsSound office → slice_get office.dumps place ≡ Some dump → (host : Host) × (slice_get office.hosts dump.host ≡ Some host) × (length host.backups < number_limit)
@@ -89,9 +90,6 @@ IsSound-with_dump_committed office place now dump sound at = step (host_of_dump 
 
 -- ---- a further file in the tree of the dump at a place
 
-abbrev pub dump_with_file : Dump → List ℕ → List ℕ → Dump
-dump_with_file dump path bytes = record dump { tree = Trees.with_node dump.tree path (plain_file bytes) }
-
 pub with_file_put-at : (office : Office) (place : ℕ) (path bytes : List ℕ) (dump : Dump) → slice_get office.dumps place ≡ Some dump
     → with_file_put office place path bytes ≡ record office { dumps = slice_set office.dumps place (dump_with_file dump path bytes) }
 with_file_put-at office place path bytes dump at =
@@ -120,9 +118,6 @@ IsSound-with_file_put office place path bytes dump sound at rule = subst IsSound
 
 -- ---- a further open dump
 
-abbrev pub new_dump : Office → ℕ → ℕ → Dump
-new_dump office place now = record { name = next_session office; host = place; start = now; tree = [] }
-
 IsSound-with_dump : (office : Office) (place now : ℕ) (host : Host) → IsSound office → slice_get office.hosts place ≡ Some host → length host.backups < number_limit → dump_of_host office.dumps place ≡ None → IsSound (with_dump office place now)
 IsSound-with_dump office place now host sound at room none = record {
   few_hosts = sound.few_hosts;
@@ -149,9 +144,6 @@ IsSound-with_dump office place now host sound at room none = record {
     given_before dump was same = omega (arith, was.given_out)
 
 -- ---- a further host
-
-abbrev pub new_host : List ℕ → Host
-new_host name = record { name = name; backups = [] }
 
 IsSound-with_host : (office : Office) (name : List ℕ) → IsSound office → host_place office.hosts name ≡ None → length office.hosts < host_limit → IsSound (record office { hosts = office.hosts ++ new_host name ∷ [] })
 IsSound-with_host office name sound none room = record {
