@@ -1,0 +1,17 @@
+use Rattle.std.proofs.Common.{◌≡◌, sym, ap, subst, ◌∙◌}
+use Rattle.ordered_lists.specs.Merge.{merge}
+use Rattle.pool_index.specs.Items.{id_cmp}
+use Rattle.ref_counts.specs.Numbers.{Items, AreCounts, number, summed}
+use Rattle.ref_counts.specs.NumberLaws.{AreCounts-summed, number-summed}
+use Rattle.ref_counts.proofs.Merged.{merged}
+use Rattle.ref_counts.proofs.counts.add.Goals as goal
+
+pub from_items-requires : goal.from_items-requires
+from_items-requires c =
+    subst (λ (items : Items). AreCounts items) (sym (merged summed _ _ _ _ _ c.in_ok-items.ensures c.items.ensures.items c.items-2.ensures.items))
+    (AreCounts-summed c.args.counts.now c.args.more.now c.items.ensures.are c.items-2.ensures.are)
+
+pub returns : goal.returns
+returns c = λ id.
+    ap (λ (items : Items). number items id) (c.from_items.ensures ∙ merged summed _ _ _ _ _ c.in_ok-items.ensures c.items.ensures.items c.items-2.ensures.items)
+    ∙ number-summed c.args.counts.now c.args.more.now c.items.ensures.are c.items-2.ensures.are id

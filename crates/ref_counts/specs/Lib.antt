@@ -1,0 +1,10 @@
+pub mod Cleaning
+pub mod CountsFile
+pub mod Faults
+pub mod Ids
+pub mod Layout
+pub mod LayoutLaws
+pub mod NumberLaws
+pub mod Numbers
+pub mod Stored
+pub mod StoredLaws
