@@ -1,0 +1,4 @@
+pub mod Clock
+pub mod Zones
+pub mod Contact
+pub mod Nights
