@@ -14,7 +14,7 @@ use Rattle.first_model.specs.Office.{Office, Host, Backup, Dump, IsSound, host_p
 use Rattle.first_model.specs.declared.event.BrokenRule.TheVariants.{NoSession}
 use Rattle.first_model.specs.Rules.{broken_rule, plain_file}
 use Rattle.first_model.specs.Step.{after, next_session, next_number, with_file_put, with_dump_committed, with_backup}
-use Rattle.first_model.specs.Soundness.{IsSound-after, host_of_dump, with_dump_committed-at}
+use Rattle.first_model.specs.SoundnessLaws.{IsSound-after, host_of_dump, with_dump_committed-at}
 use Rattle.first_store.specs.Lives.{dumps_with_file, MayCommit, Commits, IsCommitFiles}
 
 pub sound_with_host : (office office' : Office) (name name' : List ℕ) (host : Host) (hosts : List Host) → IsSound office → office ≡ office'

@@ -11,8 +11,8 @@ use Rattle.first_model.specs.declared.event.Event.TheVariants.{AddHost, Commit}
 use Rattle.first_model.specs.Office.{Office, Host, Backup, Dump, IsSound, durable}
 use Rattle.first_model.specs.Rules.{broken_rule}
 use Rattle.first_model.specs.Step.{after, with_backup, with_dump_committed}
-use Rattle.first_model.specs.Places.{in_longer, in_set}
-use Rattle.first_model.specs.Soundness.{IsSound-after, IsSound-durable, with_dump_committed-at}
+use Rattle.first_model.specs.PlaceLaws.{in_longer, in_set}
+use Rattle.first_model.specs.SoundnessLaws.{IsSound-after, IsSound-durable, with_dump_committed-at}
 use Rattle.first_store.specs.Layout.{head_file, table_file, with_file, rewritten}
 use Rattle.first_store.specs.Lives.{IsCommitFiles}
 use Rattle.first_store.specs.Kept.{IsHeadOf, StandsFor, Tells}

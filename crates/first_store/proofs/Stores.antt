@@ -1,27 +1,46 @@
 -- What a store at work does, as its clauses say it.
 use Rattle.std.specs.Option.{ForSome}
-use Rattle.std.proofs.Common.{◌≡◌, ℕ, [], arith, true, false, List, Option, None, Some, Ok, refl, sym, ap, ◌∙◌, subst, inr, unwrap_or}
+use Rattle.std.specs.Result.{IsErrAnd}
+use Rattle.std.proofs.lemmas.Result.{err_from_is_err_and}
+use Rattle.std.proofs.Common.{◌≡◌, ℕ, [], arith, true, false, List, Option, None, Some, Ok, Err, refl, sym, ap, ◌∙◌, subst, inr, unwrap_or}
 use Rattle.fault_counts.specs.Counts.{Counted}
 use Rattle.disk_trait.specs.declared.ids.FileId.{FileId}
 use Rattle.disk_trait.specs.declared.ids.FileId.TheVariants.{Head}
 use Rattle.disk_trait.specs.declared.disk.Disk.{Ghosts}
 use Rattle.disk_trait.specs.Names.{is_same_file-itself}
-use Rattle.disk_trait.specs.Files.{Files, SameButOne}
+use Rattle.disk_trait.specs.Files.{Files}
 use Rattle.first_model.specs.declared.session.SessionName.{SessionName}
 use Rattle.first_model.specs.declared.event.Event.{Event}
 use Rattle.first_model.specs.declared.event.Event.TheVariants.{AddHost, Commit}
 use Rattle.first_model.specs.declared.event.Answer.TheVariants.{Done, Committed}
+use Rattle.first_model.specs.declared.event.Refusal.TheVariants.{Memory}
 use Rattle.first_model.specs.Office.{Office, IsSound, durable, reopened, no_office, dump_place, dump_named}
 use Rattle.first_model.specs.Rules.{broken_rule}
 use Rattle.first_model.specs.Step.{Reply, State, Running, Halted, IsOfficeStep, IsStep, IsSoundState, after, next_number}
 use Rattle.first_model.specs.History.{GoesOn}
-use Rattle.first_model.specs.Soundness.{IsSoundState-step, IsSound-durable, IsSound-reopened, IsSound-no_office}
+use Rattle.first_model.specs.SoundnessLaws.{IsSoundState-step, IsSound-durable, IsSound-reopened, IsSound-no_office}
 use Rattle.first_store.specs.Layout.{head_file, with_file, rewritten}
 use Rattle.first_store.specs.Lives.{IsCommitFiles}
 use Rattle.first_store.specs.declared.store.Store.{Store}
-use Rattle.first_store.specs.Kept.{IsHeadOf, StandsFor, Opens, Tells, InState, IsAt, Works, Serves}
+use Rattle.first_store.specs.Kept.{IsHeadOf, StandsFor, Founds, Opens, Tells, InState, IsAt, Works, Serves}
 use Rattle.first_store.proofs.Lives.{committing}
 use Rattle.first_store.proofs.Stands.{tells_added, tells_committed}
+
+-- want of memory, which changed nothing
+pub works_not : {D : Type 0} {d : Ghosts D} (old new : Store D d) (event : Event) (reply : Reply) → IsErrAnd reply (λ fault. fault ≡ Memory) → old.halted ≡ false
+    → new.halted ≡ old.halted → new.office ≡ old.office → new.disk ≡ old.disk → Works old event reply new
+works_not {d = d} old new event reply wanting ready halted office disk =
+    let why = err_from_is_err_and reply wanting in
+    let is : reply ≡ Err Memory = why.1 ∙ ap Err why.2 in
+    record {
+      next = Running old.office;
+      step = subst (λ r. IsOfficeStep old.office event r (Running old.office)) (sym is) refl;
+      at = (halted ∙ ready, office);
+      keeps = λ now sound tells. rw (disk, office) tells;
+      counted = record { later = rw disk (omega arith); rose = λ e. cc; stays = λ other. ap d.fault_count disk };
+      stops = λ stopped. cc;
+      halts = λ fault. cc;
+    }
 
 pub works_added : {D : Type 0} {d : Ghosts D} (old new : Store D d) (name head : List ℕ) → old.halted ≡ false → broken_rule old.office (AddHost name) ≡ None
     → new.halted ≡ old.halted → new.office ≡ after old.office (AddHost name)
@@ -101,28 +120,15 @@ stands_opened files head head_is = record {
   sound = IsSound-durable (reopened no_office) (IsSound-reopened no_office IsSound-no_office);
 }
 
-pub opens : {D : Type 0} {d : Ghosts D} (disk read : D) (store : Store D d) (head slice : List ℕ) {failed failed' : Type 0}
-    → ForSome (d.files disk) (λ all. None ≡ all Head) → d.files read ≡ d.files disk → Counted (d.fault_count disk) (d.fault_count read) failed → (failed → ⊥)
-    → store.halted ≡ false → store.office ≡ record { epoch = 1; hosts = []; dumps = []; sequence = 0 }
+-- the disk of a store that is new
+pub founds : {D : Type 0} (files : D → Option Files) (faults : D → ℕ) (disk read made : D) (head slice : List ℕ) {failed failed' : Type 0}
+    → ForSome (files disk) (λ all. None ≡ all Head) → files read ≡ files disk → Counted (faults disk) (faults read) failed → (failed → ⊥)
     → slice ≡ head → head ≡ head_file 1 []
-    → d.files store.disk ≡ rewritten (d.files read) Head slice → Counted (d.fault_count read) (d.fault_count store.disk) failed' → (failed' → ⊥)
-    → Opens disk store
-opens {d = d} disk read store head slice absent same counted fine ready office slice_is head_is written counted' fine' = record {
-  absent = absent_is (d.files disk) absent;
-  running = λ before tells.
-      let none : before ≡ no_office = first before tells.all (tells.all Head) (absent tells.all tells.told) tells.stands.head in
-      record {
-        ready = ready;
-        office_is = office ∙ ap reopened (sym none);
-        sound = IsSound-reopened before tells.stands.sound;
-        tells = record {
-          all = with_file tells.all Head slice;
-          told = written ∙ ap (λ o. rewritten o Head slice) (same ∙ tells.told);
-          stands = subst (λ o. StandsFor (with_file tells.all Head slice) (durable (reopened o))) (sym none) (stands_opened tells.all slice (slice_is ∙ head_is));
-        };
-      };
-  ready = ready;
-  office = office;
+    → files made ≡ rewritten (files read) Head slice → Counted (faults read) (faults made) failed' → (failed' → ⊥)
+    → Founds files faults disk made
+founds files faults disk read made head slice absent same counted fine slice_is head_is written counted' fine' = record {
+  absent = absent_is (files disk) absent;
+  written = written ∙ ap (λ o. rewritten o Head slice) same ∙ ap (rewritten (files disk) Head) (slice_is ∙ head_is);
   calm = counted'.stays fine' ∙ counted.stays fine;
 }
   where
@@ -130,6 +136,27 @@ opens {d = d} disk read store head slice absent same counted fine ready office s
     absent_is None h = λ all e. cc
     absent_is (Some all) h = λ other e. sym (h other e)
 
-    first : (before : Office) (all : Files) (head : Option (List ℕ)) → None ≡ head → IsHeadOf head before → before ≡ no_office
+pub opens : {D : Type 0} {d : Ghosts D} (disk : D) (store : Store D d) → Founds d.files d.fault_count disk store.disk
+    → store.halted ≡ false → store.office ≡ record { epoch = 1; hosts = []; dumps = []; sequence = 0 } → Opens disk store
+opens {d = d} disk store founded ready office = record {
+  absent = founded.absent;
+  running = λ before tells.
+      let none : before ≡ no_office = first before tells.all (tells.all Head) (founded.absent tells.all tells.told) tells.stands.head in
+      record {
+        ready = ready;
+        office_is = office ∙ ap reopened (sym none);
+        sound = IsSound-reopened before tells.stands.sound;
+        tells = record {
+          all = with_file tells.all Head (head_file 1 []);
+          told = founded.written ∙ ap (λ o. rewritten o Head (head_file 1 [])) tells.told;
+          stands = subst (λ o. StandsFor (with_file tells.all Head (head_file 1 [])) (durable (reopened o))) (sym none) (stands_opened tells.all (head_file 1 []) refl);
+        };
+      };
+  ready = ready;
+  office = office;
+  calm = founded.calm;
+}
+  where
+    first : (before : Office) (all : Files) (head : Option (List ℕ)) → head ≡ None → IsHeadOf head before → before ≡ no_office
     first before all None e h = h
     first before all (Some bytes) e h = cc

@@ -1,5 +1,5 @@
 -- What a store keeps: the disk's files stand for the office, and the store has the office in memory.
-use Rattle.std.specs.Prelude.{◌≡◌, ◌≢◌, ℕ, ◌≤◌, true, false, List, Option, Some, None, Err, slice_get, IsSome, ◌⊎◌}
+use Rattle.std.specs.Prelude.{◌≡◌, ◌≢◌, ℕ, ◌≤◌, true, false, List, [], Option, Some, None, Err, slice_get, IsSome, ◌⊎◌}
 use Rattle.std.specs.Option.{ForSome}
 use Rattle.fault_counts.specs.Counts.{Rose, Counted}
 use Rattle.first_store.specs.declared.open.OpenFault.{OpenFault}
@@ -12,7 +12,7 @@ use Rattle.first_model.specs.declared.event.Refusal.TheVariants.{Halted as Halte
 use Rattle.first_model.specs.Office.{Office, Host, Backup, IsSound, durable, no_office, reopened}
 use Rattle.first_model.specs.Step.{Reply, Call, State, Running, Halted, IsOfficeStep}
 use Rattle.first_model.specs.History.{GoesOn, Leads}
-use Rattle.first_store.specs.Layout.{head_file, table_file}
+use Rattle.first_store.specs.Layout.{head_file, table_file, rewritten}
 use Rattle.first_store.specs.declared.store.Store.{Store}
 
 -- Head holds the epoch and the hosts; where it is absent, the office has had no opening yet
@@ -95,6 +95,12 @@ pub record Opens {D : Type 0} {d : Ghosts D} (disk : D) (store : Store D d) : Ty
   pub ready : store.halted ≡ false
   pub office : store.office ≡ reopened no_office
   pub calm : d.fault_count store.disk ≡ d.fault_count disk
+
+-- the first Head was written to a disk that had none, and no call of the disk failed
+pub record Founds {D : Type 0} (files : D → Option Files) (faults : D → ℕ) (disk disk' : D) : Type 0 where
+  pub absent : ForSome (files disk) (λ all. all Head ≡ None)
+  pub written : files disk' ≡ rewritten (files disk) Head (head_file 1 [])
+  pub calm : faults disk' ≡ faults disk
 
 -- why a disk was refused: Head is there, with the bytes found
 abbrev pub IsCause : OpenFault → Option Files → Type 0

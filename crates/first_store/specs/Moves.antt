@@ -5,7 +5,7 @@ use Rattle.fault_counts.specs.Counts.{Rose}
 use Rattle.disk_trait.specs.declared.disk.Disk.{Ghosts}
 use Rattle.first_model.specs.declared.event.Event.{Event}
 use Rattle.first_model.specs.Step.{Reply, Call}
-use Rattle.first_model.specs.History.{Leads-none, Leads-one, Leads-append}
+use Rattle.first_model.specs.HistoryLaws.{Leads-none, Leads-one, Leads-append}
 use Rattle.first_store.specs.declared.store.Store.{Store}
 use Rattle.first_store.specs.Kept.{Serves, Moves}
 

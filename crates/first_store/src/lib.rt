@@ -3,6 +3,7 @@
 //! It knows the model, the disk and the layouts of its own files; no HTTP and no time but the events'.
 #![tactic(auto)]
 
+mod founding;
 #[tactic(auto, unfolding(crate::specs::Layout::host_line, crate::specs::Layout::head_start, crate::specs::Layout::file_line, crate::specs::Layout::table_start))]
 mod layout;
 mod live;

@@ -5,6 +5,7 @@ ghost use Rattle.first_model.specs.Office.{host_place, dump_place, dump_of_host}
 use crate::layout::{head_file, table_file};
 use crate::parts::{Dump, Host};
 use attr_records::{HostName, Item, PathName};
+use backup_index::{MAX_HOSTS, MAX_NEXT};
 use disk_trait::{Bytes, FileId};
 use first_model::{BrokenRule, Event, SessionName};
 use std::alloc::{AllocError, Global};
@@ -46,11 +47,8 @@ fn put_into(
     if place >= dumps.len() {
         return Ok(());
     }
-    let dump = &mut dumps[place];
-    match dump.put(alloc, path, bytes.as_slice()) {
-        Ok(()) => Ok(()),
-        Err(error) => Err(error),
-    }
+    dumps[place].put(alloc, path, bytes.as_slice())?;
+    Ok(())
 }
 
 /// Makes the dump at this place the next backup of its host, and gives the backup's number.
@@ -68,10 +66,7 @@ fn commit_at(
     let dump = &mut dumps[place];
     let host = &mut hosts[dump.host()];
     let number = host.backups().len() as u32;
-    match host.commit(alloc, dump, now) {
-        Ok(()) => {}
-        Err(error) => return Err(error),
-    }
+    host.commit(alloc, dump, now)?;
     dumps.remove(place);
     Ok(number)
 }
@@ -164,7 +159,7 @@ impl LiveOffice {
         if host_place(&self.hosts, name).is_some() {
             return Some(BrokenRule::HostExists);
         }
-        if self.hosts.len() >= 1024 {
+        if self.hosts.len() >= MAX_HOSTS {
             return Some(BrokenRule::HostsFull);
         }
         None
@@ -182,7 +177,7 @@ impl LiveOffice {
         if dump_of_host(&self.dumps, place).is_some() {
             return Some(BrokenRule::SessionOpen);
         }
-        if host.backups().len() >= 1 << 32 {
+        if host.backups().len() as u64 >= MAX_NEXT {
             return Some(BrokenRule::NumbersSpent);
         }
         if self.sequence == u64::MAX {

@@ -1,4 +1,5 @@
-use disk_trait::{Bytes, Disk, FileId};
+use disk_trait::{Bytes, Disk, Failed, FileId};
+use std::alloc::AllocError;
 use std::error::Error;
 use std::fmt;
 
@@ -24,6 +25,28 @@ impl fmt::Display for OpenFault {
 }
 
 impl Error for OpenFault {}
+
+impl From<Failed> for OpenFault {
+    ghost use Rattle.std.specs.Prelude.{◌≡◌};
+    ghost use Rattle.first_store.specs.declared.open.OpenFault.TheVariants.{Disk};
+
+    ghost from_gives = { λ _ fault. fault ≡ Disk };
+
+    fn from(_failed: Failed) -> OpenFault {
+        OpenFault::Disk
+    }
+}
+
+impl From<AllocError> for OpenFault {
+    ghost use Rattle.std.specs.Prelude.{◌≡◌};
+    ghost use Rattle.first_store.specs.declared.open.OpenFault.TheVariants.{Memory};
+
+    ghost from_gives = { λ _ fault. fault ≡ Memory };
+
+    fn from(_error: AllocError) -> OpenFault {
+        OpenFault::Memory
+    }
+}
 
 /// A disk on which no store was opened, handed back.
 #[derive(Drop)]

@@ -1,31 +1,26 @@
-ghost use Rattle.std.specs.Prelude.{◌≡◌, ⊤, Some, IsErr, OnOk, OnErr};
+ghost use Rattle.std.specs.Prelude.{◌≡◌, ⊤, IsErr, OnOk, OnErr};
 ghost use Rattle.fault_counts.specs.Counts.{Counted};
 ghost use Rattle.disk_trait.specs.Files.{SameButOne};
 ghost use Rattle.first_store.specs.Layout.{rewritten};
 
-use crate::layout::first_head_file;
+use crate::founding::found_store;
 use crate::live::{CommitFiles, LiveOffice};
-use crate::open::{OpenFault, OpenRefused};
+use crate::open::OpenRefused;
 use attr_records::HostName;
-use disk_trait::{Bytes, Disk, DiskError, Failed, FileId};
+use disk_trait::{Disk, Failed, FileId};
 use first_model::{Answer, Event, Refusal, SessionName};
 use std::alloc::Global;
 use stream_traits::Moment;
 
 /// Writes a file and makes it durable.
-fn keep_file<D: Disk>(disk: &mut D, file: FileId, bytes: &[u8]) -> Result<(), Failed>
+pub(crate) fn keep_file<D: Disk>(disk: &mut D, file: FileId, bytes: &[u8]) -> Result<(), Failed>
     ensures told { OnOk result (D.files disk.new ≡ rewritten (D.files disk.old) file bytes.now) }
     ensures others { OnErr result (SameButOne file (D.files disk.old) (D.files disk.new)) }
     ensures counted { Counted (D.fault_count disk.old) (D.fault_count disk.new) (IsErr result) }
 {
-    match disk.write(file, bytes) {
-        Ok(()) => {}
-        Err(Failed) => return Err(Failed),
-    }
-    match disk.sync() {
-        Ok(()) => Ok(()),
-        Err(Failed) => Err(Failed),
-    }
+    disk.write(file, bytes)?;
+    disk.sync()?;
+    Ok(())
 }
 
 /// Writes the table of a new backup, and then Head, which counts it.
@@ -33,24 +28,9 @@ fn keep_commit<D: Disk>(disk: &mut D, files: &CommitFiles) -> Result<(), Failed>
     ensures told { OnOk result (D.files disk.new ≡ rewritten (rewritten (D.files disk.old) files.now.table files.now.table_bytes.items) FileId.Head files.now.head_bytes.items) }
     ensures counted { Counted (D.fault_count disk.old) (D.fault_count disk.new) (IsErr result) }
 {
-    match keep_file(disk, files.table, files.table_bytes.as_slice()) {
-        Ok(()) => {}
-        Err(Failed) => return Err(Failed),
-    }
-    match keep_file(disk, FileId::Head, files.head_bytes.as_slice()) {
-        Ok(()) => Ok(()),
-        Err(Failed) => Err(Failed),
-    }
-}
-
-/// The refusal of a Head that is there.
-fn foreign_head(found: Bytes) -> OpenFault
-    ensures { result ≡ OpenFault.Foreign FileId.Head (Some found) }
-{
-    OpenFault::Foreign {
-        file: FileId::Head,
-        found: Some(found),
-    }
+    keep_file(disk, files.table, files.table_bytes.as_slice())?;
+    keep_file(disk, FileId::Head, files.head_bytes.as_slice())?;
+    Ok(())
 }
 
 /// An office on a disk.
@@ -80,40 +60,14 @@ impl<D: Disk> Store<D> {
         ensures refused { IfErr result (λ refused. Refuses D.files D.fault_count disk refused.disk refused.fault) }
     {
         let mut disk = disk;
-        match disk.read(alloc, FileId::Head) {
-            Ok(None) => {}
-            Ok(Some(found)) => return Err(OpenRefused {
+        match found_store(alloc, &mut disk) {
+            Ok(()) => Ok(Store {
                 disk,
-                fault: foreign_head(found),
+                office: LiveOffice::new(alloc, 1),
+                halted: false,
             }),
-            Err(DiskError::Failed) => return Err(OpenRefused {
-                disk,
-                fault: OpenFault::Disk,
-            }),
-            Err(DiskError::Memory) => return Err(OpenRefused {
-                disk,
-                fault: OpenFault::Memory,
-            }),
+            Err(fault) => Err(OpenRefused { disk, fault }),
         }
-        let head = match first_head_file(alloc, 1) {
-            Ok(head) => head,
-            Err(_) => return Err(OpenRefused {
-                disk,
-                fault: OpenFault::Memory,
-            }),
-        };
-        match keep_file(&mut disk, FileId::Head, head.as_slice()) {
-            Ok(()) => {}
-            Err(Failed) => return Err(OpenRefused {
-                disk,
-                fault: OpenFault::Disk,
-            }),
-        }
-        Ok(Store {
-            disk,
-            office: LiveOffice::new(alloc, 1),
-            halted: false,
-        })
     }
 
     /// The disk.
@@ -159,32 +113,25 @@ impl<D: Disk> Store<D> {
         ensures works { Works self.old event.now result self.new }
         ensures in_kind { IfOk result (IsAnswerTo event.now) }
     {
-        match self.office.broken_rule(alloc, event) {
-            Err(_) => return Err(Refusal::Memory),
-            Ok(Some(rule)) => return Err(Refusal::Broken(rule)),
-            Ok(None) => {}
+        match self.office.broken_rule(alloc, event)? {
+            Some(rule) => return Err(Refusal::Broken(rule)),
+            None => {}
         }
         match event {
             Event::AddHost { host } => self.add_host(alloc, host),
-            Event::OpenDump { host, kind: _, now } => match self
-                .office
-                .open_dump(alloc, host, *now)
-            {
-                Ok(session) => Ok(Answer::Dump(session)),
-                Err(_) => Err(Refusal::Memory),
-            },
-            Event::Put { dump, path, bytes } => match self.office.put(alloc, *dump, path, bytes) {
-                Ok(()) => Ok(Answer::Done),
-                Err(_) => Err(Refusal::Memory),
-            },
+            Event::OpenDump { host, kind: _, now } => {
+                let session = self.office.open_dump(alloc, host, *now)?;
+                Ok(Answer::Dump(session))
+            }
+            Event::Put { dump, path, bytes } => {
+                self.office.put(alloc, *dump, path, bytes)?;
+                Ok(Answer::Done)
+            }
             Event::Commit { dump, now } => self.commit(alloc, *dump, *now),
-            Event::ReadFile { host, number, path } => match self
-                .office
-                .read_file(alloc, host, *number, path)
-            {
-                Ok(bytes) => Ok(Answer::Content(bytes)),
-                Err(_) => Err(Refusal::Memory),
-            },
+            Event::ReadFile { host, number, path } => {
+                let bytes = self.office.read_file(alloc, host, *number, path)?;
+                Ok(Answer::Content(bytes))
+            }
         }
     }
 
@@ -193,14 +140,8 @@ impl<D: Disk> Store<D> {
         requires rule { broken_rule self.old.office (AddHost host.now) ≡ None }
         ensures { Works self.old (AddHost host.now) result self.new }
     {
-        let head = match self.office.head_with_host(alloc, host) {
-            Ok(head) => head,
-            Err(_) => return Err(Refusal::Memory),
-        };
-        match self.office.add_host(alloc, host) {
-            Ok(()) => {}
-            Err(_) => return Err(Refusal::Memory),
-        }
+        let head = self.office.head_with_host(alloc, host)?;
+        self.office.add_host(alloc, host)?;
         match keep_file(&mut self.disk, FileId::Head, head.as_slice()) {
             Ok(()) => Ok(Answer::Done),
             Err(Failed) => {
@@ -215,14 +156,8 @@ impl<D: Disk> Store<D> {
         requires rule { broken_rule self.old.office (Commit dump now) ≡ None }
         ensures { Works self.old (Commit dump now) result self.new }
     {
-        let files = match self.office.commit_files(alloc, dump, now) {
-            Ok(files) => files,
-            Err(_) => return Err(Refusal::Memory),
-        };
-        let number = match self.office.commit(alloc, dump, now) {
-            Ok(number) => number,
-            Err(_) => return Err(Refusal::Memory),
-        };
+        let files = self.office.commit_files(alloc, dump, now)?;
+        let number = self.office.commit(alloc, dump, now)?;
         match keep_commit(&mut self.disk, &files) {
             Ok(()) => Ok(Answer::Committed(number)),
             Err(Failed) => {
