@@ -3,7 +3,7 @@ ghost use Rattle.std.specs.Option.{option_copied};
 ghost use Rattle.std.specs.String.{string_bytes};
 ghost use Rattle.admin_cli.specs.Command.{store_named};
 
-use std::alloc::Global;
+use std::alloc::{AllocError, Global};
 use std::error::Error;
 use std::fmt;
 
@@ -40,6 +40,16 @@ impl fmt::Display for LineFault {
 
 impl Error for LineFault {}
 
+impl From<AllocError> for LineFault {
+    ghost use Rattle.admin_cli.specs.declared.words.LineFault.TheVariants.{Memory};
+
+    ghost from_gives = { λ _ fault. fault ≡ Memory };
+
+    fn from(_error: AllocError) -> LineFault {
+        LineFault::Memory
+    }
+}
+
 /// How the program is called.
 pub const USAGE: &str = "usage: backup_server pipe --store DIR";
 
@@ -72,13 +82,13 @@ pub fn parse(alloc: Global, words: &[String]) -> Result<CommandLine, LineFault>
     ensures none { IfErr result (λ fault. fault ≡ LineFault.NoParse → store_named (map string_bytes words.now) ≡ None) }
 {
     match store_named(words) {
-        Some(store) => match String::from_str(alloc, store) {
-            Ok(store) => Ok(CommandLine {
+        Some(store) => {
+            let store = String::from_str(alloc, store)?;
+            Ok(CommandLine {
                 store,
                 work: Work::Pipe,
-            }),
-            Err(_) => Err(LineFault::Memory),
-        },
+            })
+        }
         None => Err(LineFault::NoParse),
     }
 }
