@@ -11,11 +11,11 @@ use attr_tables::{Record, Table};
 use disk_trait::Bytes;
 use std::alloc::{AllocError, Global};
 
-/// The node of a record with the bytes of its content, None for a deletion mark; or want of memory.
-pub fn resolve(alloc: Global, record: &Record, bytes: Bytes) -> Result<Option<Item>, AllocError>
-    ensures { IfOk result (λ node. (contents : PoolId → List ℕ) → bytes ≡ bytes_of contents (content_in record.now) → node ≡ resolved_entry contents record.now) }
+/// The node of a stored record with the bytes of its content, None for a deletion mark; or want of memory.
+pub fn resolve(alloc: Global, stored: &Record, bytes: Bytes) -> Result<Option<Item>, AllocError>
+    ensures { IfOk result (λ node. (contents : PoolId → List ℕ) → bytes ≡ bytes_of contents (content_in stored.now) → node ≡ resolved_entry contents stored.now) }
 {
-    match record {
+    match stored {
         Record::File(file) => Ok(Some(Item::File(File {
             attr: file.attr,
             group: file.group,

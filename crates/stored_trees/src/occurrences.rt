@@ -7,11 +7,11 @@ ghost use Rattle.stored_trees.specs.Occurrences.{names, occurrences, times};
 use attr_tables::{Record, Row};
 use disk_trait::PoolId;
 
-/// Whether a record names an id.
-pub fn names(record: &Record, id: &PoolId) -> bool
-    ensures { result ≡ names id.now record.now }
+/// Whether a stored record names an id.
+pub fn names(stored: &Record, id: &PoolId) -> bool
+    ensures { result ≡ names id.now stored.now }
 {
-    match record {
+    match stored {
         Record::File(file) => match file.content {
             Some(content) => content == *id,
             None => false,
