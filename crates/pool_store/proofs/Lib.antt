@@ -1,5 +1,6 @@
 pub mod Chaining
 pub mod Dooming
+pub mod Foreign
 pub mod Imaging
 pub mod Lists
 pub mod Sweeping

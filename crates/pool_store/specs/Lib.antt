@@ -1,5 +1,6 @@
 pub mod Opened
 pub mod Opening
+pub mod Complete
 pub mod Chains
 pub mod Pools
 pub mod Sweeps

@@ -15,6 +15,7 @@ ghost use Rattle.pool_store.specs.Chains.{OfReading};
 ghost use Rattle.pool_changes.specs.Listed.{index_of, IsBucketOf, IsStatsOf};
 ghost use Rattle.pool_store.specs.Opened.{Opens};
 ghost use Rattle.pool_store.specs.Opening.{OfOpening, SaysForeign, AreFresh};
+ghost use Rattle.pool_store.specs.Complete.{NeverForeign};
 ghost use Rattle.pool_changes.specs.Written.{LeadsIndex};
 ghost use Rattle.pool_changes.specs.Indexed.{after, IsOf, AreGiven, AreLive, AreUnclaimed};
 ghost use Rattle.pool_store.specs.Sweeps.{IsPruned, Sweeps, AreAllUsed, AreAllGiven};
@@ -64,6 +65,7 @@ impl<N: Namer> Pool<N> {
         ensures spare { IfOk result (λ pool. pool.spare ≡ 0) }
         ensures kind { IfErr result OfOpening }
         ensures foreign { IfErr result (SaysForeign (D.files journal.old.disk)) }
+        ensures complete { IfErr result (NeverForeign (D.files journal.old.disk)) }
         ensures reads { Reads journal.old journal.new }
         ensures counted { Counted (D.fault_count journal.old.disk) (D.fault_count journal.new.disk) (IsErrOf result PoolFault.Disk) }
     {
