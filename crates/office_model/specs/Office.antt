@@ -1,0 +1,190 @@
+-- The office: hosts with their backups, the pool, the open dumps and restores. Trees are whole.
+use Rattle.std.specs.Prelude.{◌≡◌, ℕ, ◌+◌, ◌-◌, ◌<◌, ◌≤◌, ◌^◌, Bool, true, List, [], length, Option, Some, ◌==◌, ◌||◌, slice_get, bytes_eq}
+use Rattle.std.specs.List.{position_from, list_any}
+use Rattle.attr_records.specs.Items.{Tree, is_dir}
+use Rattle.attr_records.specs.Trees as Trees
+use Rattle.ordered_lists.specs.Order.{IsInOrder}
+use Rattle.backup_rules.specs.declared.lines.Kind.{Kind}
+use Rattle.backup_rules.specs.declared.lines.Line.{Line}
+use Rattle.backup_rules.specs.Values.{RuleSet}
+use Rattle.disk_trait.specs.declared.ids.PoolId.{PoolId}
+use Rattle.office_model.specs.declared.session.SessionName.{SessionName}
+use Rattle.office_model.specs.Session.{is_same_session}
+use Rattle.office_model.specs.Places.{AtEach, Differ}
+use Rattle.office_model.specs.Pool.{Pool, byte_cmp, is_pooled, holds}
+
+pub record Backup : Type 0 where
+  pub line : Line
+  pub tree : Tree
+
+-- good and bad count contacts; next is the number of the next backup
+pub record Host : Type 0 where
+  pub name : List ℕ
+  pub rules : RuleSet
+  pub good : ℕ
+  pub bad : ℕ
+  pub next : ℕ
+  pub backups : List Backup
+
+-- an open dump of the host at this index in order of adding, which began with the tree base
+pub record Dump : Type 0 where
+  pub name : SessionName
+  pub host : ℕ
+  pub kind : Kind
+  pub start : ℕ
+  pub base : Tree
+  pub tree : Tree
+
+-- an open restore; its position is the number of frames that were given
+pub record Restore : Type 0 where
+  pub name : SessionName
+  pub tree : Tree
+  pub position : ℕ
+
+-- hosts in order of adding, dumps and restores in order of opening, and the number of the next session
+pub record Office : Type 0 where
+  pub epoch : ℕ
+  pub hosts : List Host
+  pub pool : Pool
+  pub dumps : List Dump
+  pub restores : List Restore
+  pub sequence : ℕ
+
+-- how contents are named: the digest of each, and the names of pool files that are in use
+pub record Names : Type 0 where
+  pub digest_of : List ℕ → List ℕ
+  pub used : List PoolId
+
+abbrev pub blank_office : Office
+blank_office = record { epoch = 0; hosts = []; pool = []; dumps = []; restores = []; sequence = 0 }
+
+-- what a disk keeps of an office
+abbrev pub durable : Office → Office
+durable office = record office { dumps = []; restores = []; sequence = 0 }
+
+-- at the beginning of the next epoch
+abbrev pub reopened : Office → Office
+reopened office = record office { epoch = office.epoch + 1; dumps = []; restores = []; sequence = 0 }
+
+-- ---- look-ups
+
+abbrev pub host_index : List Host → List ℕ → Option ℕ
+host_index hosts name = position_from (λ host. bytes_eq host.name name) 0 hosts
+
+abbrev pub dump_index : List Dump → SessionName → Option ℕ
+dump_index dumps name = position_from (λ dump. is_same_session dump.name name) 0 dumps
+
+abbrev pub dump_index_of_host : List Dump → ℕ → Option ℕ
+dump_index_of_host dumps host = position_from (λ dump. dump.host == host) 0 dumps
+
+abbrev pub restore_index : List Restore → SessionName → Option ℕ
+restore_index restores name = position_from (λ restore. is_same_session restore.name name) 0 restores
+
+abbrev pub backup_index : List Backup → ℕ → Option ℕ
+backup_index backups number = position_from (λ backup. backup.line.number == number) 0 backups
+
+-- ---- protected contents
+
+abbrev pub host_holds : Host → List ℕ → Bool
+host_holds host content = list_any (λ backup. holds backup.tree content) host.backups
+
+abbrev pub in_hosts : List Host → List ℕ → Bool
+in_hosts hosts content = list_any (λ host. host_holds host content) hosts
+
+abbrev pub in_dumps : List Dump → List ℕ → Bool
+in_dumps dumps content = list_any (λ dump. holds dump.tree content) dumps
+
+abbrev pub in_bases : List Dump → List ℕ → Bool
+in_bases dumps content = list_any (λ dump. holds dump.base content) dumps
+
+abbrev pub in_restores : List Restore → List ℕ → Bool
+in_restores restores content = list_any (λ restore. holds restore.tree content) restores
+
+-- the pool or an open dump's tree has it
+abbrev pub is_held : Pool → List Dump → List ℕ → Bool
+is_held pool dumps content = is_pooled pool content || in_dumps dumps content
+
+-- ---- limits
+
+abbrev pub number_limit : ℕ
+number_limit = 2 ^ 32
+
+abbrev pub host_limit : ℕ
+host_limit = 1024
+
+abbrev pub last_sequence : ℕ
+last_sequence = 2 ^ 64 - 1
+
+-- ---- soundness, part by part
+
+pub record IsTree (tree : Tree) : Type 0 where
+  pub paths : Trees.IsTree is_dir tree
+  pub few : length tree ≤ 1048576
+
+-- numbers rise, and stay below the next one
+pub record AreNumbered (next : ℕ) (backups : List Backup) : Type 0 where
+  pub rise : (i j : ℕ) (a b : Backup) → i < j → slice_get backups i ≡ Some a → slice_get backups j ≡ Some b → a.line.number < b.line.number
+  pub below : AtEach (λ (backup : Backup). backup.line.number < next) backups
+  pub trees : AtEach (λ (backup : Backup). IsTree backup.tree) backups
+
+-- and the newest is filled
+pub record AreBackups (next : ℕ) (backups : List Backup) : Type 0 where
+  pub numbered : AreNumbered next backups
+  pub last_filled : (last : Backup) → slice_get backups (length backups - 1) ≡ Some last → last.line.filled ≡ true
+
+pub record IsSoundHost (host : Host) : Type 0 where
+  pub numbers : host.next ≤ number_limit
+  pub backups : AreBackups host.next host.backups
+
+-- at most 1,024 hosts of different names
+pub record AreHosts (hosts : List Host) : Type 0 where
+  pub few : length hosts ≤ host_limit
+  pub differ : Differ (λ (host : Host). host.name) hosts
+  pub each : AtEach IsSoundHost hosts
+
+-- a session of this epoch that was given out
+pub record IsGiven (epoch sequence : ℕ) (name : SessionName) : Type 0 where
+  pub this_epoch : name.epoch ≡ epoch
+  pub given_out : name.sequence < sequence
+
+-- the names of all open sessions differ, and each was given out
+pub record AreSessions (epoch sequence : ℕ) (dumps : List Dump) (restores : List Restore) : Type 0 where
+  pub dumps_given : AtEach (λ (dump : Dump). IsGiven epoch sequence dump.name) dumps
+  pub restores_given : AtEach (λ (restore : Restore). IsGiven epoch sequence restore.name) restores
+  pub dumps_differ : Differ (λ (dump : Dump). dump.name) dumps
+  pub restores_differ : Differ (λ (restore : Restore). restore.name) restores
+  pub apart : (i j : ℕ) (dump : Dump) (restore : Restore) → slice_get dumps i ≡ Some dump → slice_get restores j ≡ Some restore
+      → dump.name ≡ restore.name → ⊥
+
+-- an open dump's host is there and has a number left
+pub record HasHost (hosts : List Host) (dump : Dump) : Type 0 where
+  pub host : Host
+  pub is_host : slice_get hosts dump.host ≡ Some host
+  pub has_number : host.next < number_limit
+
+-- at most one open dump of a host
+pub record AreDumps (hosts : List Host) (dumps : List Dump) : Type 0 where
+  pub hosted : AtEach (HasHost hosts) dumps
+  pub one_a_host : Differ (λ (dump : Dump). dump.host) dumps
+  pub bases : AtEach (λ (dump : Dump). IsTree dump.base) dumps
+  pub trees : AtEach (λ (dump : Dump). IsTree dump.tree) dumps
+
+abbrev pub AreRestores : List Restore → Type 0
+AreRestores restores = AtEach (λ (restore : Restore). IsTree restore.tree) restores
+
+-- the contents of a tree are in the pool
+abbrev pub IsPooledTree : Pool → Tree → Type 0
+IsPooledTree pool tree = (content : List ℕ) → holds tree content ≡ true → is_pooled pool content ≡ true
+
+pub record ArePooled (pool : Pool) (hosts : List Host) (dumps : List Dump) (restores : List Restore) : Type 0 where
+  pub in_order : IsInOrder byte_cmp pool
+  pub of_backups : AtEach (λ (host : Host). AtEach (λ (backup : Backup). IsPooledTree pool backup.tree) host.backups) hosts
+  pub of_bases : AtEach (λ (dump : Dump). IsPooledTree pool dump.base) dumps
+  pub of_restores : AtEach (λ (restore : Restore). IsPooledTree pool restore.tree) restores
+
+pub record IsSound (office : Office) : Type 0 where
+  pub hosts : AreHosts office.hosts
+  pub sessions : AreSessions office.epoch office.sequence office.dumps office.restores
+  pub dumps : AreDumps office.hosts office.dumps
+  pub restores : AreRestores office.restores
+  pub pooled : ArePooled office.pool office.hosts office.dumps office.restores

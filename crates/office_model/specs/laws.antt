@@ -1,0 +1,19 @@
+-- What follows from the definitions: that each event keeps a sound office sound and answers in its kind, and so a step a state.
+pub mod Judging
+pub mod Lookups
+pub mod BackupLaws
+pub mod PoolLaws
+pub mod AddHostLaws
+pub mod AbortLaws
+pub mod OpenDumpLaws
+pub mod PutLaws
+pub mod CommitLaws
+pub mod DeleteLaws
+pub mod ExpireLaws
+pub mod RestoreLaws
+pub mod CleanLaws
+pub mod SoundLaws
+pub mod HeldLaws
+pub mod StepLaws
+pub mod StateLaws
+pub mod HistoryLaws

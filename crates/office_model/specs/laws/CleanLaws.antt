@@ -1,0 +1,129 @@
+-- The pool after cleaning: in order, with all that is protected.
+use Rattle.std.specs.Prelude.{◌≡◌, ◌≤◌, ◌<◌, ◌^◌, ℕ, zero, suc, ◌+◌, Bool, true, false, cond, ◌||◌, List, [], ◌∷◌, length, Option, Some, None, is_some, slice_get}
+use Rattle.std.specs.declared.cmp.Ordering.TheVariants.{Less}
+use Rattle.std.specs.Ordering.{eq_by_cmp}
+use Rattle.std.specs.Cmp.{Equal-is}
+use Rattle.std.specs.Cmp.Lexicographic.{nat_list_cmp_total}
+use Rattle.std.specs.FinMap.{nat_cmp-IsAntisymmetric, slice_cmp-IsAntisymmetric}
+use Rattle.std.specs.List.{cons_option, list_any}
+use Rattle.std.specs.List.Sorted.{IsStrictlySortedBy}
+use Rattle.std.specs.Map.{keys_of}
+use Rattle.std.proofs.Common.{refl, sym, ap, ◌∙◌, subst, arith}
+use Rattle.ordered_lists.specs.Order.{IsInOrder, IsBelowAll}
+use Rattle.ordered_lists.specs.OrderLaws.{order_from_keys}
+use Rattle.office_model.specs.declared.fate.Fate.{Fate}
+use Rattle.office_model.specs.Pool.{Pool, byte_cmp, mark_of, is_pooled, holds, fate, fate_of, mark_after, kept_as, cleaned, fated, is_same_fate, how_many, with_kept}
+use Rattle.office_model.specs.Office.{Office, Host, Backup, Dump, Restore, IsSound, host_holds, in_hosts, in_dumps, in_bases}
+use Rattle.office_model.specs.events.Clean.{is_protected}
+
+pub byte_exact : (a b : List ℕ) → eq_by_cmp byte_cmp a b ≡ true → a ≡ b
+byte_exact a b e = slice_cmp-IsAntisymmetric nat_cmp-IsAntisymmetric a b ((Equal-is (byte_cmp a b)).0 e)
+
+-- ---- order
+
+kept_below : (k : List ℕ) (content : List ℕ) (mark : Option Bool) (rest : Pool) → byte_cmp k content ≡ Less → IsBelowAll byte_cmp k rest
+    → IsBelowAll byte_cmp k (cons_option (kept_as content mark) rest)
+kept_below k content None rest h more = more
+kept_below k content (Some mark) rest h more = (h, more)
+
+kept_order : (content : List ℕ) (mark : Option Bool) (rest : Pool) → IsBelowAll byte_cmp content rest → IsInOrder byte_cmp rest
+    → IsInOrder byte_cmp (cons_option (kept_as content mark) rest)
+kept_order content None rest h more = more
+kept_order content (Some mark) rest h more = (h, more)
+
+module _ (inside protected : List ℕ → Bool) where
+  below_cleaned : (k : List ℕ) (pool : Pool) → IsBelowAll byte_cmp k pool → IsBelowAll byte_cmp k (cleaned inside protected pool)
+  below_cleaned k [] h = tt
+  below_cleaned k (entry ∷ pool) h = kept_below k entry.0 (mark_after (fate inside protected entry) entry.1) (cleaned inside protected pool) h.0 (below_cleaned k pool h.1)
+
+  pub cleaned_order : (pool : Pool) → IsInOrder byte_cmp pool → IsInOrder byte_cmp (cleaned inside protected pool)
+  cleaned_order [] h = tt
+  cleaned_order (entry ∷ pool) h = kept_order entry.0 (mark_after (fate inside protected entry) entry.1) (cleaned inside protected pool) (below_cleaned entry.0 pool h.0) (cleaned_order pool h.1)
+
+  -- ---- what is protected stays
+
+  keeps_mark : (inside marked : Bool) → (mark : Bool) × (mark_after (fate_of inside true marked) marked ≡ Some mark)
+  keeps_mark false marked = (marked, refl)
+  keeps_mark true true = (false, refl)
+  keeps_mark true false = (false, refl)
+
+  pub cleaned_has : (byte_exact : (a b : List ℕ) → eq_by_cmp byte_cmp a b ≡ true → a ≡ b) (pool : Pool) (c : List ℕ) → protected c ≡ true
+      → is_pooled pool c ≡ true → is_pooled (cleaned inside protected pool) c ≡ true
+  cleaned_has exact [] c safe h = absurd (cc)
+  cleaned_has exact (entry ∷ pool) c safe h = step (eq_by_cmp byte_cmp c entry.0) refl h (λ g. cleaned_has exact pool c safe g)
+    where
+      past : (mark : Option Bool) → is_pooled (cleaned inside protected pool) c ≡ true → eq_by_cmp byte_cmp c entry.0 ≡ false
+          → is_pooled (cons_option (kept_as entry.0 mark) (cleaned inside protected pool)) c ≡ true
+      past None g other = g
+      past (Some mark) g other = ap (λ b. is_some (cond b (Some mark) (mark_of (cleaned inside protected pool) c))) other ∙ g
+
+      here : (mark : Option Bool) → (m : Bool) × (mark ≡ Some m) → eq_by_cmp byte_cmp c entry.0 ≡ true
+          → is_pooled (cons_option (kept_as entry.0 mark) (cleaned inside protected pool)) c ≡ true
+      here None w same = absurd (let e = w.1 in cc)
+      here (Some mark) w same = ap (λ b. is_some (cond b (Some mark) (mark_of (cleaned inside protected pool) c))) same
+
+      step : (b : Bool) → eq_by_cmp byte_cmp c entry.0 ≡ b → is_some (cond b (Some entry.1) (mark_of pool c)) ≡ true
+          → (is_pooled pool c ≡ true → is_pooled (cleaned inside protected pool) c ≡ true)
+          → is_pooled (cons_option (kept_as entry.0 (mark_after (fate inside protected entry) entry.1)) (cleaned inside protected pool)) c ≡ true
+      step true same g rest =
+          let safe_entry : protected entry.0 ≡ true = ap protected (sym (exact c entry.0 same)) ∙ safe in
+          here (mark_after (fate inside protected entry) entry.1)
+          (subst (λ b. (m : Bool) × (mark_after (fate_of (inside entry.0) b entry.1) entry.1 ≡ Some m)) (sym safe_entry) (keeps_mark (inside entry.0) entry.1)) same
+      step false other g rest = past (mark_after (fate inside protected entry) entry.1) (rest g) other
+
+-- ---- what a tree of the office holds is protected
+
+pub any_at : {A : Type 0} (test : A → Bool) (xs : List A) (i : ℕ) (x : A) → slice_get xs i ≡ Some x → test x ≡ true → list_any test xs ≡ true
+any_at test [] i x e h = absurd (cc)
+any_at test (y ∷ xs) zero x e h = let same : y ≡ x = cc in ap (λ b. b || list_any test xs) (ap test same ∙ h)
+any_at test (y ∷ xs) (suc i) x e h = either (test y) (any_at test xs i x e h)
+  where
+    either : (b : Bool) → list_any test xs ≡ true → (b || list_any test xs) ≡ true
+    either true g = refl
+    either false g = g
+
+left : (a b : Bool) → a ≡ true → (a || b) ≡ true
+left true b h = refl
+left false b h = absurd (cc)
+
+right : (a b : Bool) → b ≡ true → (a || b) ≡ true
+right true b h = refl
+right false b h = h
+
+module _ (office : Office) (content : List ℕ) where
+  pub backup_safe : (i n : ℕ) (host : Host) (backup : Backup) → slice_get office.hosts i ≡ Some host
+      → slice_get host.backups n ≡ Some backup → holds backup.tree content ≡ true
+      → is_protected office.hosts office.dumps office.restores content ≡ true
+  backup_safe i n host backup at at_backup h =
+      left (in_hosts office.hosts content) _ (any_at (λ (host : Host). host_holds host content) office.hosts i host at (any_at (λ (b : Backup). holds b.tree content) host.backups n backup at_backup h))
+
+  pub base_safe : (i : ℕ) (dump : Dump) → slice_get office.dumps i ≡ Some dump → holds dump.base content ≡ true
+      → is_protected office.hosts office.dumps office.restores content ≡ true
+  base_safe i dump at h =
+      right (in_hosts office.hosts content) _ (right (in_dumps office.dumps content) _
+      (left (in_bases office.dumps content) _ (any_at (λ (d : Dump). holds d.base content) office.dumps i dump at h)))
+
+  pub restore_safe : (i : ℕ) (restore : Restore) → slice_get office.restores i ≡ Some restore → holds restore.tree content ≡ true
+      → is_protected office.hosts office.dumps office.restores content ≡ true
+  restore_safe i restore at h =
+      right (in_hosts office.hosts content) _ (right (in_dumps office.dumps content) _
+      (right (in_bases office.dumps content) _ (any_at (λ (r : Restore). holds r.tree content) office.restores i restore at h)))
+
+pub IsSound-cleaned : (office : Office) (inside : List ℕ → Bool) → IsSound office
+    → IsSound (record office { pool = cleaned inside (is_protected office.hosts office.dumps office.restores) office.pool })
+IsSound-cleaned office inside sound = record {
+  hosts = sound.hosts;
+  sessions = sound.sessions;
+  dumps = sound.dumps;
+  restores = sound.restores;
+  pooled = record {
+    in_order = cleaned_order inside (is_protected office.hosts office.dumps office.restores) office.pool sound.pooled.in_order;
+    of_backups = λ i host at n backup at_backup content h. has content (backup_safe office content i n host backup at at_backup h) (sound.pooled.of_backups i host at n backup at_backup content h);
+    of_bases = λ i dump at content h. has content (base_safe office content i dump at h) (sound.pooled.of_bases i dump at content h);
+    of_restores = λ i restore at content h. has content (restore_safe office content i restore at h) (sound.pooled.of_restores i restore at content h);
+  };
+}
+  where
+    has : (content : List ℕ) → is_protected office.hosts office.dumps office.restores content ≡ true → is_pooled office.pool content ≡ true
+        → is_pooled (cleaned inside (is_protected office.hosts office.dumps office.restores) office.pool) content ≡ true
+    has content = cleaned_has inside (is_protected office.hosts office.dumps office.restores) byte_exact office.pool content
