@@ -85,11 +85,7 @@ fn bucket_item(id: PoolId, slot: Slot) -> Option<BucketItem>
 }
 
 /// The live names whose digest begins with a byte that gives the bucket when divided by 16.
-pub fn bucket_items(
-    alloc: Global,
-    names: &Names,
-    bucket: u8,
-) -> Result<BucketItemList, AllocError>
+pub fn bucket_items(alloc: Global, names: &Names, bucket: u8) -> Result<BucketItemList, AllocError>
     ensures { IfOk result (IsBucketOf (slots_of names.now) bucket) }
 {
     let mut inner = Vec::new(alloc);
