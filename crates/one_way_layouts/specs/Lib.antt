@@ -1,0 +1,7 @@
+pub mod OneWay
+pub mod Fields
+pub mod RuleLaws
+pub mod HostLaws
+pub mod TableLaws
+pub mod PoolLaws
+pub mod Files
