@@ -64,15 +64,17 @@ fn expect_numbers(counts: &Counts, a: u64, b: u64) -> Result<(), Fail> {
 #[test]
 fn tables_are_counted(rt: HostRuntime) -> Result<(), Fail> {
     let alloc = rt.alloc();
-    let mut tables = Vec::new(alloc);
-    tables.push(Table::new(alloc))?;
-    for content in [A, B, A] {
-        tables.push(table(alloc, content)?)?;
-    }
-    let counts = recount(alloc, tables.as_slice())?;
+    let tables = [
+        Table::new(alloc),
+        table(alloc, A)?,
+        table(alloc, B)?,
+        table(alloc, A)?,
+    ];
+    let counts = recount(alloc, &tables)?;
     expect_numbers(&counts, 2, 1)?;
-    expect_numbers(&count_tables(alloc, &tables[3..])?, 1, 0)?;
-    let left = take(alloc, &counts, &count_tables(alloc, &tables[1..3])?)?;
+    expect_numbers(&count_tables(alloc, &[table(alloc, A)?])?, 1, 0)?;
+    let taken = count_tables(alloc, &[table(alloc, A)?, table(alloc, B)?])?;
+    let left = take(alloc, &counts, &taken)?;
     expect_numbers(&left, 1, 0)?;
     assert_eq!(rt; left.items().len(), 1);
     let more = add(alloc, &left.copy(alloc)?, &counts)?;

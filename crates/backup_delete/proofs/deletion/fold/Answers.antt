@@ -1,0 +1,30 @@
+-- The tables are those of the shorter list, and the counts their differences.
+use Rattle.std.proofs.Common.{◌≡◌, ◌+◌, ◌<◌, ◌≤◌, ◌^◌, ℕ, List, sym, ap, ◌∙◌, arith}
+use Rattle.backup_rules.specs.declared.lines.Line.{Line}
+use Rattle.ref_counts.specs.Numbers.{total, capped}
+use Rattle.ref_counts.specs.NumberLaws.{capped-few}
+use Rattle.ref_counts.specs.Stored.{stored}
+use Rattle.backup_delete.specs.Trees.{backups}
+use Rattle.backup_delete.specs.Folds.{left_trees, folded_tables, Change, added_tables, taken_tables}
+use Rattle.backup_delete.specs.FoldLaws.{folded-stored}
+use Rattle.backup_delete.specs.Counted.{folded-total, taken-within}
+use Rattle.backup_delete.proofs.deletion.fold.Goals as goal
+
+pub returns-clause-stored : goal.returns-clause-stored
+returns-clause-stored c = λ trees same whole is.
+    ap (folded_tables c.args.numbers.now c.args.lines.now) is
+    ∙ folded-stored c.args.numbers.now c.args.lines.now trees same whole
+    ∙ ap (λ (lines : List Line). stored (backups lines (left_trees c.args.numbers.now c.args.lines.now trees))) (sym c.in_ok-left.ensures)
+
+below : (a b : ℕ) → a ≤ b → b < 2 ^ 64 → a < 2 ^ 64
+below a b less small = omega (arith, less, small)
+
+pub returns-clause-counted : goal.returns-clause-counted
+returns-clause-counted c = λ id small few.
+    let taken = total id (taken_tables c.args.numbers.now c.args.lines.now c.args.tables.now) in
+    ap (λ n. total id (folded_tables c.args.numbers.now c.args.lines.now c.args.tables.now) + n)
+    (c.in_ok-taken.ensures id ∙ capped-few taken (below taken (total id c.args.tables.now) (taken-within id c.args.numbers.now c.args.lines.now c.args.tables.now) small))
+    ∙ folded-total id c.args.numbers.now c.args.lines.now c.args.tables.now c.requires
+    ∙ ap (λ n. total id c.args.tables.now + n)
+    (ap (λ (all : List Change). total id (added_tables all)) (sym c.in_ok-all.ensures) ∙ sym (capped-few (total id (added_tables c.in_ok-all.all.items)) few)
+    ∙ ap (λ (all : List Change). capped (total id (added_tables all))) (sym c.as_slice.ensures.value) ∙ sym (c.in_ok-added.ensures id))

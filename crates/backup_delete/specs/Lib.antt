@@ -1,0 +1,6 @@
+pub mod Counted
+pub mod FoldLaws
+pub mod Folds
+pub mod LineLaws
+pub mod Trees
+pub mod Walks

@@ -1,0 +1,39 @@
+-- Backups, the oldest first, as lines and tables side by side: the tree of a line filled is its table, that of another the
+-- next newer tree, viewed through its table.
+--     tree_of lines tables      the tree of the first of them
+--     is_gone numbers number      the number is among those that are deleted
+use Rattle.std.specs.Prelude.{ℕ, ◌==◌, Bool, true, false, not, ◌&&◌, List, [], ◌∷◌, if◌then◌else◌}
+use Rattle.std.specs.List.{list_any}
+use Rattle.backup_rules.specs.declared.lines.Line.{Line}
+use Rattle.merge_view.specs.Views.{Rows, view}
+use Rattle.ref_counts.specs.Stored.{Backup}
+
+-- the tree of the first backup
+abbrev pub tree_of : List Line → List Rows → Rows
+tree_of [] tables = []
+tree_of (line ∷ lines) [] = []
+tree_of (line ∷ lines) (table ∷ tables) = if line.filled then table else view (tree_of lines tables) table
+
+-- the backups of lines and trees
+abbrev pub backups : List Line → List Rows → List Backup
+backups [] trees = []
+backups (line ∷ lines) [] = []
+backups (line ∷ lines) (tree ∷ trees) = record { filled = line.filled; rows = tree } ∷ backups lines trees
+
+-- the number is among those that are deleted
+abbrev pub is_gone : List ℕ → ℕ → Bool
+is_gone numbers number = list_any (λ other. other == number) numbers
+
+-- all of the backups are deleted
+abbrev pub are_gone : List ℕ → List Line → Bool
+are_gone numbers [] = true
+are_gone numbers (line ∷ lines) = is_gone numbers line.number && are_gone numbers lines
+
+-- the next newer backup is there and is deleted
+abbrev pub is_next_gone : List ℕ → List Line → Bool
+is_next_gone numbers [] = false
+is_next_gone numbers (next ∷ newer) = is_gone numbers next.number
+
+-- its table is relative to a backup that is deleted
+abbrev pub needs_fold : List ℕ → Line → List Line → Bool
+needs_fold numbers line newer = not line.filled && is_next_gone numbers newer

@@ -1,0 +1,72 @@
+//! A walk over backups from the newest to the oldest.
+
+ghost use Rattle.std.specs.Prelude.{◌≡◌, ◌++◌, ◌+◌, ◌<◌, [], length, drop, IfOk, OnOk};
+ghost use Rattle.std.specs.Option.{option_to_list};
+ghost use Rattle.backup_delete.specs.Folds.{changes};
+ghost use Rattle.backup_delete.specs.Walks.{IsWalk};
+
+use crate::changes::TableChange;
+use crate::numbers::{is_gone, needs_fold};
+use crate::trees::tree_at;
+use attr_tables::Table;
+use backup_rules::Line;
+use merge_view::reverse;
+use std::alloc::{AllocError, Global};
+
+/// The tree that was made last, the index of its backup, and that of the oldest one so far that stays; or the number of
+/// backups, before there is one.
+#[derive(Drop)]
+pub(crate) struct Walk {
+    tree: Table,
+    at: usize,
+    next: usize,
+}
+
+impl Walk {
+    /// A walk over this number of backups that hasn't begun.
+    pub(crate) fn new(alloc: Global, count: usize) -> Walk
+        ensures tree { result.tree ≡ [] }
+        ensures at { result.at ≡ count }
+        ensures next { result.next ≡ count }
+    {
+        Walk {
+            tree: Table::new(alloc),
+            at: count,
+            next: count,
+        }
+    }
+}
+
+/// Goes on to the backup at an index: what becomes of its table, if something does; or want of memory.
+pub(crate) fn step(
+    alloc: Global,
+    lines: &[Line],
+    tables: &[Table],
+    numbers: &[u32],
+    index: usize,
+    walk: &mut Walk,
+) -> Result<Option<TableChange>, AllocError>
+    requires same { length tables.now ≡ length lines.now }
+    requires within { index < length lines.now }
+    requires walk { IsWalk numbers.now lines.now tables.now walk.old (index + 1) }
+    ensures change { IfOk result (λ change. changes numbers.now (drop index lines.now) (drop index tables.now)
+        ≡ changes numbers.now (drop (index + 1) lines.now) (drop (index + 1) tables.now) ++ option_to_list change) }
+    ensures walk { OnOk result (IsWalk numbers.now lines.now tables.now walk.new index) }
+{
+    let line = lines[index];
+    if is_gone(numbers, line.number) {
+        return Ok(Some(TableChange::new(line.number, None)));
+    }
+    let next = walk.next;
+    walk.next = index;
+    let (_, newer_lines) = lines.split_at(index + 1);
+    if !needs_fold(numbers, line, newer_lines) {
+        return Ok(None);
+    }
+    let newer = tree_at(alloc, lines, tables, &walk.tree, walk.at, next)?;
+    let tree = tree_at(alloc, lines, tables, &newer, next, index)?;
+    let table = reverse(alloc, &tree, &newer)?;
+    walk.tree = tree;
+    walk.at = index;
+    Ok(Some(TableChange::new(line.number, Some(table))))
+}
