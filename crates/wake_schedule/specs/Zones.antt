@@ -3,7 +3,7 @@
 --     IsOfADay      what it says at most
 --     IsZone, IsZoneText      the zone of a text, which may be a POSIX rule, and whether it has one
 --     ahead_at      the seconds that a zone's clock is ahead of UTC at a moment
-use Rattle.std.specs.Prelude.{◌≡◌, ℕ, ℤ, pos, neg_ℤ, ◌*ℤ◌, ◌≤ℤ◌, ◌+◌, ◌-◌, ◌*◌, ◌==◌, nat_le, Bool, ◌&&◌, ◌||◌, if◌then◌else◌, List, [], ◌∷◌, codes, bytes_eq, Option, Some, None, option_and_then, MatchOption, is_some, IsTrue}
+use Rattle.std.specs.Prelude.{◌≡◌, ℕ, ℤ, pos, neg_ℤ, ◌*ℤ◌, ◌≤ℤ◌, ◌+◌, ◌-◌, ◌*◌, ◌==◌, nat_le, ◌&&◌, ◌||◌, if◌then◌else◌, List, [], ◌∷◌, codes, bytes_eq, Option, Some, None, option_and_then, MatchOption, is_some, IsTrue}
 use Rattle.jiff.specs.Words.{plain_zone, offset_at, read_whole}
 use Rattle.jiff.specs.Placed.{IsPosixZone}
 use Rattle.wake_schedule.specs.declared.zone.Zone.{Zone}

@@ -1,4 +1,4 @@
-use Rattle.std.proofs.Common.{◌∙◌, arith}
+use Rattle.std.proofs.Common.{◌∙◌}
 use Rattle.std.proofs.lemmas.Bool.{le-ltb}
 use Rattle.wake_schedule.proofs.BitLaws.{no_weekday}
 use Rattle.wake_schedule.proofs.contact.has_weekday.Goals as goal
