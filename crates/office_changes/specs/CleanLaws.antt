@@ -163,9 +163,13 @@ module _ (inside protected : List ℕ → Bool) where
           let was = is.pooled w.0 w.1 w.2 in
           let marks = same_mark w.1.mark b.0 (sym was.mark ∙ ap (mark_of pool) w.3 ∙ b.1) in
           let at : cleaned_mark (contents w.0) w.1.mark ≡ Some mark =
-          ap (λ (c : List ℕ). cleaned_mark c w.1.mark) w.3 ∙ ap (cleaned_mark content) marks ∙ b.2 in
-          (w.0, with_mark w.1 mark, clean w.0 ∙ ap (option_and_then (cleaned_item (contents w.0))) w.2
-              ∙ ap (option_map (with_mark w.1)) at, w.3);
+          ap (λ (c : List ℕ). cleaned_mark c w.1.mark) w.3 ∙ ap (cleaned_mark content) marks ∙ b.2 in (
+            w.0,
+            with_mark w.1 mark,
+            clean w.0 ∙ ap (option_and_then (cleaned_item (contents w.0))) w.2
+                ∙ ap (option_map (with_mark w.1)) at,
+            w.3,
+          );
     }
 
 -- ---- the office
