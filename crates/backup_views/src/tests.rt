@@ -62,15 +62,13 @@ fn expect_view(alloc: Global, lines: &[Line], wanted: &[&[u8]]) -> Result<(), Fa
         return Err(Fail::new("halted"));
     }
     views.load(alloc, &mut journal, 1, lines)?;
-    let mut count = 0;
     for path in wanted {
         let path = PathName::read(alloc, path)?;
         if views.find(&path).is_none() {
             return Err(Fail::new("a path is missing"));
         }
-        count += 1;
     }
-    if views.rows().len() != count {
+    if views.rows().len() != wanted.len() {
         return Err(Fail::new("a path too many"));
     }
     Ok(())
