@@ -160,6 +160,45 @@ fn each_request_has_its_response(rt: HostRuntime) -> Result<(), Fail> {
     Ok(())
 }
 
+/// The first path with a file whose name has a quote, a backslash, a control byte, a byte that isn't ASCII and a space.
+const ODD_NAME: &[u8] = b"PUT /hosts/pc1 HTTP/1.1\r\nHost: b\r\n\r\n\
+POST /hosts/pc1/dumps?kind=full HTTP/1.1\r\nHost: b\r\n\r\n\
+PUT /dumps/1-0/entry?path=%22%5C%01%C3%A9%20b&kind=file HTTP/1.1\r\nHost: b\r\nContent-Length: 5\r\n\r\nhello\
+POST /dumps/1-0/commit HTTP/1.1\r\nHost: b\r\n\r\n\
+GET /hosts/pc1/backups/0/file?path=%22%5c%01%c3%a9+b HTTP/1.1\r\nHost: b\r\nConnection: close\r\n\r\n";
+
+#[test]
+fn a_path_has_any_bytes_but_0(rt: HostRuntime) -> Result<(), Fail> {
+    expect(rt.alloc(), ODD_NAME, FIRST_OUTPUT, End::Ended)
+}
+
+/// What a path that breaks no rule and one that is too long are answered, where there is no host.
+const NO_HOST: &str =
+    "404 Not Found\r\nContent-Type: application/json\r\nContent-Length: 20\r\n\r\n{\"refused\":\"NoHost\"}";
+
+const TOO_LONG: &str =
+    "400 Bad Request\r\nContent-Type: application/json\r\nContent-Length: 29\r\n\r\n{\"refused\":\"BadPath.TooLong\"}";
+
+/// Asks for the file at a path of 2,047 components of one byte, each with a slash written so behind it, and a last one.
+fn expect_of_path(alloc: Global, slash: &str, last: &str, response: &str) -> Result<(), Fail> {
+    let mut request = String::from_str(alloc, "GET /hosts/a/backups/0/file?path=")?;
+    for _ in 0..2_047 {
+        request.push_str("a")?;
+        request.push_str(slash)?;
+    }
+    request.push_str(last)?;
+    expect_response(alloc, request.as_str(), response)
+}
+
+#[test]
+fn a_path_has_at_most_4096_bytes(rt: HostRuntime) -> Result<(), Fail> {
+    for slash in ["/", "%2F"] {
+        expect_of_path(rt.alloc(), slash, "aa", NO_HOST)?;
+        expect_of_path(rt.alloc(), slash, "aaa", TOO_LONG)?;
+    }
+    Ok(())
+}
+
 /// Whole inputs, what is sent for them, and the end.
 const INPUTS: [(&[u8], &[u8], End); 5] = [
     (b"", b"", End::Ended),
