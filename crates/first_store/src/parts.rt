@@ -185,10 +185,8 @@ impl Dump {
     ) -> Result<Option<PutRule>, AllocError>
         ensures { IfOk result (λ rule. (bytes : List ℕ) → length bytes ≡ size → rule ≡ broken_put self.now.tree path.now (plain_file bytes)) }
     {
-        match attr_records::broken_put_file(alloc, &self.tree, path, size) {
-            Ok(rule) => Ok(rule),
-            Err(error) => Err(error),
-        }
+        let rule = attr_records::broken_put_file(alloc, &self.tree, path, size)?;
+        Ok(rule)
     }
 
     /// Puts a file with default attributes at a path.
