@@ -29,12 +29,13 @@ use Rattle.merge_view.specs.ViewLaws.{view-reverse}
 use Rattle.stored_trees.specs.Resolved.{resolved}
 use Rattle.ref_counts.specs.Stored.{Backup as StoredBackup, stored_before, stored}
 use Rattle.office_model.specs.Office.{Office, Host, Backup}
+use Rattle.office_model.specs.Parts.{lines_of}
 use Rattle.office_model.specs.Pool.{Pool, byte_cmp, mark_of}
 use Rattle.one_way_layouts.specs.Files.{host_file, one_head, one_index, one_table, one_pool_index}
 use Rattle.office_files.specs.Pairs.{other_at, pair_at, same_elements}
 use Rattle.office_files.specs.Layouts.{head_of, IsHeadFile, IsHostFile, IsTableFile}
 use Rattle.office_files.specs.Pooled.{contents_of, IsPool}
-use Rattle.office_files.specs.Hosts.{lines_of, index_of_host, IsShown, StandsHost}
+use Rattle.office_files.specs.Hosts.{index_of_host, IsShown, StandsHost}
 use Rattle.office_files.specs.Stands.{names_of, Stands, StandsFor}
 
 some_same : {A : Type 0} (x y : A) → Some x ≡ Some y → x ≡ y
