@@ -1,0 +1,7 @@
+use Rattle.office_catalog.proofs.Once.{AreTold, catalog_once}
+use Rattle.office_catalog.proofs.laws.files_hold_one_catalog.Goals as goal
+
+pub returns : goal.returns
+returns c =
+    let told : AreTold = record { heads = c.files_tell_one_value.ensures.heads; indices = c.files_tell_one_value.ensures.indices } in
+    catalog_once told

@@ -1,0 +1,6 @@
+pub mod Known
+pub mod Held
+pub mod Named
+pub mod Kept
+pub mod Changed
+pub mod Opening
