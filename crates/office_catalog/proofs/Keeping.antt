@@ -1,10 +1,11 @@
 -- What a catalog keeps in memory, behind each change.
-use Rattle.std.proofs.Common.{◌≡◌, ℕ, zero, suc, ◌+◌, ◌<◌, ◌≤◌, false, List, [], ◌∷◌, ◌++◌, length, map, take, drop, get_or, Option, Some, None, refl, sym, ap, subst, ◌∙◌, arith}
+use Rattle.std.proofs.Common.{◌≡◌, ℕ, zero, suc, ◌+◌, ◌<◌, ◌≤◌, Bool, true, false, not, is_some, List, [], ◌∷◌, ◌++◌, length, map, take, drop, get_or, Option, Some, None, refl, sym, ap, subst, ◌∙◌, arith}
 use Rattle.std.specs.Prelude.{slice_get, slice_set, insert, vec_capacity, vec_len}
 use Rattle.std.specs.Global.{Vec}
 use Rattle.std.specs.Vec.{with_item}
 use Rattle.std.specs.Prelude.{IfSome}
 use Rattle.std.proofs.lemmas.Option.{none-some, same_Some}
+use Rattle.std.proofs.lemmas.Bool.{false≢true}
 use Rattle.backup_index.specs.Index.{Index}
 use Rattle.backup_index.specs.Lines.{IsSound, broken_index, none_from_sound}
 use Rattle.backup_index.specs.declared.lines.IndexRule.{IndexRule}
@@ -122,3 +123,11 @@ kept_pushed hosts hosts' named named' slice known epoch index entry place view n
       room = let a : 1024 ≤ vec_capacity hosts = kept.room in omega (arith, a, room);
       room_for_names = let a : 1024 ≤ vec_capacity named = kept.room_for_names in omega (arith, a, room_for_names);
     }
+
+-- what the test of lines tells
+pub none_broken : (rule : Option IndexRule) (none : Bool) → is_some rule ≡ not none → none ≡ true → rule ≡ None
+none_broken None none tests is = refl
+none_broken (Some rule) none tests is = absurd (false≢true (sym (tests ∙ ap not is)))
+
+pub some_broken : (rule : Option IndexRule) (none : Bool) → is_some rule ≡ not none → none ≡ false → rule ≡ None → ⊥
+some_broken rule none tests is broken = false≢true (ap is_some (sym broken) ∙ tests ∙ ap not is)

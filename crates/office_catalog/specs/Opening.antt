@@ -1,15 +1,14 @@
 -- Steps of an opening.
-use Rattle.std.specs.Prelude.{◌≡◌, ◌⊎◌, ◌≤◌, ℕ, List, Option, Some, None, length, take, slice_get}
+use Rattle.std.specs.Prelude.{◌≡◌, ◌⊎◌, ℕ, List, Option, Some, None, length}
 use Rattle.disk_trait.specs.declared.ids.FileId.{FileId}
 use Rattle.disk_trait.specs.declared.ids.FileId.TheVariants.{Head, Host}
 use Rattle.disk_trait.specs.Files.{Files}
 use Rattle.backup_index.specs.declared.head.HeadFile.{HeadFile}
-use Rattle.backup_index.specs.Head.{IsHead}
 use Rattle.backup_index.specs.Index.{Index}
 use Rattle.office_catalog.specs.declared.fault.CatalogFault.{CatalogFault}
 use Rattle.office_catalog.specs.declared.fault.CatalogFault.TheVariants.{Foreign, Memory}
-use Rattle.office_catalog.specs.Known.{Known, names_of, with_host}
-use Rattle.office_catalog.specs.Held.{head_file, HoldsHead, HoldsIndex, IsNoHead, IsUncalled, IsForeign}
+use Rattle.office_catalog.specs.Known.{Known, with_host}
+use Rattle.office_catalog.specs.Held.{HoldsHead, HoldsIndex, IsNoHead, IsUncalled, IsForeign}
 
 -- why bytes are no head
 abbrev pub SaysNoHead : List ℕ → CatalogFault → Type 0
@@ -40,7 +39,8 @@ pub record IsHostFault (told : Option Files) (host : ℕ) (name : List ℕ) (fil
   pub why : IsUncalled host name found
 
 abbrev pub SaysHost : Option Files → ℕ → List ℕ → CatalogFault → Type 0
-SaysHost told host name fault = (file : FileId) (found : Option (List ℕ)) → fault ≡ Foreign file found → IsHostFault told host name file found
+SaysHost told host name fault =
+    (file : FileId) (found : Option (List ℕ)) → fault ≡ Foreign file found → IsHostFault told host name file found
 
 -- what a fault of an opening says of the files
 abbrev pub SaysForeign : Option Files → CatalogFault → Type 0
@@ -52,10 +52,3 @@ pub record IsPushed (told : Option Files) (name : List ℕ) (old new : Known) : 
   pub called : IsCalled (length old.hosts) name index
   pub new_is : new ≡ with_host old index
   pub held : (all : Files) → told ≡ Some all → HoldsIndex index (all (Host (length old.hosts)))
-
--- the first hosts of a head are known
-pub record AreOpened (told : Option Files) (head : HeadFile) (count : ℕ) (known : Known) : Type 0 where
-  pub epoch_is : known.epoch ≡ head.epoch
-  pub within : count ≤ length head.names
-  pub names_are : names_of known.hosts ≡ take count head.names
-  pub each : (all : Files) → told ≡ Some all → (host : ℕ) (index : Index) → slice_get known.hosts host ≡ Some index → HoldsIndex index (all (Host host))

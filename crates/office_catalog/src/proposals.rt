@@ -17,7 +17,7 @@ use crate::edits::{CatalogChange, CatalogEdit};
 use crate::named::NamedHost;
 use attr_records::HostName;
 use backup_index::{
-    HeadFile, HostIndex, HostParts, Line, LineList, NameList, Rules, write_head_file,
+    HeadFile, HostIndex, HostParts, Line, LineList, NameList, Rules, broken_index, write_head_file,
     write_host_index,
 };
 use disk_trait::FileId;
@@ -198,8 +198,26 @@ impl Catalog {
         Ok(CatalogChange { edit, changes })
     }
 
+    /// Whether a backup of this number may follow the others of a host: it isn't below the next number.
+    pub fn may_follow(&self, host: usize, number: u32) -> bool
+        requires { host < length self.now.hosts }
+        ensures follows { result ≡ true → (index : Index) → slice_get self.now.hosts host ≡ Some index → index.next ≤ number }
+        ensures below { result ≡ false → (index : Index) → slice_get self.now.hosts host ≡ Some index → number < index.next }
+    {
+        self.hosts()[host].next() <= u64::from(number)
+    }
+
+    /// Whether a host may have these lines: they break no rule below its next number.
+    pub fn may_have(&self, host: usize, lines: &LineList) -> bool
+        requires { host < length self.now.hosts }
+        ensures sound { result ≡ true → (index : Index) → slice_get self.now.hosts host ≡ Some index → IsSound index.next lines.now }
+        ensures broken { result ≡ false → (index : Index) → slice_get self.now.hosts host ≡ Some index → IsSound index.next lines.now → ⊥ }
+    {
+        broken_index(self.hosts()[host].next(), lines.lines()).is_none()
+    }
+
     /// Puts the line of a further backup behind the others of a host, and fills the former newest so: the host's file
-    /// changes. The next number is then the one above the line's, which isn't below the next one.
+    /// changes. The next number is then the one above the line's, which isn't below the next one (`may_follow` tells).
     pub fn propose_line(
         &self,
         alloc: Global,
@@ -238,7 +256,7 @@ impl Catalog {
         self.propose_next(alloc, host, index.next(), lines)
     }
 
-    /// Gives a host other lines, which break no rule below its next number (`broken_index` tells): its file changes.
+    /// Gives a host other lines, which break no rule below its next number (`may_have` tells): its file changes.
     pub fn propose_lines(
         &self,
         alloc: Global,

@@ -4,7 +4,7 @@ ghost use Rattle.office_catalog.specs.Changed.{IsFor};
 
 use crate::{Catalog, CatalogChange, CatalogFault, open};
 use attr_records::HostName;
-use backup_index::{Kind, Line, LineList, Rules, broken_index};
+use backup_index::{Kind, Line, LineList, Rules};
 use disk_trait::{Bytes, Disk, DiskRoom, FileId, MemoryDisk};
 use intent_journal::Journal;
 use std::alloc::{AllocError, Global};
@@ -104,7 +104,7 @@ fn put(
     if host >= catalog.hosts().len() || !line.filled {
         return Err(Fail::new("no host"));
     }
-    if catalog.hosts()[host].next() > u64::from(line.number) {
+    if !catalog.may_follow(host, line.number) {
         return Err(Fail::new("the number is given"));
     }
     let change = catalog.propose_line(alloc, host, line, false)?;
@@ -142,7 +142,7 @@ fn clear(
         return Err(Fail::new("no host"));
     }
     let lines = LineList::new(alloc);
-    if broken_index(catalog.hosts()[host].next(), lines.lines()).is_some() {
+    if !catalog.may_have(host, &lines) {
         return Err(Fail::new("the lines break a rule"));
     }
     let change = catalog.propose_lines(alloc, host, lines)?;
@@ -237,11 +237,12 @@ fn expect_filled(alloc: Global, catalog: &Catalog) -> Result<(), Fail> {
 fn a_catalog_is_opened_again(rt: HostRuntime) -> Result<(), Fail> {
     let alloc = rt.alloc();
     let mut journal = filled(alloc)?;
-    let head = bytes_of(alloc, &mut journal, FileId::Head)?;
-    expect(head.as_slice() == HEAD.as_slice(), "another head")?;
     let mut catalog = open(alloc, &mut journal)?;
     expect_filled(alloc, &catalog)?;
+    let head = bytes_of(alloc, &mut journal, FileId::Head)?;
+    expect(head.as_slice() == HEAD.as_slice(), "another head")?;
     clear(alloc, &mut journal, &mut catalog, 1)?;
+    let mut journal = journal_of(alloc, journal.close())?;
     let catalog = open(alloc, &mut journal)?;
     match catalog.index(1) {
         Some(b) => expect(b.lines().is_empty() && b.next() == 5, "lines are left"),
