@@ -7,13 +7,14 @@ ghost use Rattle.disk_trait.specs.Files.{Files};
 ghost use Rattle.office_catalog.specs.Known.{Known};
 ghost use Rattle.office_catalog.specs.Held.{HoldsCatalog, IsForeign};
 
-use backup_index::files_tell_one_value;
+use one_way_layouts::{head_is_of_one_value, host_is_of_one_value};
 
 /// Files hold one catalog at most.
 pub fn files_hold_one_catalog()
     ensures { (files : Files) (a b : Known) → HoldsCatalog files a → HoldsCatalog files b → a ≡ b }
 {
-    files_tell_one_value();
+    head_is_of_one_value();
+    host_is_of_one_value();
 }
 
 /// Files hold a catalog by Head and the Host files alone.
@@ -26,5 +27,6 @@ pub fn no_other_file_counts()
 pub fn held_files_are_not_foreign()
     ensures { (files : Files) (known : Known) (file : FileId) (found : Option (List ℕ)) → HoldsCatalog files known → IsForeign (Some files) file found → ⊥ }
 {
-    files_tell_one_value();
+    head_is_of_one_value();
+    host_is_of_one_value();
 }

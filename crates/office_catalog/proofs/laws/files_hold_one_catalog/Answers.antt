@@ -3,5 +3,5 @@ use Rattle.office_catalog.proofs.laws.files_hold_one_catalog.Goals as goal
 
 pub returns : goal.returns
 returns c =
-    let told : AreTold = record { heads = c.files_tell_one_value.ensures.heads; indices = c.files_tell_one_value.ensures.indices } in
+    let told : AreTold = record { heads = c.head_is_of_one_value.ensures; indices = c.host_is_of_one_value.ensures } in
     catalog_once told
