@@ -2,7 +2,7 @@
 --     left_lines, left_trees      the lines and the trees of those that stay; the last of them becomes filled
 --     folded_tables      their tables
 --     changes      what becomes of tables, the newest first: a table, or None where it is removed
-use Rattle.std.specs.Prelude.{ℕ, Bool, true, false, ◌||◌, List, [], ◌∷◌, ◌++◌, Option, Some, None, if◌then◌else◌}
+use Rattle.std.specs.Prelude.{ℕ, ◌==◌, Bool, true, false, ◌||◌, List, [], ◌∷◌, ◌++◌, Option, Some, None, if◌then◌else◌}
 use Rattle.std.specs.Option.{unwrap_or, option_to_list}
 use Rattle.std.specs.List.{filter_map}
 use Rattle.backup_rules.specs.declared.lines.Line.{Line}
@@ -77,6 +77,22 @@ abbrev pub changes : List ℕ → List Line → List Rows → List Change
 changes numbers [] tables = []
 changes numbers (line ∷ lines) [] = []
 changes numbers (line ∷ lines) (table ∷ tables) = changes numbers lines tables ++ option_to_list (change_of numbers line table lines tables)
+
+-- what becomes of the table of a number, None where nothing does
+abbrev pub change_at : List Change → ℕ → Option (Option Rows)
+change_at [] number = None
+change_at (change ∷ others) number = if change.0 == number then Some change.1 else change_at others number
+
+-- what a change makes of a table, which may be absent
+abbrev pub changed : Option (Option Rows) → Option Rows → Option Rows
+changed None table = table
+changed (Some new) table = new
+
+-- the table of a number, None where no line has it
+abbrev pub table_at : List Line → List Rows → ℕ → Option Rows
+table_at [] tables number = None
+table_at (line ∷ lines) [] number = None
+table_at (line ∷ lines) (table ∷ tables) number = if line.number == number then Some table else table_at lines tables number
 
 -- the tables that are written
 abbrev pub added_tables : List Change → List Rows

@@ -2,5 +2,6 @@ pub mod Counted
 pub mod FoldLaws
 pub mod Folds
 pub mod LineLaws
+pub mod TableLaws
 pub mod Trees
 pub mod Walks

@@ -15,6 +15,16 @@ none_kept numbers (line ∷ lines) = step (is_gone numbers line.number) (none_ke
     step true rest = rest
     step false rest = refl
 
+pub none_left : (numbers : List ℕ) (lines : List Line) → is_none (left_lines numbers lines) ≡ are_gone numbers lines
+none_left numbers [] = refl
+none_left numbers (line ∷ lines) = step (is_gone numbers line.number) (none_left numbers lines)
+  where
+    step : (b : Bool) → is_none (left_lines numbers lines) ≡ are_gone numbers lines
+        → is_none (if b then left_lines numbers lines else (if are_gone numbers lines then filled line else line) ∷ left_lines numbers lines)
+        ≡ (b && are_gone numbers lines)
+    step true rest = rest
+    step false rest = refl
+
 last_filled-cons : (line : Line) (lines : List Line) → last_filled (line ∷ lines) ≡ (if is_none lines then filled line else line) ∷ last_filled lines
 last_filled-cons line [] = refl
 last_filled-cons line (next ∷ lines) = refl

@@ -14,6 +14,11 @@ tree_of [] tables = []
 tree_of (line ∷ lines) [] = []
 tree_of (line ∷ lines) (table ∷ tables) = if line.filled then table else view (tree_of lines tables) table
 
+-- the first backup is filled
+abbrev pub is_first_filled : List Line → Bool
+is_first_filled [] = false
+is_first_filled (line ∷ lines) = line.filled
+
 -- the backups of lines and trees
 abbrev pub backups : List Line → List Rows → List Backup
 backups [] trees = []

@@ -6,8 +6,9 @@ ghost use Rattle.merge_view.specs.Views.{Rows};
 ghost use Rattle.stored_trees.specs.Occurrences.{occurrences};
 ghost use Rattle.ref_counts.specs.Numbers.{number, total, capped};
 ghost use Rattle.ref_counts.specs.Stored.{stored, AreWhole};
+ghost use Rattle.backup_index.specs.Lines.{IsSound};
 ghost use Rattle.backup_delete.specs.Trees.{backups, is_gone, needs_fold};
-ghost use Rattle.backup_delete.specs.Folds.{left_lines, left_trees, folded_tables, changes, added_tables, taken_tables};
+ghost use Rattle.backup_delete.specs.Folds.{left_lines, left_trees, folded_tables, changes, change_at, changed, table_at, added_tables, taken_tables};
 
 use crate::changes::{TableChange, changes};
 use crate::lines::left_lines;
@@ -111,6 +112,10 @@ pub fn fold(
     ensures stored { IfOk result (λ folded. (trees : List Rows) → length trees ≡ length lines.now → AreWhole (backups lines.now trees)
         → tables.now ≡ stored (backups lines.now trees)
         → folded_tables numbers.now lines.now tables.now ≡ stored (backups folded.lines (left_trees numbers.now lines.now trees))) }
+    ensures files { IfOk result (λ folded. (next : ℕ) → IsSound next lines.now → (number : ℕ)
+        → changed (change_at folded.tables.items number) (table_at lines.now tables.now number)
+        ≡ table_at folded.lines (folded_tables numbers.now lines.now tables.now) number) }
+    ensures sound { IfOk result (λ folded. (next : ℕ) → IsSound next lines.now → IsSound next folded.lines) }
     ensures added { IfOk result (λ folded. (id : PoolId) → number folded.added id ≡ capped (total id (added_tables folded.tables.items))) }
     ensures taken { IfOk result (λ folded. (id : PoolId) → number folded.taken id ≡ capped (total id (taken_tables numbers.now lines.now tables.now))) }
     ensures counted { IfOk result (λ folded. (id : PoolId) → total id tables.now < 2 ^ 64 → total id (added_tables folded.tables.items) < 2 ^ 64

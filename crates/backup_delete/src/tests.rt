@@ -63,7 +63,7 @@ fn line(number: u32, filled: bool) -> Line {
     }
 }
 
-fn becomes(change: &TableChange, wanted: Becomes) -> bool {
+fn has_become(change: &TableChange, wanted: Becomes) -> bool {
     match (change.table(), wanted) {
         (None, Becomes::Removed) => true,
         (Some(table), Becomes::Empty) => table.is_empty(),
@@ -84,7 +84,7 @@ fn expect(folded: &Folded, lines: &[(u32, bool)], changes: &[(u32, Becomes)]) ->
         }
     }
     for (change, (number, wanted)) in folded.tables.as_slice().iter().zip(changes.iter()) {
-        if change.number() != *number || !becomes(change, *wanted) {
+        if change.number() != *number || !has_become(change, *wanted) {
             return Err(Fail::new("another table"));
         }
     }

@@ -1,13 +1,15 @@
 -- The tables are those of the shorter list, and the counts their differences.
-use Rattle.std.proofs.Common.{◌≡◌, ◌+◌, ◌<◌, ◌≤◌, ◌^◌, ℕ, List, sym, ap, ◌∙◌, arith}
+use Rattle.std.proofs.Common.{◌≡◌, ◌+◌, ◌<◌, ◌≤◌, ◌^◌, ℕ, List, sym, ap, subst, ◌∙◌, arith}
 use Rattle.backup_rules.specs.declared.lines.Line.{Line}
+use Rattle.backup_index.specs.Lines.{IsSound}
 use Rattle.ref_counts.specs.Numbers.{total, capped}
 use Rattle.ref_counts.specs.NumberLaws.{capped-few}
 use Rattle.ref_counts.specs.Stored.{stored}
 use Rattle.backup_delete.specs.Trees.{backups}
-use Rattle.backup_delete.specs.Folds.{left_trees, folded_tables, Change, added_tables, taken_tables}
+use Rattle.backup_delete.specs.Folds.{left_trees, folded_tables, Change, change_at, changed, table_at, added_tables, taken_tables}
 use Rattle.backup_delete.specs.FoldLaws.{folded-stored}
 use Rattle.backup_delete.specs.Counted.{folded-total, taken-within}
+use Rattle.backup_delete.specs.TableLaws.{changed-left, left-sound}
 use Rattle.backup_delete.proofs.deletion.fold.Goals as goal
 
 pub returns-clause-stored : goal.returns-clause-stored
@@ -28,3 +30,13 @@ returns-clause-counted c = λ id small few.
     ∙ ap (λ n. total id c.args.tables.now + n)
     (ap (λ (all : List Change). total id (added_tables all)) (sym c.in_ok-all.ensures) ∙ sym (capped-few (total id (added_tables c.in_ok-all.all.items)) few)
     ∙ ap (λ (all : List Change). capped (total id (added_tables all))) (sym c.as_slice.ensures.value) ∙ sym (c.in_ok-added.ensures id))
+
+pub returns-clause-files : goal.returns-clause-files
+returns-clause-files c = λ next sound number.
+    ap (λ (all : List Change). changed (change_at all number) (table_at c.args.lines.now c.args.tables.now number)) c.in_ok-all.ensures
+    ∙ changed-left c.args.numbers.now number next c.args.lines.now c.args.tables.now sound
+    ∙ ap (λ (lines : List Line). table_at lines (folded_tables c.args.numbers.now c.args.lines.now c.args.tables.now) number) (sym c.in_ok-left.ensures)
+
+pub returns-clause-sound : goal.returns-clause-sound
+returns-clause-sound c = λ next sound.
+    subst (λ (lines : List Line). IsSound next lines) (sym c.in_ok-left.ensures) (left-sound c.args.numbers.now next c.args.lines.now sound)
