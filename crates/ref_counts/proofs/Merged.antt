@@ -1,5 +1,5 @@
 -- Merged items, each of which is its own entry.
-use Rattle.std.proofs.Common.{◌≡◌, List, map, sym, ap, ◌∙◌, Option, ℕ}
+use Rattle.std.proofs.Common.{◌≡◌, map, sym, ◌∙◌, Option, ℕ}
 use Rattle.std.proofs.lemmas.List.{map-id}
 use Rattle.disk_trait.specs.declared.ids.PoolId.{PoolId}
 use Rattle.ordered_lists.specs.Merge.{merge}

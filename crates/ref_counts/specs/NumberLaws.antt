@@ -2,15 +2,14 @@
 --     number-summed, number-less      the numbers of merged counts
 --     number-put      the number of an id that is put
 --     same_counts      counts of the same numbers are one
-use Rattle.std.specs.Prelude.{◌≡◌, ℕ, zero, suc, ◌+◌, ◌-◌, ◌<◌, ◌≤◌, ◌^◌, Bool, true, false, cond, List, [], ◌∷◌, ◌++◌, Option, Some, None, min, if◌then◌else◌}
+use Rattle.std.specs.Prelude.{◌≡◌, ℕ, zero, suc, ◌+◌, ◌-◌, ◌<◌, ◌^◌, Bool, true, false, cond, List, [], ◌∷◌, ◌++◌, Option, Some, None, if◌then◌else◌}
 use Rattle.std.specs.declared.cmp.Ordering.{Ordering}
 use Rattle.std.specs.declared.cmp.Ordering.TheVariants.{Less, Equal, Greater}
-use Rattle.std.specs.Ordering.{eq_by_cmp, is_eq, match_ordering}
+use Rattle.std.specs.Ordering.{eq_by_cmp, match_ordering}
 use Rattle.std.specs.Option.{unwrap_or}
 use Rattle.std.specs.FinMap.Entries.{find, put, find-put, by_order}
-use Rattle.std.proofs.Common.{refl, sym, ap, ◌∙◌, subst, arith}
+use Rattle.std.proofs.Common.{refl, sym, ap, ◌∙◌, arith}
 use Rattle.disk_trait.specs.declared.ids.PoolId.{PoolId}
-use Rattle.ordered_lists.specs.Order.{IsInOrder}
 use Rattle.ordered_lists.specs.OrderLaws.{same_in_order}
 use Rattle.ordered_lists.specs.Merge.{entry_then, right_only, merge_at, merge}
 use Rattle.ordered_lists.specs.MergeLaws.{find-merge, IsInOrder-merge}

@@ -2,7 +2,7 @@
 --     number items id      the number of an id, 0 if it has no item
 --     total id tables      how often tables name an id
 --     capped n      what an item holds of a number: the greatest one, where it is greater
-use Rattle.std.specs.Prelude.{◌≡◌, ℕ, zero, suc, ◌+◌, ◌-◌, ◌<◌, ◌^◌, List, [], ◌∷◌, Option, Some, None, min}
+use Rattle.std.specs.Prelude.{ℕ, zero, suc, ◌+◌, ◌-◌, ◌<◌, ◌^◌, List, [], ◌∷◌, Option, Some, None, min}
 use Rattle.std.specs.Option.{unwrap_or}
 use Rattle.std.specs.FinMap.Entries.{find}
 use Rattle.disk_trait.specs.declared.ids.PoolId.{PoolId}

@@ -11,19 +11,18 @@ use Rattle.std.proofs.Common.{refl, sym, ap, ◌∙◌, subst, inl, inr, arith}
 use Rattle.disk_trait.specs.declared.ids.PoolId.{PoolId}
 use Rattle.ordered_lists.specs.Order.{IsInOrder}
 use Rattle.ordered_lists.specs.OrderLaws.{find_below, below_alike}
-use Rattle.attr_records.specs.Items.{contents}
 use Rattle.attr_records.specs.Paths.{path_cmp}
 use Rattle.attr_records.specs.PathLaws.{path_cmp_total}
 use Rattle.attr_records.specs.Trees.{node_at}
 use Rattle.attr_tables.specs.declared.records.Record.{Record}
-use Rattle.attr_tables.specs.declared.records.Record.TheVariants.{File, Dir, Link, Deleted}
+use Rattle.attr_tables.specs.declared.records.Record.TheVariants.{Deleted}
 use Rattle.attr_tables.specs.Records.{is_same_record}
 use Rattle.attr_tables.specs.RecordLaws.{same_record}
 use Rattle.merge_view.specs.Views.{Rows, IsWhole, difference, reverse}
 use Rattle.merge_view.specs.ViewLaws.{IsInOrder-reverse, node_at-reverse}
-use Rattle.stored_trees.specs.Occurrences.{names, occurrences, times}
+use Rattle.stored_trees.specs.Occurrences.{names, occurrences}
 use Rattle.stored_trees.specs.OccurrenceLaws.{occurrences-resolved}
-use Rattle.stored_trees.specs.Resolved.{resolved, AreTold, IsOneToOne}
+use Rattle.stored_trees.specs.Resolved.{IsOneToOne}
 use Rattle.ref_counts.specs.Numbers.{total}
 use Rattle.ref_counts.specs.NumberLaws.{total-append}
 use Rattle.ref_counts.specs.Stored.{Backup, stored_before, stored, AreWhole, IsNamed, IsHeld, AreAllTold, with_new, older_tables}

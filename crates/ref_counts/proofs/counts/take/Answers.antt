@@ -1,6 +1,4 @@
-use Rattle.std.proofs.Common.{◌≡◌, sym, ap, subst, ◌∙◌}
-use Rattle.ordered_lists.specs.Merge.{merge}
-use Rattle.pool_index.specs.Items.{id_cmp}
+use Rattle.std.proofs.Common.{sym, ap, subst, ◌∙◌}
 use Rattle.ref_counts.specs.Numbers.{Items, AreCounts, number, less}
 use Rattle.ref_counts.specs.NumberLaws.{AreCounts-less, number-less}
 use Rattle.ref_counts.proofs.Merged.{merged}

@@ -1,5 +1,5 @@
 -- A further item, and where there is none.
-use Rattle.std.proofs.Common.{ℕ, ◌+◌, List, sym, subst}
+use Rattle.std.proofs.Common.{◌+◌, sym, subst}
 use Rattle.wire_bytes.specs.Grammar.{field}
 use Rattle.wire_bytes.specs.GrammarLaws.{refused_again}
 use Rattle.wire_bytes.specs.GrammarReading.{Finds, Refuses}

@@ -1,5 +1,5 @@
 -- Where no item stands, or one that may not stand there.
-use Rattle.std.proofs.Common.{◌≡◌, ℕ, true, false, Some, ap, sym, ◌∙◌}
+use Rattle.std.proofs.Common.{◌≡◌, ℕ, false, Some, ap, sym, ◌∙◌}
 use Rattle.std.proofs.lemmas.Bool.{false≢true}
 use Rattle.disk_trait.specs.declared.ids.PoolId.{PoolId}
 use Rattle.ordered_lists.specs.Order.{is_after}

@@ -1,5 +1,5 @@
 -- The number that is put is one more.
-use Rattle.std.proofs.Common.{◌≡◌, ◌+◌, ◌<◌, ◌^◌, ◌-◌, ℕ, Bool, true, false, List, refl, sym, ap, ◌∙◌, if◌then◌else◌, min, arith}
+use Rattle.std.proofs.Common.{◌≡◌, ◌+◌, ◌<◌, ℕ, Bool, true, false, refl, ap, ◌∙◌, if◌then◌else◌, arith}
 use Rattle.std.specs.Option.{unwrap_or}
 use Rattle.std.specs.Map.{lookup}
 use Rattle.std.specs.BTreeMap.{insert_entry, is_at}

@@ -1,5 +1,5 @@
 -- One more row.
-use Rattle.std.proofs.Common.{◌≡◌, ◌+◌, ◌<◌, ℕ, List, [], ◌∷◌, ◌++◌, length, take, get_or, refl, sym, ap, ◌∙◌, if◌then◌else◌, arith}
+use Rattle.std.proofs.Common.{◌≡◌, ◌+◌, ◌<◌, ℕ, List, [], ◌∷◌, ◌++◌, length, take, get_or, sym, ap, ◌∙◌, if◌then◌else◌, arith}
 use Rattle.std.proofs.lemmas.List.{take_more}
 use Rattle.disk_trait.specs.declared.ids.PoolId.{PoolId}
 use Rattle.attr_tables.specs.declared.records.Record.{Record}

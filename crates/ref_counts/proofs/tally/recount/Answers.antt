@@ -1,6 +1,5 @@
 -- Tables of backups name an id exactly if some backup's tree does.
-use Rattle.std.proofs.Common.{◌≡◌, ◌<◌, ℕ, List, sym, ap, ◌∙◌, subst}
-use Rattle.disk_trait.specs.declared.ids.PoolId.{PoolId}
+use Rattle.std.proofs.Common.{◌<◌, ℕ, List, sym, subst}
 use Rattle.merge_view.specs.Views.{Rows}
 use Rattle.ref_counts.specs.Numbers.{total}
 use Rattle.ref_counts.specs.NumberLaws.{capped-some, some-capped}

@@ -1,5 +1,5 @@
 -- The header, the items, and the seal.
-use Rattle.std.proofs.Common.{◌≡◌, ◌∙◌, ap, sym, subst, length, rules}
+use Rattle.std.proofs.Common.{◌∙◌, ap, sym, subst, length, rules}
 use Rattle.std.specs.Int.{w64}
 use Rattle.wire_bytes.specs.Layout.{IsNumber}
 use Rattle.wire_bytes.specs.Seal.{sealed}
