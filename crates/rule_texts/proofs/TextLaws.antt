@@ -3,8 +3,8 @@
 --     behind_all      nothing stands behind a text
 --     weekdays_more, bit_small, bits_more      one weekday more
 --     each_done      no piece is left
-use Rattle.std.proofs.Common.{◌≡◌, ℕ, ◌+◌, ◌-◌, ◌*◌, ◌%◌, ◌^◌, ◌<◌, ◌≤◌, suc, nat_le, ◌==◌, Bool, true, cond, ltb, List, [], ◌∷◌, ◌++◌, length, get_or, take, drop, Option, Some, None, unwrap_or, inl, inr, refl, sym, ap, ◌∙◌, arith}
-use Rattle.std.specs.List.{position_or_len, prefix_len, after_first}
+use Rattle.std.proofs.Common.{◌≡◌, ℕ, ◌+◌, ◌-◌, ◌*◌, ◌%◌, ◌^◌, ◌<◌, ◌≤◌, suc, nat_le, Bool, cond, ltb, List, [], ◌++◌, length, get_or, take, drop, Option, Some, None, unwrap_or, inl, inr, sym, ap, ◌∙◌, arith}
+use Rattle.std.specs.List.{position_or_len, after_first}
 use Rattle.std.proofs.Math.ListN.{drop_of_length-le}
 use Rattle.std.proofs.Math.Nat.{mod-eq_of_lt, pow-suc}
 use Rattle.std.proofs.Math.Numerals.{add-one}

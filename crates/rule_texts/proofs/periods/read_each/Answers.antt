@@ -1,8 +1,4 @@
-use Rattle.std.proofs.Common.{List, ◌++◌, map, ap, ◌∙◌}
-use Rattle.std.specs.Prelude.{option_map}
 use Rattle.std.proofs.Math.ListN.{drop_of_length-le}
-use Rattle.backup_rules.specs.Values.{Span}
-use Rattle.rule_texts.specs.Periods.{each_of, period_of}
 use Rattle.rule_texts.proofs.TextLaws.{each_done}
 use Rattle.rule_texts.proofs.periods.read_each.Goals as goal
 

@@ -1,4 +1,4 @@
-use Rattle.std.proofs.Common.{ℕ, ◌+◌, ◌-◌, ◌*◌, ◌%◌, ◌^◌, ◌<◌, ◌≡◌, get_or, drop, sym, ap, ◌∙◌, arith}
+use Rattle.std.proofs.Common.{ℕ, ◌+◌, ◌-◌, ◌*◌, ◌%◌, ◌^◌, ◌≡◌, get_or, drop, sym, ap, ◌∙◌, arith}
 use Rattle.rule_texts.specs.Periods.{weekdays_from}
 use Rattle.rule_texts.proofs.TextLaws.{weekdays_more, bit_small, bits_more}
 use Rattle.rule_texts.proofs.periods.read_weekdays.Goals as goal
