@@ -11,9 +11,11 @@ use Rattle.office_model.specs.events.Clean.{is_protected}
 use Rattle.office_model.specs.events.Commit.{committed}
 use Rattle.office_model.specs.events.Contact.{contacted}
 use Rattle.office_model.specs.events.Expire.{expired}
+use Rattle.office_model.specs.events.ReadNext.{given}
+use Rattle.office_model.specs.declared.nodes.Frame.{Frame}
 use Rattle.office_model.specs.laws.CleanLaws.{IsSound-cleaned}
 use Rattle.office_model.specs.laws.CommitLaws.{IsSound-committed}
-use Rattle.office_model.specs.laws.SoundLaws.{IsSound-contacted, IsSound-expired}
+use Rattle.office_model.specs.laws.SoundLaws.{IsSound-contacted, IsSound-expired, IsSound-given}
 use Rattle.tree_parts.specs.Steps.{IsPartStep}
 
 -- a part that was as a rule wants stays so
@@ -56,6 +58,12 @@ pub contact_keeps : (office : Office) (name : List ℕ) (good : Bool) (result : 
 contact_keeps office name good (Ok counts) hosts sound made h =
     IsSound-contacted office name good (record { good = counts.0; bad = counts.1; hosts = hosts }) sound made
 contact_keeps office name good (Err refusal) hosts sound made h = rw h sound
+
+pub given_keeps : (office : Office) (session : SessionName) (result : Result Frame Refusal) (restores : List Restore) → IsSound office
+    → IfOk result (λ frame. given session office.restores ≡ Ok (record { frame = frame; restores = restores }))
+    → OnErr result (restores ≡ office.restores) → IsSound (record office { restores = restores })
+given_keeps office session (Ok frame) restores sound made r = IsSound-given office session (record { frame = frame; restores = restores }) sound made
+given_keeps office session (Err refusal) restores sound made r = rw r sound
 
 pub expire_keeps : (office : Office) (name : List ℕ) (now : ℕ) (result : Result ℕ Refusal) (hosts : List Host) → IsSound office
     → IfOk result (λ count. expired name now office.hosts ≡ Ok (record { count = count; hosts = hosts }))

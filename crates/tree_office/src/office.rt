@@ -10,7 +10,7 @@ use tree_parts::{
     Content, Dump, Host, LAST_SEQUENCE, Restore, change_rules, cleaned, commit_dump, contact_host,
     count_backups, count_bytes, count_marked, delete_backup, drop_dump, drop_restore, entries_of,
     expire_backups, fated, file_of, host_index, host_names, in_dumps, is_pooled, keep_backup,
-    lines_of, node_of_path, open_dump_of, push_dump, push_host, push_restore, put_item,
+    lines_of, node_of_path, open_dump_of, push_dump, push_host, push_restore, put_item, read_next,
     remove_path,
 };
 use wake_schedule::{Local, blackout, due};
@@ -50,6 +50,7 @@ impl MemoryOffice {
     ghost use Rattle.office_model.specs.events.Lookup.{carried as lookup};
     ghost use Rattle.office_model.specs.events.ReadFile.{carried as read_file};
     ghost use Rattle.office_model.specs.events.OpenRead.{carried as open_read};
+    ghost use Rattle.office_model.specs.events.ReadNext.{carried as read_next};
     ghost use Rattle.office_model.specs.events.CloseRead.{carried as close_read};
     ghost use Rattle.office_model.specs.events.Keep.{carried as keep};
     ghost use Rattle.office_model.specs.events.Delete.{carried as delete};
@@ -105,7 +106,7 @@ impl MemoryOffice {
             Event::Lookup { host, number, path } => self.lookup(alloc, host, *number, path),
             Event::ReadFile { host, number, path } => self.read_file(alloc, host, *number, path),
             Event::OpenRead { host, number } => self.open_read(alloc, host, *number),
-            Event::ReadNext { restore: _ } => Err(Refusal::Memory),
+            Event::ReadNext { restore } => self.read_next(alloc, *restore),
             Event::CloseRead { restore } => self.close_read(*restore),
             Event::Keep { host, number, on } => self.keep(host, *number, *on),
             Event::Delete { host, number } => self.delete(host, *number),
@@ -277,6 +278,13 @@ impl MemoryOffice {
         )?;
         self.sequence += 1;
         Ok(Answer::Restore(session))
+    }
+
+    fn read_next(&mut self, alloc: Global, session: SessionName) -> Result<Answer, Refusal>
+        ensures { IsMemoryStep (read_next session self.old) self.old result self.new }
+    {
+        let frame = read_next(alloc, &mut self.restores, session)?;
+        Ok(Answer::Next(frame))
     }
 
     fn close_read(&mut self, session: SessionName) -> Result<Answer, Refusal>
