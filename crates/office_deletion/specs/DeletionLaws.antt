@@ -1,0 +1,265 @@
+-- The files of a host after a deletion of backups.
+--     left_backups numbers backups      the backups of other numbers, the last of them filled
+--     IsTableOf table found      the file of a table, or none
+--     IsChangedTo change before after      a file that a change leaves, removes or writes
+--     IsDeletion      the host's index, its tables by the changes of a deletion, and its counts
+--     host_shortened, beyond_deletion      the host after it, and no other table
+use Rattle.std.specs.Prelude.{◌≡◌, ℕ, zero, suc, ◌+◌, ◌<◌, ◌==◌, Bool, true, false, List, [], ◌∷◌, length, map, Option, Some, None, is_some, slice_get, if◌then◌else◌}
+use Rattle.std.specs.List.{position_from}
+use Rattle.std.proofs.Common.{refl, sym, ap, ◌∙◌, subst, arith}
+use Rattle.std.proofs.lemmas.Bool.{true≢false, false≢true, eq-eqb, eqb-true, ne_eqb}
+use Rattle.disk_trait.specs.declared.ids.PoolId.{PoolId}
+use Rattle.disk_trait.specs.declared.ids.FileId.TheVariants as F
+use Rattle.disk_trait.specs.Files.{Files}
+use Rattle.backup_rules.specs.declared.lines.Line.{Line}
+use Rattle.merge_view.specs.Views.{Rows}
+use Rattle.ref_counts.specs.Numbers.{total}
+use Rattle.ref_counts.specs.Stored.{Backup as StoredBackup, stored, AreWhole}
+use Rattle.backup_delete.specs.Trees.{backups, is_gone, are_gone}
+use Rattle.backup_delete.specs.Folds.{filled as filled_line, left_lines, left_trees, folded_tables, changes, change_at, changed, table_at}
+use Rattle.backup_delete.specs.FoldLaws.{folded-stored}
+use Rattle.backup_delete.specs.TableLaws.{changed-left}
+use Rattle.office_model.specs.Office.{Host, Backup, AreNumbered, backup_index}
+use Rattle.office_model.specs.Parts.{lines_of, filled_as}
+use Rattle.office_files.specs.Pairs.{AtEachPair, no_pairs, other_at}
+use Rattle.office_files.specs.Layouts.{IsHostFile, IsTableFile, IsCountsFile}
+use Rattle.office_files.specs.Hosts.{index_of_host, IsShown, StandsHost}
+use Rattle.office_files.specs.KeptLaws.{IsTableFile-same}
+use Rattle.office_changes.specs.ChangeLaws.{shown_given}
+
+-- the backups of other numbers, the last of them filled
+abbrev pub left_backups : List ℕ → List Backup → List Backup
+left_backups numbers [] = []
+left_backups numbers (backup ∷ newer) =
+    if is_gone numbers backup.line.number then left_backups numbers newer
+    else (if are_gone numbers (lines_of newer) then filled_as true backup else backup) ∷ left_backups numbers newer
+
+abbrev pub rows_of : List StoredBackup → List Rows
+rows_of shown = map (λ backup. backup.rows) shown
+
+-- the file of a table, or none
+abbrev pub IsTableOf : Option Rows → Option (List ℕ) → Type 0
+IsTableOf None found = found ≡ None
+IsTableOf (Some rows) found = IsTableFile rows found
+
+-- a file that a change leaves, removes or writes
+abbrev pub IsChangedTo : Option (Option Rows) → Option (List ℕ) → Option (List ℕ) → Type 0
+IsChangedTo None before after = after ≡ before
+IsChangedTo (Some None) before after = after ≡ None
+IsChangedTo (Some (Some rows)) before after = IsTableFile rows after
+
+-- ---- lists
+
+module _ {A B : Type 0} (R : A → B → Type 0) where
+  pairs_cons : (x : A) (xs : List A) (y : B) (ys : List B) → R x y → AtEachPair (λ i. R) xs ys → AtEachPair (λ i. R) (x ∷ xs) (y ∷ ys)
+  pairs_cons x xs y ys r pairs = record { counted = ap suc pairs.counted; each = each }
+    where
+      each : (i : ℕ) (a : A) (b : B) → slice_get (x ∷ xs) i ≡ Some a → slice_get (y ∷ ys) i ≡ Some b → R a b
+      each zero a b e f = let s : x ≡ a = cc in let t : y ≡ b = cc in subst (λ (a : A). R a b) s (subst (R x) t r)
+      each (suc i) a b e f = pairs.each i a b e f
+
+  first_of : (x : A) (xs : List A) (y : B) (ys : List B) → AtEachPair (λ i. R) (x ∷ xs) (y ∷ ys) → R x y
+  first_of x xs y ys pairs = pairs.each zero x y refl refl
+
+  rest_of : (x : A) (xs : List A) (y : B) (ys : List B) → AtEachPair (λ i. R) (x ∷ xs) (y ∷ ys) → AtEachPair (λ i. R) xs ys
+  rest_of x xs y ys pairs = record { counted = let same = pairs.counted in omega arith; each = λ i a b e f. pairs.each (suc i) a b e f }
+
+length_lines : (all : List Backup) → length (lines_of all) ≡ length all
+length_lines [] = refl
+length_lines (b ∷ all) = ap suc (length_lines all)
+
+length_rows : (shown : List StoredBackup) → length (rows_of shown) ≡ length shown
+length_rows [] = refl
+length_rows (s ∷ shown) = ap suc (length_rows shown)
+
+-- ---- what backups show
+
+module _ (given : PoolId → Type 0) (contents : PoolId → List ℕ) where
+  abbrev Shown : Backup → StoredBackup → Type 0
+  Shown = IsShown given contents
+
+  -- shown backups are told by the lines and the rows
+  as_backups : (all : List Backup) (shown : List StoredBackup) → AtEachPair (λ i. Shown) all shown → shown ≡ backups (lines_of all) (rows_of shown)
+  as_backups [] [] pairs = refl
+  as_backups [] (s ∷ shown) pairs = absurd (let same = pairs.counted in omega arith)
+  as_backups (b ∷ all) [] pairs = absurd (let same = pairs.counted in omega arith)
+  as_backups (b ∷ all) (s ∷ shown) pairs =
+      let here = (first_of Shown b all s shown pairs).filled in
+      let rest = as_backups all shown (rest_of Shown b all s shown pairs) in
+      λ i. (record { filled = here i; rows = s.rows }) ∷ rest i
+
+  are_whole : (all : List Backup) (shown : List StoredBackup) → AtEachPair (λ i. Shown) all shown → AreWhole shown
+  are_whole all [] pairs = tt
+  are_whole [] (s ∷ shown) pairs = absurd (let same = pairs.counted in omega arith)
+  are_whole (b ∷ all) (s ∷ shown) pairs = ((first_of Shown b all s shown pairs).whole, are_whole all shown (rest_of Shown b all s shown pairs))
+
+  left_shown : (numbers : List ℕ) (all : List Backup) (shown : List StoredBackup) → AtEachPair (λ i. Shown) all shown
+      → AtEachPair (λ i. Shown) (left_backups numbers all) (backups (left_lines numbers (lines_of all)) (left_trees numbers (lines_of all) (rows_of shown)))
+  left_shown numbers [] [] pairs = no_pairs (λ i. Shown)
+  left_shown numbers [] (s ∷ shown) pairs = absurd (let same = pairs.counted in omega arith)
+  left_shown numbers (b ∷ all) [] pairs = absurd (let same = pairs.counted in omega arith)
+  left_shown numbers (b ∷ all) (s ∷ shown) pairs =
+      step (is_gone numbers b.line.number) (are_gone numbers (lines_of all)) (first_of Shown b all s shown pairs)
+      (left_shown numbers all shown (rest_of Shown b all s shown pairs))
+    where
+      step : (gone last : Bool) → Shown b s
+          → AtEachPair (λ i. Shown) (left_backups numbers all) (backups (left_lines numbers (lines_of all)) (left_trees numbers (lines_of all) (rows_of shown)))
+          → AtEachPair (λ i. Shown) (if gone then left_backups numbers all else (if last then filled_as true b else b) ∷ left_backups numbers all)
+          (backups (if gone then left_lines numbers (lines_of all) else (if last then filled_line b.line else b.line) ∷ left_lines numbers (lines_of all))
+          (if gone then left_trees numbers (lines_of all) (rows_of shown) else s.rows ∷ left_trees numbers (lines_of all) (rows_of shown)))
+      step true last is rest = rest
+      step false true is rest =
+          pairs_cons Shown (filled_as true b) (left_backups numbers all) (record { filled = true; rows = s.rows })
+          (backups (left_lines numbers (lines_of all)) (left_trees numbers (lines_of all) (rows_of shown)))
+          (record { filled = refl; tree = is.tree; whole = is.whole; told = is.told }) rest
+      step false false is rest =
+          pairs_cons Shown b (left_backups numbers all) (record { filled = b.line.filled; rows = s.rows })
+          (backups (left_lines numbers (lines_of all)) (left_trees numbers (lines_of all) (rows_of shown)))
+          (record { filled = refl; tree = is.tree; whole = is.whole; told = is.told }) rest
+
+lines_left : (numbers : List ℕ) (all : List Backup) → lines_of (left_backups numbers all) ≡ left_lines numbers (lines_of all)
+lines_left numbers [] = refl
+lines_left numbers (b ∷ all) = step (is_gone numbers b.line.number) (are_gone numbers (lines_of all)) (lines_left numbers all)
+  where
+    step : (gone last : Bool) → lines_of (left_backups numbers all) ≡ left_lines numbers (lines_of all)
+        → lines_of (if gone then left_backups numbers all else (if last then filled_as true b else b) ∷ left_backups numbers all)
+        ≡ (if gone then left_lines numbers (lines_of all) else (if last then filled_line b.line else b.line) ∷ left_lines numbers (lines_of all))
+    step true last rest = rest
+    step false true rest = ap (λ ls. filled_line b.line ∷ ls) rest
+    step false false rest = ap (λ ls. b.line ∷ ls) rest
+
+-- ---- tables by numbers
+
+-- where no backup has the number no table does
+no_table : (from number : ℕ) (all : List Backup) (tables : List Rows) → is_some (position_from (λ (b : Backup). b.line.number == number) from all) ≡ false
+    → table_at (lines_of all) tables number ≡ None
+no_table from number [] tables e = refl
+no_table from number (b ∷ all) [] e = refl
+no_table from number (b ∷ all) (table ∷ tables) e = step (b.line.number == number) e (no_table (from + 1) number all tables)
+  where
+    step : (t : Bool) → is_some (if t then Some from else position_from (λ (b : Backup). b.line.number == number) (from + 1) all) ≡ false
+        → (is_some (position_from (λ (b : Backup). b.line.number == number) (from + 1) all) ≡ false → table_at (lines_of all) tables number ≡ None)
+        → (if t then Some table else table_at (lines_of all) tables number) ≡ None
+    step true e rest = absurd (true≢false e)
+    step false e rest = rest e
+
+-- the files of tables, told by numbers
+by_number : (all : List Backup) (tables : List Rows) (file : ℕ → Option (List ℕ)) (from : ℕ)
+    → AtEachPair (λ i b rows. IsTableFile rows (file b.line.number)) all tables → (number : ℕ)
+    → (is_some (position_from (λ (b : Backup). b.line.number == number) from all) ≡ false → file number ≡ None)
+    → IsTableOf (table_at (lines_of all) tables number) (file number)
+by_number [] [] file from pairs number none = none refl
+by_number [] (table ∷ tables) file from pairs number none = absurd (let same = pairs.counted in omega arith)
+by_number (b ∷ all) [] file from pairs number none = absurd (let same = pairs.counted in omega arith)
+by_number (b ∷ all) (table ∷ tables) file from pairs number none =
+    step (b.line.number == number) refl none (by_number all tables file (from + 1) (rest_of (λ b rows. IsTableFile rows (file b.line.number)) b all table tables pairs) number)
+  where
+    step : (t : Bool) → (b.line.number == number) ≡ t
+        → (is_some (if t then Some from else position_from (λ (b : Backup). b.line.number == number) (from + 1) all) ≡ false → file number ≡ None)
+        → ((is_some (position_from (λ (b : Backup). b.line.number == number) (from + 1) all) ≡ false → file number ≡ None)
+        → IsTableOf (table_at (lines_of all) tables number) (file number))
+        → IsTableOf (if t then Some table else table_at (lines_of all) tables number) (file number)
+    step true e none rest =
+        subst (λ (n : ℕ). IsTableFile table (file n)) (eqb-true b.line.number number e)
+        (first_of (λ b rows. IsTableFile rows (file b.line.number)) b all table tables pairs)
+    step false e none rest = rest none
+
+-- a later backup has another number than the first
+abbrev IsRising : List Backup → Type 0
+IsRising all = (i j : ℕ) (a b : Backup) → i < j → slice_get all i ≡ Some a → slice_get all j ≡ Some b → a.line.number < b.line.number
+
+-- of backups whose numbers rise each has its table by its number
+at_number : (all : List Backup) (tables : List Rows) → IsRising all → (i : ℕ) (b : Backup) (rows : Rows)
+    → slice_get all i ≡ Some b → slice_get tables i ≡ Some rows → table_at (lines_of all) tables b.line.number ≡ Some rows
+at_number [] tables rise i b rows e f = absurd cc
+at_number (a ∷ all) [] rise i b rows e f = absurd cc
+at_number (a ∷ all) (table ∷ tables) rise zero b rows e f =
+    let same : a ≡ b = cc in
+    let here = eq-eqb a.line.number b.line.number (ap (λ (x : Backup). x.line.number) same) in
+    ap (λ (t : Bool). if t then Some table else table_at (lines_of all) tables b.line.number) here ∙ f
+at_number (a ∷ all) (table ∷ tables) rise (suc i) b rows e f =
+    let less = rise zero (suc i) a b (omega arith) refl e in
+    let other = ne_eqb a.line.number b.line.number (λ same. omega (arith, same, less)) in
+    ap (λ (t : Bool). if t then Some table else table_at (lines_of all) tables b.line.number) other
+    ∙ at_number all tables (λ m n x y l g h. rise (suc m) (suc n) x y (omega arith) g h) i b rows e f
+
+after_change : (change : Option (Option Rows)) (table : Option Rows) (before after : Option (List ℕ)) → IsTableOf table before
+    → IsChangedTo change before after → IsTableOf (changed change table) after
+after_change None None before after is same = same ∙ is
+after_change None (Some rows) before after is same = IsTableFile-same rows before after same is
+after_change (Some None) table before after is gone = gone
+after_change (Some (Some rows)) table before after is file = file
+
+-- ---- a host
+
+-- The backups of these numbers are deleted from a host: its index, its tables as the changes of the deletion make them, and
+-- its counts.
+pub record IsDeletion (numbers : List ℕ) (files image : Files) (number : ℕ) (host new : Host) (shown : List StoredBackup) : Type 0 where
+  pub backups_are : new.backups ≡ left_backups numbers host.backups
+  pub numbered : AreNumbered new.next new.backups
+  pub index : IsHostFile (index_of_host number new) (image (F.Host number))
+  pub tables : (n : ℕ) → IsChangedTo (change_at (changes numbers (lines_of host.backups) (stored shown)) n) (files (F.Table number n)) (image (F.Table number n))
+  pub counts : IsCountsFile number
+      (λ id. total id (stored (backups (left_lines numbers (lines_of host.backups)) (left_trees numbers (lines_of host.backups) (rows_of shown)))))
+      (image (F.Counts number))
+
+module _ (given given' : PoolId → Type 0) (contents contents' : PoolId → List ℕ)
+    (same : (id : PoolId) → given id → given' id × (contents id ≡ contents' id)) (numbers : List ℕ) (files image : Files) (number : ℕ)
+    (host new : Host) (shown : List StoredBackup) (stands : StandsHost given contents files number host shown)
+    (none : (n : ℕ) → is_some (backup_index host.backups n) ≡ false → files (F.Table number n) ≡ None)
+    (deletion : IsDeletion numbers files image number host new shown) where
+  abbrev lines : List Line
+  lines = lines_of host.backups
+
+  abbrev left : List StoredBackup
+  left = backups (left_lines numbers lines) (left_trees numbers lines (rows_of shown))
+
+  abbrev folded : List Rows
+  folded = folded_tables numbers lines (stored shown)
+
+  -- the tables after the deletion are those of the backups that are left
+  left_stored : folded ≡ stored left
+  left_stored =
+      let is = as_backups given contents host.backups shown stands.shown in
+      let counted : length (rows_of shown) ≡ length lines = length_rows shown ∙ stands.shown.counted ∙ sym (length_lines host.backups) in
+      ap (λ (s : List StoredBackup). folded_tables numbers lines (stored s)) is
+      ∙ folded-stored numbers lines (rows_of shown) counted (subst AreWhole is (are_whole given contents host.backups shown stands.shown))
+
+  table_of : (n : ℕ) → IsTableOf (table_at (lines_of new.backups) (stored left) n) (image (F.Table number n))
+  table_of n =
+      let was = by_number host.backups (stored shown) (λ n. files (F.Table number n)) 0 stands.tables n (none n) in
+      let now = after_change (change_at (changes numbers lines (stored shown)) n) (table_at lines (stored shown) n) (files (F.Table number n))
+      (image (F.Table number n)) was (deletion.tables n) in
+      let left_is : lines_of new.backups ≡ left_lines numbers lines = ap lines_of deletion.backups_are ∙ lines_left numbers host.backups in
+      subst (λ (ls : List Line). IsTableOf (table_at ls (stored left) n) (image (F.Table number n))) (sym left_is)
+      (subst (λ (ts : List Rows). IsTableOf (table_at (left_lines numbers lines) ts n) (image (F.Table number n))) left_stored
+      (subst (λ (t : Option Rows). IsTableOf t (image (F.Table number n)))
+      (changed-left numbers n host.next lines (stored shown) stands.index.fits.index.sound) now))
+
+  shown_left : AtEachPair (λ i. IsShown given' contents') new.backups left
+  shown_left =
+      let was = left_shown given contents numbers host.backups shown stands.shown in
+      subst (λ (l : List Backup). AtEachPair (λ i. IsShown given' contents') l left) (sym deletion.backups_are)
+      (record { counted = was.counted; each = λ i x y e f. shown_given given given' contents contents' same x y (was.each i x y e f) })
+
+  stored_length : (all : List StoredBackup) → length (stored all) ≡ length all
+  stored_length [] = refl
+  stored_length (s ∷ []) = refl
+  stored_length (s ∷ t ∷ all) = ap suc (stored_length (t ∷ all))
+
+  pub host_shortened : StandsHost given' contents' image number new left
+  host_shortened = record {
+    index = deletion.index;
+    shown = shown_left;
+    tables = record {
+      counted = stored_length left ∙ shown_left.counted;
+      each = λ i b rows e f.
+          subst (λ (t : Option Rows). IsTableOf t (image (F.Table number b.line.number)))
+          (at_number new.backups (stored left) deletion.numbered.rise i b rows e f) (table_of b.line.number);
+    };
+    counts = deletion.counts;
+  }
+
+  -- the tables of numbers that the host hasn't
+  pub beyond_deletion : (n : ℕ) → is_some (backup_index new.backups n) ≡ false → image (F.Table number n) ≡ None
+  beyond_deletion n e = subst (λ (t : Option Rows). IsTableOf t (image (F.Table number n))) (no_table 0 n new.backups (stored left) e) (table_of n)

@@ -1,0 +1,32 @@
+//! A host after a deletion.
+
+ghost use Rattle.std.specs.Prelude.{◌≡◌, false, List, ℕ, None, is_some};
+ghost use Rattle.disk_trait.specs.declared.ids.PoolId.{PoolId};
+ghost use Rattle.disk_trait.specs.declared.ids.FileId.TheVariants.{Table as TableFile};
+ghost use Rattle.disk_trait.specs.Files.{Files};
+ghost use Rattle.pool_index.specs.Index.{Index};
+ghost use Rattle.ref_counts.specs.Stored.{Backup as StoredBackup};
+ghost use Rattle.backup_delete.specs.Trees.{backups};
+ghost use Rattle.backup_delete.specs.Folds.{left_lines, left_trees};
+ghost use Rattle.office_model.specs.Office.{Host, backup_index};
+ghost use Rattle.office_model.specs.Parts.{lines_of};
+ghost use Rattle.office_files.specs.Pooled.{contents_of, IsListed};
+ghost use Rattle.office_files.specs.Hosts.{StandsHost};
+ghost use Rattle.office_deletion.specs.DeletionLaws.{rows_of, IsDeletion};
+
+/// A host after a deletion: files stand for it with the backups that are left, and no other table of it is there.
+pub fn host_after_a_deletion()
+    ensures stands { (index : Index) (numbers : List ℕ) (files image : Files) (number : ℕ) (host new : Host) (shown : List StoredBackup)
+        → ((id : PoolId) → IsListed index id → contents_of files id ≡ contents_of image id)
+        → StandsHost (IsListed index) (contents_of files) files number host shown
+        → ((n : ℕ) → is_some (backup_index host.backups n) ≡ false → files (TableFile number n) ≡ None)
+        → IsDeletion numbers files image number host new shown
+        → StandsHost (IsListed index) (contents_of image) image number new
+        (backups (left_lines numbers (lines_of host.backups)) (left_trees numbers (lines_of host.backups) (rows_of shown))) }
+    ensures beyond { (index : Index) (numbers : List ℕ) (files image : Files) (number : ℕ) (host new : Host) (shown : List StoredBackup)
+        → ((id : PoolId) → IsListed index id → contents_of files id ≡ contents_of image id)
+        → StandsHost (IsListed index) (contents_of files) files number host shown
+        → ((n : ℕ) → is_some (backup_index host.backups n) ≡ false → files (TableFile number n) ≡ None)
+        → IsDeletion numbers files image number host new shown
+        → (n : ℕ) → is_some (backup_index new.backups n) ≡ false → image (TableFile number n) ≡ None }
+{}
