@@ -18,6 +18,7 @@ const ROOM: DiskRoom = DiskRoom {
 // The bucket of `hello`, whose MD5 begins with 5d (RFC 1321).
 const BUCKET: u8 = 5;
 
+#[derive(Drop)]
 struct Office {
     journal: Journal<MemoryDisk>,
     pool: Pool<Md5Namer>,
