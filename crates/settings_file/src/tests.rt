@@ -67,8 +67,8 @@ fn expect_defaults(settings: &Settings) -> Result<(), Fail> {
     let periods = settings.rules.blackout_periods().as_slice();
     let is_default =
         matches!(periods, [period] if period.begin() == 420 && period.end() == 1_170 && period.weekdays() == 62);
-    if settings.rules.full_keep_cnt().as_slice() == [1]
-        && settings.rules.old_full_keep_cnt().as_slice() == [1]
+    if settings.rules.full_keep_cnt().as_slice() == [1].as_slice()
+        && settings.rules.old_full_keep_cnt().as_slice() == [1].as_slice()
         && is_default
     {
         Ok(())
