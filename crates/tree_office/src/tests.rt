@@ -2,7 +2,7 @@ use crate::TreeOffice;
 use attr_records::{Attr, Dir, File, HostName, Item, Link, LinkTarget, PathName};
 use backup_rules::{Kind, Line, Period, Periods, RuleChange, Rules, Setting};
 use disk_trait::Bytes;
-use office_model::{Answer, Event, Node, Port, Refusal, SessionName};
+use office_model::{Answer, Event, Frame, Node, Port, Refusal, SessionName};
 use pool_name::Md5Namer;
 use std::alloc::Global;
 use std::test::Fail;
@@ -27,6 +27,7 @@ enum Ask {
     Lookup(&'static str, u32, &'static str),
     Read(&'static str, u32, &'static str),
     Restore(&'static str, u32),
+    Next(u64),
     Close(u64),
     Keep(&'static str, u32),
     Delete(&'static str, u32),
@@ -126,6 +127,9 @@ fn session_event(alloc: Global, ask: Ask) -> Result<Event, Fail> {
         }),
         Ask::Abort(sequence) => Ok(Event::Abort {
             dump: session(sequence),
+        }),
+        Ask::Next(sequence) => Ok(Event::ReadNext {
+            restore: session(sequence),
         }),
         Ask::Close(sequence) => Ok(Event::CloseRead {
             restore: session(sequence),
@@ -243,7 +247,18 @@ fn lines_text(alloc: Global, lines: &[Line]) -> Result<String, Fail> {
     Ok(text)
 }
 
-/// Each numbered answer in a line of its own.
+fn frame_text(alloc: Global, frame: &Frame) -> Result<String, Fail> {
+    match frame {
+        Frame::Entry { path, node } => {
+            let path = String::from_utf8_lossy(alloc, path.as_slice())?;
+            Ok(format!(in alloc; "{} {path}", kind_of(node))?)
+        }
+        Frame::Piece(bytes) => Ok(format!(in alloc; "{} bytes", bytes.len())?),
+        Frame::End(count) => Ok(format!(in alloc; "end {count}")?),
+    }
+}
+
+/// An answer as text.
 fn answer_text(alloc: Global, answer: Answer) -> Result<String, Fail> {
     match answer {
         Answer::Dump(name) | Answer::Restore(name) => Ok(format!(in alloc; "{name}")?),
@@ -278,7 +293,8 @@ fn answer_text(alloc: Global, answer: Answer) -> Result<String, Fail> {
             Ok(format!(in alloc; "{lines}next {next} dump {}", dump.is_some())?)
         }
         Answer::Reopened(epoch) => Ok(format!(in alloc; "epoch {epoch}")?),
-        Answer::Done | Answer::Next(_) => Ok(String::from_str(alloc, "done")?),
+        Answer::Next(frame) => frame_text(alloc, &frame),
+        Answer::Done => Ok(String::from_str(alloc, "done")?),
     }
 }
 
@@ -412,7 +428,12 @@ const CLEANING: &[(Ask, &str)] = &[
     (Ask::Restore("pc1", 0), "1-1"),
     (Ask::Delete("pc1", 0), "done"),
     (Ask::Clean(5), "0 0 0"),
+    (Ask::Next(1), "file a.txt"),
+    (Ask::Next(1), "5 bytes"),
+    (Ask::Next(1), "end 1"),
+    (Ask::Next(1), "end 1"),
     (Ask::Close(1), "done"),
+    (Ask::Next(1), "NoSession"),
     (Ask::Close(1), "NoSession"),
     (Ask::Clean(5), "1 0 0"),
     (Ask::Full("pc1"), "1-2"),
