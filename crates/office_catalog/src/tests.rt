@@ -163,6 +163,9 @@ fn meet(
     let changes = change.take_changes(alloc);
     journal.commit(alloc, &changes)?;
     catalog.accept(change);
+    if host >= catalog.hosts().len() {
+        return Err(Fail::new("the host is gone"));
+    }
     let rules = Rules::defaults(alloc)?;
     let change = catalog.propose_rules(alloc, host, rules)?;
     make(alloc, journal, catalog, change)
