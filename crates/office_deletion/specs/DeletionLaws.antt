@@ -3,9 +3,11 @@
 --     IsTableOf table found      the file of a table, or none
 --     IsChangedTo change before after      a file that a change leaves, removes or writes
 --     IsDeletion      the host's index, its tables by the changes of a deletion, and its counts
+--     deleted_left      what the model leaves of backups, one of which is deleted
 --     host_shortened, beyond_deletion      the host after it, and no other table
-use Rattle.std.specs.Prelude.{◌≡◌, ℕ, zero, suc, ◌+◌, ◌<◌, ◌==◌, Bool, true, false, List, [], ◌∷◌, length, map, Option, Some, None, is_some, slice_get, if◌then◌else◌}
-use Rattle.std.specs.List.{position_from}
+use Rattle.std.specs.Prelude.{◌≡◌, ℕ, zero, suc, ◌+◌, ◌-◌, ◌<◌, ◌≢◌, ◌==◌, ◌&&◌, ◌||◌, Bool, true, false, List, [], ◌∷◌, length, map, Option, Some, None, is_some, slice_get, slice_set, if◌then◌else◌}
+use Rattle.std.specs.List.{position_from, remove}
+use Rattle.std.specs.Option.{option_map_or}
 use Rattle.std.proofs.Common.{refl, sym, ap, ◌∙◌, subst, arith}
 use Rattle.std.proofs.lemmas.Bool.{true≢false, false≢true, eq-eqb, eqb-true, ne_eqb}
 use Rattle.disk_trait.specs.declared.ids.PoolId.{PoolId}
@@ -20,8 +22,8 @@ use Rattle.backup_delete.specs.Folds.{filled as filled_line, left_lines, left_tr
 use Rattle.backup_delete.specs.FoldLaws.{folded-stored}
 use Rattle.backup_delete.specs.TableLaws.{changed-left}
 use Rattle.office_model.specs.Office.{Host, Backup, AreNumbered, backup_index}
-use Rattle.office_model.specs.Parts.{lines_of, filled_as}
-use Rattle.office_files.specs.Pairs.{AtEachPair, no_pairs, other_at}
+use Rattle.office_model.specs.Parts.{lines_of, with_last, filled_as}
+use Rattle.office_files.specs.Pairs.{AtEachPair, no_pairs}
 use Rattle.office_files.specs.Layouts.{IsHostFile, IsTableFile, IsCountsFile}
 use Rattle.office_files.specs.Hosts.{index_of_host, IsShown, StandsHost}
 use Rattle.office_files.specs.KeptLaws.{IsTableFile-same}
@@ -79,7 +81,8 @@ module _ (given : PoolId → Type 0) (contents : PoolId → List ℕ) where
   Shown = IsShown given contents
 
   -- shown backups are told by the lines and the rows
-  as_backups : (all : List Backup) (shown : List StoredBackup) → AtEachPair (λ i. Shown) all shown → shown ≡ backups (lines_of all) (rows_of shown)
+  as_backups : (all : List Backup) (shown : List StoredBackup) → AtEachPair (λ i. Shown) all shown
+      → shown ≡ backups (lines_of all) (rows_of shown)
   as_backups [] [] pairs = refl
   as_backups [] (s ∷ shown) pairs = absurd (let same = pairs.counted in omega arith)
   as_backups (b ∷ all) [] pairs = absurd (let same = pairs.counted in omega arith)
@@ -131,14 +134,16 @@ lines_left numbers (b ∷ all) = step (is_gone numbers b.line.number) (are_gone 
 -- ---- tables by numbers
 
 -- where no backup has the number no table does
-no_table : (from number : ℕ) (all : List Backup) (tables : List Rows) → is_some (position_from (λ (b : Backup). b.line.number == number) from all) ≡ false
+no_table : (from number : ℕ) (all : List Backup) (tables : List Rows)
+    → is_some (position_from (λ (b : Backup). b.line.number == number) from all) ≡ false
     → table_at (lines_of all) tables number ≡ None
 no_table from number [] tables e = refl
 no_table from number (b ∷ all) [] e = refl
 no_table from number (b ∷ all) (table ∷ tables) e = step (b.line.number == number) e (no_table (from + 1) number all tables)
   where
     step : (t : Bool) → is_some (if t then Some from else position_from (λ (b : Backup). b.line.number == number) (from + 1) all) ≡ false
-        → (is_some (position_from (λ (b : Backup). b.line.number == number) (from + 1) all) ≡ false → table_at (lines_of all) tables number ≡ None)
+        → (is_some (position_from (λ (b : Backup). b.line.number == number) (from + 1) all) ≡ false
+        → table_at (lines_of all) tables number ≡ None)
         → (if t then Some table else table_at (lines_of all) tables number) ≡ None
     step true e rest = absurd (true≢false e)
     step false e rest = rest e
@@ -155,7 +160,8 @@ by_number (b ∷ all) (table ∷ tables) file from pairs number none =
     step (b.line.number == number) refl none (by_number all tables file (from + 1) (rest_of (λ b rows. IsTableFile rows (file b.line.number)) b all table tables pairs) number)
   where
     step : (t : Bool) → (b.line.number == number) ≡ t
-        → (is_some (if t then Some from else position_from (λ (b : Backup). b.line.number == number) (from + 1) all) ≡ false → file number ≡ None)
+        → (is_some (if t then Some from else position_from (λ (b : Backup). b.line.number == number) (from + 1) all) ≡ false
+        → file number ≡ None)
         → ((is_some (position_from (λ (b : Backup). b.line.number == number) (from + 1) all) ≡ false → file number ≡ None)
         → IsTableOf (table_at (lines_of all) tables number) (file number))
         → IsTableOf (if t then Some table else table_at (lines_of all) tables number) (file number)
@@ -189,6 +195,98 @@ after_change None None before after is same = same ∙ is
 after_change None (Some rows) before after is same = IsTableFile-same rows before after same is
 after_change (Some None) table before after is gone = gone
 after_change (Some (Some rows)) table before after is file = file
+
+-- ---- the model's deletion
+
+-- the backups of other numbers
+abbrev kept : List ℕ → List Backup → List Backup
+kept numbers [] = []
+kept numbers (backup ∷ newer) = if is_gone numbers backup.line.number then kept numbers newer else backup ∷ kept numbers newer
+
+none_kept : (numbers : List ℕ) (all : List Backup) → are_gone numbers (lines_of all) ≡ true → kept numbers all ≡ []
+none_kept numbers [] e = refl
+none_kept numbers (b ∷ all) e = step (is_gone numbers b.line.number) e (none_kept numbers all)
+  where
+    step : (gone : Bool) → (gone && are_gone numbers (lines_of all)) ≡ true
+        → (are_gone numbers (lines_of all) ≡ true → kept numbers all ≡ [])
+        → (if gone then kept numbers all else b ∷ kept numbers all) ≡ []
+    step true e rest = rest e
+    step false e rest = absurd (false≢true e)
+
+some_kept : (numbers : List ℕ) (all : List Backup) → are_gone numbers (lines_of all) ≡ false
+    → (first : Backup) × (rest : List Backup) × (kept numbers all ≡ first ∷ rest)
+some_kept numbers [] e = absurd (true≢false e)
+some_kept numbers (b ∷ all) e = step (is_gone numbers b.line.number) e (some_kept numbers all)
+  where
+    step : (gone : Bool) → (gone && are_gone numbers (lines_of all)) ≡ false
+        → (are_gone numbers (lines_of all) ≡ false → (first : Backup) × (rest : List Backup) × (kept numbers all ≡ first ∷ rest))
+        → (first : Backup) × (rest : List Backup) × ((if gone then kept numbers all else b ∷ kept numbers all) ≡ first ∷ rest)
+    step true e rest = rest e
+    step false e rest = (b, kept numbers all, refl)
+
+with_last-cons : {A : Type 0} (f : A → A) (x y : A) (xs : List A) → with_last f (x ∷ y ∷ xs) ≡ x ∷ with_last f (y ∷ xs)
+with_last-cons {A} f x y xs =
+    let n : length (x ∷ y ∷ xs) - 1 ≡ suc (length (y ∷ xs) - 1) = omega arith in
+    ap (λ (n : ℕ). option_map_or (λ z. slice_set (x ∷ y ∷ xs) n (f z)) (slice_get (x ∷ y ∷ xs) n) (x ∷ y ∷ xs)) n
+    ∙ step (slice_get (y ∷ xs) (length (y ∷ xs) - 1))
+  where
+    step : (o : Option A) → option_map_or (λ z. x ∷ slice_set (y ∷ xs) (length (y ∷ xs) - 1) (f z)) o (x ∷ y ∷ xs)
+        ≡ x ∷ option_map_or (λ z. slice_set (y ∷ xs) (length (y ∷ xs) - 1) (f z)) o (y ∷ xs)
+    step None = refl
+    step (Some z) = refl
+
+left_kept : (numbers : List ℕ) (all : List Backup) → left_backups numbers all ≡ with_last (filled_as true) (kept numbers all)
+left_kept numbers [] = refl
+left_kept numbers (b ∷ all) = step (is_gone numbers b.line.number) (are_gone numbers (lines_of all)) refl (left_kept numbers all)
+  where
+    step : (gone last : Bool) → are_gone numbers (lines_of all) ≡ last
+        → left_backups numbers all ≡ with_last (filled_as true) (kept numbers all)
+        → (if gone then left_backups numbers all else (if last then filled_as true b else b) ∷ left_backups numbers all)
+        ≡ with_last (filled_as true) (if gone then kept numbers all else b ∷ kept numbers all)
+    step true last e rest = rest
+    step false true e rest =
+        let none = none_kept numbers all e in
+        ap (λ l. filled_as true b ∷ l) (rest ∙ ap (with_last (filled_as true)) none)
+        ∙ sym (ap (λ l. with_last (filled_as true) (b ∷ l)) none)
+    step false false e rest =
+        let w = some_kept numbers all e in
+        ap (λ l. b ∷ l) (rest ∙ ap (with_last (filled_as true)) w.2) ∙ sym (with_last-cons (filled_as true) b w.0 w.1)
+        ∙ sym (ap (λ l. with_last (filled_as true) (b ∷ l)) w.2)
+
+gone_one : (n number : ℕ) → is_gone (n ∷ []) number ≡ (n == number)
+gone_one n number = step (n == number)
+  where
+    step : (b : Bool) → (b || false) ≡ b
+    step true = refl
+    step false = refl
+
+all_kept : (n : ℕ) (all : List Backup) → ((i : ℕ) (b : Backup) → slice_get all i ≡ Some b → n ≢ b.line.number) → kept (n ∷ []) all ≡ all
+all_kept n [] other = refl
+all_kept n (b ∷ all) other =
+    ap (λ (t : Bool). if t then kept (n ∷ []) all else b ∷ kept (n ∷ []) all) (gone_one n b.line.number
+    ∙ ne_eqb n b.line.number (other zero b refl))
+    ∙ ap (λ l. b ∷ l) (all_kept n all (λ i x e. other (suc i) x e))
+
+kept_removed : (n : ℕ) (all : List Backup) (i : ℕ) (b : Backup) → IsRising all → slice_get all i ≡ Some b → b.line.number ≡ n
+    → kept (n ∷ []) all ≡ remove all i
+kept_removed n [] i b rise e is = absurd cc
+kept_removed n (a ∷ all) zero b rise e is =
+    let same : a ≡ b = cc in
+    let number : a.line.number ≡ n = ap (λ (x : Backup). x.line.number) same ∙ is in
+    ap (λ (t : Bool). if t then kept (n ∷ []) all else a ∷ kept (n ∷ []) all) (gone_one n a.line.number
+    ∙ eq-eqb n a.line.number (sym number))
+    ∙ all_kept n all (λ j x f later. omega (arith, number, later, rise zero (suc j) a x (omega arith) refl f))
+kept_removed n (a ∷ all) (suc i) b rise e is =
+    let less = rise zero (suc i) a b (omega arith) refl e in
+    ap (λ (t : Bool). if t then kept (n ∷ []) all else a ∷ kept (n ∷ []) all)
+    (gone_one n a.line.number ∙ ne_eqb n a.line.number (λ same. omega (arith, same, is, less)))
+    ∙ ap (λ l. a ∷ l) (kept_removed n all i b (λ j k x y l g h. rise (suc j) (suc k) x y (omega arith) g h) e is)
+
+-- the model's deletion of one backup leaves these
+pub deleted_left : (all : List Backup) (i : ℕ) (b : Backup) → IsRising all → slice_get all i ≡ Some b
+    → with_last (filled_as true) (remove all i) ≡ left_backups (b.line.number ∷ []) all
+deleted_left all i b rise e =
+    ap (with_last (filled_as true)) (sym (kept_removed b.line.number all i b rise e refl)) ∙ sym (left_kept (b.line.number ∷ []) all)
 
 -- ---- a host
 
