@@ -1,0 +1,4 @@
+pub mod Held
+pub mod States
+pub mod Runs
+pub mod Writes
