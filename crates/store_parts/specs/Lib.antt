@@ -5,3 +5,4 @@ pub mod Writes
 pub mod StoredLaws
 pub mod StepLaws
 pub mod RunLaws
+pub mod WriteLaws
