@@ -4,6 +4,8 @@ ghost use Rattle.std.specs.Prelude.{◌≡◌, ⊤};
 
 use disk_trait::PoolId;
 use intent_journal::Changes;
+use std::alloc::Global;
+use std::mem;
 
 /// A change of the index.
 #[derive(Drop)]
@@ -22,5 +24,16 @@ impl IndexChange {
         ensures { result.now ≡ self.now.changes }
     {
         &self.changes
+    }
+
+    /// Takes the changes of the index's files out, to be committed with others; takes no memory.
+    pub fn take_changes(&mut self, alloc: Global) -> Changes
+        ensures changes { result ≡ self.old.changes }
+        ensures added { self.new.added ≡ self.old.added }
+        ensures marked { self.new.marked ≡ self.old.marked }
+        ensures unmarked { self.new.unmarked ≡ self.old.unmarked }
+        ensures removed { self.new.removed ≡ self.old.removed }
+    {
+        mem::replace(&mut self.changes, Changes::new(alloc))
     }
 }
