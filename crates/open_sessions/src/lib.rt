@@ -15,6 +15,8 @@
 //! ```
 #![tactic(auto)]
 
+mod calls;
+mod edits;
 mod sessions;
 
 pub use sessions::{OpenDump, OpenRestore, Sessions};
