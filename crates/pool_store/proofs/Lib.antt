@@ -4,3 +4,4 @@ pub mod Foreign
 pub mod Imaging
 pub mod Lists
 pub mod Sweeping
+pub mod Holding

@@ -9,7 +9,7 @@ ghost use Rattle.disk_trait.specs.Images.{LeavesOnly};
 ghost use Rattle.intent_journal.specs.Overlay.{ComesTo};
 ghost use Rattle.intent_journal.specs.Calls.{Reads};
 ghost use Rattle.pool_changes.specs.Kept.{slots_of, IsSet, IsSame};
-ghost use Rattle.pool_changes.specs.Slots.{is_live, is_given, claims_of, claimed, let_go, unlisted};
+ghost use Rattle.pool_changes.specs.Slots.{is_live, is_staged, is_given, claims_of, claimed, let_go, unlisted};
 ghost use Rattle.pool_store.specs.Chains.{SaysDamaged, SaysGiven};
 ghost use Rattle.pool_store.specs.Chains.{OfReading};
 ghost use Rattle.pool_changes.specs.Listed.{index_of, IsBucketOf, IsStatsOf};
@@ -43,6 +43,8 @@ pub struct Pool<N: Namer> {
     made: u64,
     // how many more are made sure of
     spare: u64,
+    // a staged name has a claim
+    ghost held: { (id : PoolId) → is_staged (slots_of names id) ≡ true → 0 < claims_of (slots_of names id) },
     ghost counted: { (id : PoolId) → claims_of (slots_of names id) ≤ made },
     ghost room: { made + spare < 2 ^ 64 },
 }
@@ -98,6 +100,7 @@ impl<N: Namer> Pool<N> {
         ensures ok { OnOk result (n ≤ self.new.spare) }
         ensures same { IsSame (slots_of self.old.names) (slots_of self.new.names) }
         ensures err { OnErr result (self.new.spare ≡ self.old.spare) }
+        ensures form { self.new.in_one_file ≡ self.old.in_one_file }
     {
         let n = n as u64;
         if n <= self.spare {
@@ -116,6 +119,7 @@ impl<N: Namer> Pool<N> {
         requires spare { 0 < self.old.spare }
         ensures claimed { IsSet (slots_of self.old.names) (slots_of self.new.names) id (claimed (slots_of self.old.names id)) }
         ensures spare { self.new.spare + 1 ≡ self.old.spare }
+        ensures form { self.new.in_one_file ≡ self.old.in_one_file }
     {
         match self.names.get(id) {
             Some(slot) => {
@@ -132,6 +136,7 @@ impl<N: Namer> Pool<N> {
         requires { 0 < claims_of (slots_of self.old.names id) }
         ensures let_go { IsSet (slots_of self.old.names) (slots_of self.new.names) id (let_go (slots_of self.old.names id)) }
         ensures spare { self.new.spare ≡ self.old.spare }
+        ensures form { self.new.in_one_file ≡ self.old.in_one_file }
     {
         match self.names.get(id) {
             Some(slot) => self.names.set(id, slot.let_go()),
@@ -189,6 +194,7 @@ impl<N: Namer> Pool<N> {
         ensures any_moment { (all : Files) → D.files journal.old.disk ≡ Some all → IsCertain (slots_of self.old.names) (D.uncertain journal.old.disk)
             → LeavesOnly D.moment D.left_since journal.old.disk journal.new.disk (ComesTo all (unlisted (slots_of self.old.names))) }
         ensures spare { self.new.spare ≡ self.old.spare }
+        ensures form { self.new.in_one_file ≡ self.old.in_one_file }
         ensures stays { journal.new.halted ≡ journal.old.halted }
         ensures counted { Counted (D.fault_count journal.old.disk) (D.fault_count journal.new.disk) (IsErrOf result PoolFault.Disk) }
     {
@@ -240,6 +246,7 @@ impl<N: Namer> Pool<N> {
         ensures any_moment { (all : Files) → D.files journal.old.disk ≡ Some all → IsCertain (slots_of self.old.names) (D.uncertain journal.old.disk)
             → LeavesOnly D.moment D.left_since journal.old.disk journal.new.disk (ComesTo all (unlisted (slots_of self.old.names))) }
         ensures spare { self.new.spare ≡ self.old.spare }
+        ensures form { self.new.in_one_file ≡ self.old.in_one_file }
         ensures stays { journal.new.halted ≡ journal.old.halted }
         ensures counted { Counted (D.fault_count journal.old.disk) (D.fault_count journal.new.disk) (IsErrOf result PoolFault.Disk) }
     {
