@@ -1,0 +1,109 @@
+-- What an abort leaves.
+use Rattle.std.specs.Prelude.{◌≡◌, ◌+◌, ◌≤◌, ℕ, List, Option, Some, None, Ok, Err, slice_get}
+use Rattle.std.specs.List.{position_from, remove}
+use Rattle.std.proofs.Common.{refl, sym, ap, ◌∙◌, subst, arith}
+use Rattle.disk_trait.specs.declared.ids.PoolId.{PoolId}
+use Rattle.disk_trait.specs.declared.disk.Disk.{Ghosts as DiskGhosts}
+use Rattle.pool_name.specs.declared.namer.Namer.{Ghosts as NamerGhosts}
+use Rattle.pool_changes.specs.Slots.{claims_of}
+use Rattle.open_sessions.specs.declared.sessions.OpenDump.{OpenDump}
+use Rattle.open_sessions.specs.declared.sessions.OpenRestore.{OpenRestore}
+use Rattle.open_sessions.specs.Opened.{IsDump, IsRestore, claims_of_dump, claims_in, claims_in_dumps, claims_in_restores}
+use Rattle.open_sessions.specs.SessionLaws.{pairs_remove, dump_index-sessions, claims_in_dumps-remove}
+use Rattle.office_model.specs.Session.{is_same_session}
+use Rattle.office_model.specs.declared.session.SessionName.{SessionName}
+use Rattle.office_model.specs.declared.answer.Answer.TheVariants.{Done}
+use Rattle.office_model.specs.declared.event.Event.TheVariants.{Abort}
+use Rattle.office_model.specs.declared.refusal.BrokenRule.TheVariants.{NoSession}
+use Rattle.office_model.specs.Meaning.{Carried}
+use Rattle.office_model.specs.Office.{Office, Dump, Names, dump_index}
+use Rattle.office_model.specs.Parts.{At, dump_at}
+use Rattle.office_model.specs.laws.Judging.{at_found}
+use Rattle.office_model.specs.laws.SoundLaws.{IsSound-carried}
+use Rattle.office_model.specs.events.Abort as AbortEvent
+use Rattle.office_files.specs.Pairs.{AtEachPair, other_at}
+use Rattle.office_files.specs.Pooled.{contents_of}
+use Rattle.store_parts.specs.declared.parts.StoreParts.{StoreParts}
+use Rattle.store_parts.specs.Held.{given}
+use Rattle.store_parts.specs.States.{slots, IsRunning}
+use Rattle.store_parts.specs.Runs.{Runs}
+use Rattle.store_dumps.specs.Claims.{LetsGo}
+use Rattle.store_dumps.proofs.Running.{Makes, running_let_go, runs_kept}
+
+abbrev place_of : List OpenDump → SessionName → Option ℕ
+place_of dumps name = position_from (λ dump. is_same_session dump.name name) 0 dumps
+
+module _ {D N S : Type 0} {d : DiskGhosts D} {n : NamerGhosts N S} where
+  module _ (old : StoreParts D N S d n) (session : SessionName) where
+    -- the model looks where memory looked
+    pub place_is : (place : Option ℕ) → place ≡ place_of old.sessions.dumps.items session
+        → (office : Office) (names : Names) → IsRunning old office names → dump_index office.dumps session ≡ place
+    place_is place e office names at =
+        dump_index-sessions (given (slots old)) (contents_of at.all) office.dumps old.sessions.dumps.items at.sessions.dumps session ∙ sym e
+
+    pub no_dump : None ≡ place_of old.sessions.dumps.items session
+        → (office : Office) (names : Names) → IsRunning old office names → dump_at office.dumps session ≡ Err NoSession
+    no_dump e office names at = rw (place_is None e office names at) refl
+
+    -- the dump of the model that an open dump is
+    pub record IsFound (index : ℕ) (dump : OpenDump) (office : Office) (names : Names) (at : IsRunning old office names) : Type 0 where
+      pub value : Dump
+      pub there : slice_get office.dumps index ≡ Some value
+      pub is_at : dump_at office.dumps session ≡ Ok (record { index = index; value = value })
+      pub is : IsDump (given (slots old)) (contents_of at.all) value dump
+
+    pub dump_found : (index : ℕ) (dump : OpenDump) → Some index ≡ place_of old.sessions.dumps.items session
+        → slice_get old.sessions.dumps.items index ≡ Some dump
+        → (office : Office) (names : Names) (at : IsRunning old office names) → IsFound index dump office names at
+    dump_found index dump e there office names at =
+        let w = other_at old.sessions.dumps.items office.dumps index dump (sym at.sessions.dumps.counted) there in
+        record {
+          value = w.0;
+          there = w.1;
+          is_at = at_found NoSession office.dumps (dump_index office.dumps session) index w.0 (place_is (Some index) e office names at) w.1;
+          is = at.sessions.dumps.each index w.0 dump w.1 there;
+        }
+
+    pub abort_refused : None ≡ place_of old.sessions.dumps.items session
+        → (office : Office) (names : Names) → IsRunning old office names → AbortEvent.carried session office ≡ Err NoSession
+    abort_refused e office names at = rw (no_dump e office names at) refl
+
+    pub abort_enough : (index : ℕ) (dump : OpenDump) → slice_get old.sessions.dumps.items index ≡ Some dump
+        → (office : Office) (names : Names) → IsRunning old office names → (id : PoolId) → claims_of_dump dump id ≤ claims_of (slots old id)
+    abort_enough index dump there office names at id =
+        omega (arith, at.claimed id, claims_in_dumps-remove old.sessions.dumps.items id index dump there)
+
+    pub runs_aborted : (new : StoreParts D N S d n) (index : ℕ) (dump : OpenDump) → Some index ≡ place_of old.sessions.dumps.items session
+        → slice_get old.sessions.dumps.items index ≡ Some dump → new.journal ≡ old.journal → new.catalog ≡ old.catalog
+        → new.views ≡ old.views → new.halted ≡ old.halted
+        → (((id : PoolId) → claims_of_dump dump id ≤ claims_of (slots old id)) → LetsGo (λ id. claims_of_dump dump id) (slots old) (slots new))
+        → new.pool.in_one_file ≡ old.pool.in_one_file → new.sessions.dumps.items ≡ remove old.sessions.dumps.items index
+        → new.sessions.restores.items ≡ old.sessions.restores.items → new.sessions.sequence ≡ old.sessions.sequence
+        → Runs old (Abort session) (Ok Done) new
+    runs_aborted new index dump e there journal catalog views halted go form dumps restores sequence =
+        runs_kept old new (Abort session) Done journal
+        (λ office names at.
+        let found = dump_found index dump e there office names at in
+        let next : Office = record office { dumps = remove office.dumps index } in
+        let judged : AbortEvent.carried session office ≡ Ok (record { answer = Done; after = next }) = rw found.is_at refl in
+        record {
+          next = next;
+          judged = judged;
+          running = running_let_go old new office next names (λ id. claims_of_dump dump id) at journal catalog views halted
+              (go (abort_enough index dump there office names at)) form
+              (λ id. omega (
+                arith,
+                ap (λ items. claims_in_dumps items id) dumps,
+                ap (λ items. claims_in_restores items id) restores,
+                claims_in_dumps-remove old.sessions.dumps.items id index dump there,
+              ))
+              (record {
+                dumps = subst (λ (items : List OpenDump). AtEachPair (λ i. IsDump (given (slots old)) (contents_of at.all)) (remove office.dumps index) items)
+                    (sym dumps) (pairs_remove (IsDump (given (slots old)) (contents_of at.all)) office.dumps old.sessions.dumps.items at.sessions.dumps index);
+                restores = subst (λ (items : List OpenRestore). AtEachPair (λ i. IsRestore (given (slots old)) (contents_of at.all)) office.restores items)
+                    (sym restores) at.sessions.restores;
+                sequence = sequence ∙ at.sessions.sequence;
+              })
+              refl refl (IsSound-carried office names (Abort session) (record { answer = Done; after = next }) at.sound judged);
+        })
+        (λ office names. refl)

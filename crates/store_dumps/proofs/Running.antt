@@ -1,0 +1,158 @@
+-- Parts at work whose open sessions have changed.
+--     stored_let_go      a pool that lost claims is stored as it was
+--     running_let_go      parts are at work with other sessions, if what those don't claim was let go
+--     reads_same      parts to which nothing was done
+--     runs_kept      an event that leaves the journal was answered as promised
+use Rattle.std.specs.Prelude.{◌≡◌, ◌<◌, ◌+◌, ℕ, Bool, true, false, List, Option, Some, None, Ok, Err, is_some}
+use Rattle.std.proofs.Common.{refl, sym, ap, ◌∙◌, subst, arith}
+use Rattle.disk_trait.specs.declared.ids.PoolId.{PoolId}
+use Rattle.disk_trait.specs.declared.disk.Disk.{Ghosts as DiskGhosts}
+use Rattle.pool_name.specs.declared.namer.Namer.{Ghosts as NamerGhosts}
+use Rattle.fault_counts.specs.Counts.{Counted}
+use Rattle.intent_journal.specs.declared.journal.Journal.{Journal}
+use Rattle.journal_view.specs.View.{told, uncertain, FindsOnly, Quiet}
+use Rattle.journal_view.specs.ViewLaws.{FindsOnly-still, Quiet-still}
+use Rattle.pool_index.specs.Index.{Index, TellsIn}
+use Rattle.pool_changes.specs.declared.slot.Slot.{Slot}
+use Rattle.pool_changes.specs.declared.slot.Slot.TheVariants.{Live, Staged, Doomed}
+use Rattle.pool_changes.specs.Slots.{Slots, is_live, is_given, claims_of}
+use Rattle.pool_changes.specs.Kept.{slots_of}
+use Rattle.pool_changes.specs.Listed.{item_of, index_of}
+use Rattle.pool_store.specs.declared.pool.Pool.{Pool}
+use Rattle.pool_store.specs.Fits.{Fits, IsLess, fits_less}
+use Rattle.backup_views.specs.declared.kept.Views.{Views}
+use Rattle.office_catalog.specs.Known.{Known}
+use Rattle.open_sessions.specs.declared.sessions.Sessions.{Sessions}
+use Rattle.open_sessions.specs.Opened.{AreSessions, claims_in}
+use Rattle.open_sessions.specs.SessionLaws.{AreSessions-claimed}
+use Rattle.office_model.specs.declared.answer.Answer.{Answer}
+use Rattle.office_model.specs.declared.event.Event.{Event}
+use Rattle.office_model.specs.declared.refusal.Refusal.TheVariants.{DiskFault}
+use Rattle.office_model.specs.Office.{Office, Host, Names, IsSound, durable}
+use Rattle.office_model.specs.Step.{Running, meaning_of}
+use Rattle.office_model.specs.UsedNames.{AreNamesAfter}
+use Rattle.office_files.specs.Pooled.{contents_of}
+use Rattle.office_files.specs.Stands.{Stands}
+use Rattle.office_known.specs.KnownLaws.{known_of_office}
+use Rattle.store_parts.specs.declared.parts.StoreParts.{StoreParts}
+use Rattle.store_parts.specs.Held.{given, IsKeptView, IsStored}
+use Rattle.store_parts.specs.States.{slots, IsRunning}
+use Rattle.store_parts.specs.Runs.{MayRecover, Runs, Reads}
+use Rattle.store_parts.specs.RunLaws.{counted_still}
+use Rattle.store_dumps.specs.Claims.{Loses, LetsGo}
+
+live_is : (id : PoolId) (slot : Option Slot) → is_live slot ≡ is_some (item_of id slot)
+live_is id None = refl
+live_is id (Some (Live size mark claims)) = refl
+live_is id (Some (Staged size claims)) = refl
+live_is id (Some Doomed) = refl
+
+was_live : (id : PoolId) (old new : Option Slot) → item_of id new ≡ item_of id old → is_live new ≡ true → is_live old ≡ true
+was_live id old new same live = live_is id old ∙ ap is_some (sym same) ∙ sym (live_is id new) ∙ live
+
+module _ {D N S : Type 0} {d : DiskGhosts D} {n : NamerGhosts N S} where
+  pub stored_let_go : (journal : Journal D d) (pool pool' : Pool N S n) (catalog : Known) (office : Office) (names : Names) (count : PoolId → ℕ)
+      → IsStored journal pool catalog office names → LetsGo count (slots_of pool.names) (slots_of pool'.names)
+      → pool'.in_one_file ≡ pool.in_one_file → IsStored journal pool' catalog office names
+  stored_let_go journal pool pool' catalog office names count at go form = record {
+    journal_ready = at.journal_ready;
+    all = at.all;
+    backups = at.backups;
+    told_is = at.told_is;
+    stands = subst (λ (index : Index). Stands n.digest_of index at.backups at.all office) (sym index) at.stands;
+    tells = subst (λ (index : Index). TellsIn pool'.in_one_file index at.all) (sym index)
+        (subst (λ (form : Bool). TellsIn form (index_of (slots_of pool.names)) at.all) (sym form) at.tells);
+    fits = fits_less n.digest_of (slots_of pool.names) (slots_of pool'.names) (uncertain journal) (uncertain journal) at.all at.all
+        less at.fits.certain at.fits;
+    all_used = λ id there. (go id).used ∙ at.all_used id there;
+    used = record {
+      distinct = at.used.distinct;
+      slot = λ id among. (go id).used ∙ at.used.slot id among;
+      among = λ id e. at.used.among id (sym (go id).used ∙ e);
+      near = λ id e. at.used.near id (sym (go id).used ∙ e);
+    };
+    digest = at.digest;
+    catalog_is = at.catalog_is;
+  }
+    where
+      index : index_of (slots_of pool'.names) ≡ index_of (slots_of pool.names)
+      index = λ i id. (go id).live i
+
+      less : IsLess (slots_of pool.names) (slots_of pool'.names) at.all at.all
+      less = record {
+        given = λ id e. (go id).was_given e;
+        size = λ id e. (go id).size e;
+        file = λ id e. refl;
+        live = λ id e. was_live id (slots_of pool.names id) (slots_of pool'.names id) (go id).live e;
+      }
+
+  -- The new sessions are those of the office by what was given, and each name has lost what they don't claim.
+  pub running_let_go : (old new : StoreParts D N S d n) (office next : Office) (names : Names) (count : PoolId → ℕ) (at : IsRunning old office names)
+      → new.journal ≡ old.journal → new.catalog ≡ old.catalog → new.views ≡ old.views → new.halted ≡ old.halted
+      → LetsGo count (slots old) (slots new) → new.pool.in_one_file ≡ old.pool.in_one_file
+      → ((id : PoolId) → claims_in new.sessions id + count id ≡ claims_in old.sessions id)
+      → AreSessions (given (slots old)) (contents_of at.all) next new.sessions
+      → durable next ≡ durable office → next.hosts ≡ office.hosts → IsSound next → IsRunning new next names
+  unfolding stored_let_go
+  running_let_go old new office next names count at journal catalog views halted go form claims sessions same hosts sound = record {
+    working = record {
+      ready = halted ∙ at.ready;
+      stored = record {
+        journal_ready = subst (λ (j : Journal D d). j.halted ≡ false) (sym journal) stored.journal_ready;
+        all = at.all;
+        backups = at.backups;
+        told_is = ap told journal ∙ at.told_is;
+        stands = subst (λ (o : Office). Stands n.digest_of (index_of (slots new)) at.backups at.all o) (sym same) stored.stands;
+        tells = stored.tells;
+        fits = subst (λ (j : Journal D d). Fits n.digest_of (slots new) (uncertain j) at.all) (sym journal) stored.fits;
+        all_used = stored.all_used;
+        used = stored.used;
+        digest = stored.digest;
+        catalog_is = catalog ∙ at.catalog_is ∙ ap known_of_office (sym same);
+      };
+      sessions = AreSessions-claimed (given (slots old)) (contents_of at.all) (given (slots new)) (contents_of at.all) next new.sessions
+          (λ id g some. ((go id).given g (subst (λ (m : ℕ). 0 < m) (sym (claimed id)) some), refl)) sessions;
+      view = subst (λ (v : Views). IsKeptView v.kept next.hosts at.backups) (sym views)
+          (subst (λ (hosts : List Host). IsKeptView old.views.kept hosts at.backups) (sym hosts) at.view);
+      sound = sound;
+    };
+    claimed = claimed;
+  }
+    where
+      stored : IsStored old.journal new.pool old.catalog (durable office) names
+      stored = stored_let_go old.journal old.pool new.pool old.catalog (durable office) names count at.stored go form
+
+      claimed : (id : PoolId) → claims_of (slots new id) ≡ claims_in new.sessions id
+      claimed id = omega (arith, (go id).claims, at.claimed id, claims id)
+
+  -- nothing was done
+  pub reads_same : (old new : StoreParts D N S d n) → new.journal ≡ old.journal → new.pool ≡ old.pool → new.catalog ≡ old.catalog
+      → new.sessions ≡ old.sessions → new.views ≡ old.views → new.halted ≡ old.halted → Reads old new
+  reads_same old new journal pool catalog sessions views halted = record {
+    quiet = subst (λ (j : Journal D d). Quiet old.journal j) (sym journal) (Quiet-still old.journal);
+    pool_same = pool;
+    catalog_same = catalog;
+    sessions_same = sessions;
+    halted_same = halted;
+    view = λ office names at. subst (λ (v : Views). IsKeptView v.kept office.hosts at.backups) (sym views) at.view;
+  }
+
+  -- the event breaks no rule, and the parts hold the office after it
+  pub record Makes (event : Event) (answer : Answer) (office : Office) (names : Names) (new : StoreParts D N S d n) : Type 0 where
+    pub next : Office
+    pub judged : (meaning_of event).carried office names ≡ Ok (record { answer = answer; after = next })
+    pub running : IsRunning new next names
+
+  pub runs_kept : (old new : StoreParts D N S d n) (event : Event) (answer : Answer) → new.journal ≡ old.journal
+      → ((office : Office) (names : Names) → IsRunning old office names → Makes event answer office names new)
+      → ((office : Office) (names : Names) → AreNamesAfter office names event (Ok answer) names.used) → Runs old event (Ok answer) new
+  runs_kept old new event answer journal makes stay = record {
+    steps = λ office names at.
+        let made = makes office names at in
+        record { next = Running made.next names; step = (made.judged, stay office names, refl); in_state = made.running };
+    crash = λ office names at.
+        subst (λ (j : Journal D d). FindsOnly old.journal j (MayRecover n.digest_of office ((meaning_of event).carried office names))) (sym journal)
+        (FindsOnly-still old.journal (MayRecover n.digest_of office ((meaning_of event).carried office names)));
+    counted = subst (λ (j : Journal D d). Counted (d.fault_count old.journal.disk) (d.fault_count j.disk) (Ok answer ≡ Err DiskFault)) (sym journal)
+        (counted_still (d.fault_count old.journal.disk) (Ok answer ≡ Err DiskFault) (λ e. absurd cc));
+  }

@@ -1,0 +1,34 @@
+//! An open dump is dropped.
+
+ghost use Rattle.std.specs.Prelude.{◌≡◌, false};
+ghost use Rattle.office_model.specs.declared.event.Event.TheVariants.{Abort};
+ghost use Rattle.store_parts.specs.Runs.{Runs};
+
+use crate::claims::release_dump;
+use disk_trait::Disk;
+use office_model::{Answer, BrokenRule, Refusal, SessionName};
+use pool_name::Namer;
+use std::alloc::Global;
+use store_parts::StoreParts;
+
+/// Drops an open dump, and lets go what its rows and those of its base claim: a content that was staged for it and that
+/// nothing else claims is to be swept. After a refusal nothing has changed.
+pub fn abort<D: Disk, N: Namer>(
+    parts: &mut StoreParts<D, N>,
+    alloc: Global,
+    session: SessionName,
+) -> Result<Answer, Refusal>
+    requires ready { parts.old.halted ≡ false }
+    ensures { Runs parts.old (Abort session) result parts.new }
+{
+    let at = match parts.sessions.dump_at(session) {
+        Some(at) => at,
+        None => return Err(Refusal::Broken(BrokenRule::NoSession)),
+    };
+    match release_dump(&mut parts.pool, alloc, &parts.sessions.dumps[at]) {
+        Ok(()) => {}
+        Err(_) => return Err(Refusal::Memory),
+    }
+    let _dump = parts.sessions.take_dump(at);
+    Ok(Answer::Done)
+}

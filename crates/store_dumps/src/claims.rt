@@ -1,0 +1,86 @@
+//! Claims of open dumps are let go, one for each row that names a content. None of it takes memory.
+
+ghost use Rattle.std.specs.Prelude.{◌≡◌, ◌+◌, ◌<◌, ◌≤◌, ℕ, OnOk, OnErr, if◌then◌else◌};
+ghost use Rattle.disk_trait.specs.declared.ids.PoolId.{PoolId};
+ghost use Rattle.attr_tables.specs.Records.{is_same_id};
+ghost use Rattle.stored_trees.specs.Occurrences.{occurrences};
+ghost use Rattle.pool_changes.specs.Kept.{slots_of};
+ghost use Rattle.pool_changes.specs.Slots.{claims_of};
+ghost use Rattle.open_sessions.specs.Opened.{claims_of_dump};
+ghost use Rattle.open_sessions.specs.SessionLaws.{node_occurrences};
+ghost use Rattle.store_dumps.specs.Claims.{LetsGo};
+
+use attr_tables::{Record, Row};
+use disk_trait::PoolId;
+use open_sessions::OpenDump;
+use pool_name::Namer;
+use pool_store::{Pool, Slot};
+use std::alloc::{AllocError, Global};
+
+/// How many claims a name has.
+fn claims<N: Namer>(pool: &Pool<N>, id: PoolId) -> u64
+    ensures { result ≡ claims_of (slots_of pool.now.names id) }
+{
+    match pool.slot(id) {
+        Some(Slot::Live { claims, .. }) => claims,
+        Some(Slot::Staged { claims, .. }) => claims,
+        Some(Slot::Doomed) => 0,
+        None => 0,
+    }
+}
+
+/// Lets go a claim on a content, if there is one.
+pub(crate) fn release_id<N: Namer>(pool: &mut Pool<N>, id: PoolId)
+    ensures go { 0 < claims_of (slots_of pool.old.names id)
+        → LetsGo (λ other. if is_same_id id other then 1 else 0) (slots_of pool.old.names) (slots_of pool.new.names) }
+    ensures form { pool.new.in_one_file ≡ pool.old.in_one_file }
+{
+    if claims(pool, id) > 0 {
+        pool.release(id);
+    }
+}
+
+/// Lets go the claim on the content that a node names, if it names one.
+pub(crate) fn release_node<N: Namer>(pool: &mut Pool<N>, node: &Record)
+    ensures go { ((id : PoolId) → node_occurrences id node.now ≤ claims_of (slots_of pool.old.names id))
+        → LetsGo (λ id. node_occurrences id node.now) (slots_of pool.old.names) (slots_of pool.new.names) }
+    ensures form { pool.new.in_one_file ≡ pool.old.in_one_file }
+{
+    match node {
+        Record::File(file) => match file.content {
+            Some(id) => release_id(pool, id),
+            None => {}
+        },
+        Record::Dir(_) => {}
+        Record::Link(_) => {}
+        Record::Deleted => {}
+    }
+}
+
+/// Lets go a claim for each row that names a content.
+pub(crate) fn release_rows<N: Namer>(pool: &mut Pool<N>, rows: &[Row])
+    ensures go { ((id : PoolId) → occurrences id rows.now ≤ claims_of (slots_of pool.old.names id))
+        → LetsGo (λ id. occurrences id rows.now) (slots_of pool.old.names) (slots_of pool.new.names) }
+    ensures form { pool.new.in_one_file ≡ pool.old.in_one_file }
+{
+    for row in rows {
+        release_node(pool, row.node());
+    }
+}
+
+/// Lets go the claims of a dump's tree and of its base; or says that memory is wanting, with nothing changed.
+pub(crate) fn release_dump<N: Namer>(
+    pool: &mut Pool<N>,
+    alloc: Global,
+    dump: &OpenDump,
+) -> Result<(), AllocError>
+    ensures go { OnOk result (((id : PoolId) → claims_of_dump dump.now id ≤ claims_of (slots_of pool.old.names id))
+        → LetsGo (λ id. claims_of_dump dump.now id) (slots_of pool.old.names) (slots_of pool.new.names)) }
+    ensures err { OnErr result (pool.new ≡ pool.old) }
+    ensures form { pool.new.in_one_file ≡ pool.old.in_one_file }
+{
+    let tree = dump.tree.tree(alloc)?;
+    release_rows(pool, tree.rows());
+    release_rows(pool, dump.base.rows());
+    Ok(())
+}

@@ -1,0 +1,15 @@
+//! The events of open dumps in a store at work: a dump is opened, nodes are put into its tree, paths are removed, and it is
+//! dropped. The crate knows the parts of a store, and no other event.
+//!
+//! Each row of an open dump, and of the base that it began with, claims the content that it names, so that no cleaning takes
+//! it away and no sweep drops a file that was staged for it.
+//!
+//! | Function | What it does |
+//! |---|---|
+//! | [`abort`] | drops an open dump, and lets go its claims |
+#![tactic(auto)]
+
+mod aborting;
+mod claims;
+
+pub use aborting::abort;
