@@ -1,2 +1,3 @@
+pub mod EditLaws
 pub mod Opened
 pub mod SessionLaws

@@ -18,5 +18,7 @@
 mod calls;
 mod edits;
 mod sessions;
+#[cfg(test)]
+mod tests;
 
 pub use sessions::{OpenDump, OpenRestore, Sessions};
