@@ -2,12 +2,12 @@
 --     AreRowsOf-with_node, AreRowsOf-without      rows after an edit
 --     IsDump-with_node, IsDump-without      a dump after an edit
 --     claims-with_node, claims-without      and its claims
---     AreSessions-dumps, AreSessions-restores      all sessions, with other dumps or restores
+--     IsDump-opened, IsRestore-opened, IsRestore-moved      a dump that begins, a restore that begins, and one at another position
 use Rattle.std.specs.Prelude.{◌≡◌, ℕ, ◌+◌, Bool, true, false, not, cond, List, [], ◌∷◌}
 use Rattle.std.specs.declared.cmp.Ordering.{Ordering}
 use Rattle.std.specs.declared.cmp.Ordering.TheVariants.{Less, Equal, Greater}
 use Rattle.std.specs.FinMap.Entries.{by_order}
-use Rattle.std.proofs.Common.{sym, ap, ◌∙◌, subst, arith}
+use Rattle.std.proofs.Common.{refl, sym, ap, ◌∙◌, subst, arith}
 use Rattle.disk_trait.specs.declared.ids.PoolId.{PoolId}
 use Rattle.ordered_lists.specs.Order.{IsInOrder}
 use Rattle.attr_records.specs.declared.nodes.Item.{Item}
@@ -19,14 +19,15 @@ use Rattle.merge_view.specs.Views.{Rows, is_mark, HasNoMarks}
 use Rattle.merge_view.specs.Runs.{within_rows}
 use Rattle.stored_trees.specs.Values.{AllValues}
 use Rattle.stored_trees.specs.ValueLaws.{AllValues-put}
-use Rattle.stored_trees.specs.Resolved.{resolved_item, IsTold}
+use Rattle.stored_trees.specs.Resolved.{resolved, resolved_item, IsTold}
 use Rattle.stored_trees.specs.ResolvedLaws.{with_node-resolved, without-resolved}
 use Rattle.stored_trees.specs.Occurrences.{occurrences}
-use Rattle.office_model.specs.Office.{Office, Dump, Restore}
-use Rattle.office_files.specs.Pairs.{AtEachPair}
+use Rattle.office_model.specs.Office.{Dump, Restore}
+use Rattle.office_model.specs.events.OpenDump.{new_dump}
+use Rattle.office_model.specs.events.OpenRead.{new_restore}
 use Rattle.open_sessions.specs.declared.sessions.OpenDump.{OpenDump}
-use Rattle.open_sessions.specs.declared.sessions.Sessions.{Sessions}
-use Rattle.open_sessions.specs.Opened.{AreRowsOf, IsDump, IsRestore, AreSessions, claims_of_dump}
+use Rattle.open_sessions.specs.declared.sessions.OpenRestore.{OpenRestore}
+use Rattle.open_sessions.specs.Opened.{base_of, AreRowsOf, IsDump, IsRestore, claims_of_dump}
 use Rattle.open_sessions.specs.SessionLaws.{node_occurrences, found_occurrences, occurrences-with_node, occurrences-without}
 
 -- ---- rows without deletion marks
@@ -128,26 +129,31 @@ module _ (given : PoolId → Type 0) (contents : PoolId → List ℕ) where
       tree_rows = AreRowsOf-without session.tree path is.tree_rows;
     }
 
-  -- ---- all sessions
+  -- ---- what is opened
 
-  module _ (office : Office) (old new : Sessions) (at : AreSessions given contents office old) where
-    -- with other dumps, and the next number
-    pub AreSessions-dumps : (dumps : List Dump) (sequence : ℕ) → AtEachPair (λ i. IsDump given contents) dumps new.dumps.items
-        → new.restores.items ≡ old.restores.items → new.sequence ≡ sequence
-        → AreSessions given contents (record office { dumps = dumps; sequence = sequence }) new
-    AreSessions-dumps dumps sequence pairs same next = record {
-      dumps = pairs;
-      restores = subst (AtEachPair (λ i. IsRestore given contents) office.restores) (sym same) at.restores;
-      sequence = next;
-    }
+  pub AreRowsOf-nil : AreRowsOf given contents []
+  AreRowsOf-nil = record { whole = record { in_order = tt; no_marks = tt }; told = tt }
 
-    -- with other restores, and the next number
-    pub AreSessions-restores : (restores : List Restore) (sequence : ℕ)
-        → AtEachPair (λ i. IsRestore given contents) restores new.restores.items
-        → new.dumps.items ≡ old.dumps.items → new.sequence ≡ sequence
-        → AreSessions given contents (record office { restores = restores; sequence = sequence }) new
-    AreSessions-restores restores sequence pairs same next = record {
-      dumps = subst (AtEachPair (λ i. IsDump given contents) office.dumps) (sym same) at.dumps;
-      restores = pairs;
-      sequence = next;
-    }
+  -- a dump that begins with these rows
+  pub IsDump-opened : (session : OpenDump) (rows : Rows) → base_of session ≡ rows → session.tree ≡ rows → AreRowsOf given contents rows
+      → IsDump given contents (new_dump session.name session.host session.kind session.start (resolved contents rows)) session
+  IsDump-opened session rows base tree of = record {
+    name = refl;
+    host = refl;
+    kind = refl;
+    start = refl;
+    base = ap (resolved contents) (sym base);
+    base_rows = subst (AreRowsOf given contents) (sym base) of;
+    tree = ap (resolved contents) (sym tree);
+    tree_rows = subst (AreRowsOf given contents) (sym tree) of;
+  }
+
+  -- a restore of these rows
+  pub IsRestore-opened : (session : OpenRestore) → session.position ≡ 0 → AreRowsOf given contents session.rows
+      → IsRestore given contents (new_restore session.name (resolved contents session.rows)) session
+  IsRestore-opened session start of = record { name = refl; tree = refl; rows = of; position = start }
+
+  -- at another position
+  pub IsRestore-moved : (restore : Restore) (session : OpenRestore) (position : ℕ) → IsRestore given contents restore session
+      → IsRestore given contents (record restore { position = position }) (record session { position = position })
+  IsRestore-moved restore session position is = record { name = is.name; tree = is.tree; rows = is.rows; position = refl }

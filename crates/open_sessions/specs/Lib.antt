@@ -1,3 +1,4 @@
+pub mod CallLaws
 pub mod EditLaws
 pub mod Opened
 pub mod SessionLaws

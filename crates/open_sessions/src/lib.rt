@@ -1,7 +1,9 @@
 //! The open dumps and restores of a store, in memory. It knows rows by content id, and nothing of disks, pools or journals:
 //! which contents a dump claims is said by counts of ids, and who keeps claims takes and lets go of them.
 //!
-//! Dumps and restores stand in the order of their opening, so their sequences rise and one is found by halving.
+//! Dumps and restores stand in the order of their opening. One is found by its name, or a dump by its host, and is then
+//! spoken of by its place, which stays until one before it is taken. An edit takes the time of an edit of its tree, and
+//! leaves all others as they are.
 //!
 //! | Type | What it is |
 //! |---|---|
@@ -9,9 +11,15 @@
 //! | [`OpenRestore`] | a restore, with the rows of its backup and how many frames it gave |
 //! | [`Sessions`] | all of them, and the number of the next one |
 //!
+//! `specs/Opened` says what they are to an office of the model, `specs/SessionLaws` and `specs/EditLaws` how look-ups,
+//! claims and edits of both go together.
+//!
 //! ```text
 //! let mut sessions = Sessions::new(alloc);
-//! let at = sessions.dump_at(name)?;
+//! sessions.open_dump(dump)?;
+//! let Some(index) = sessions.dump_at(name) else { .. };
+//! sessions.put(index, path, node)?;
+//! let dump = sessions.take_dump(index);
 //! ```
 #![tactic(auto)]
 
