@@ -1,0 +1,4 @@
+mod Loading
+mod Answering
+mod Reading
+mod Contents

@@ -1,0 +1,30 @@
+use Rattle.std.proofs.Common.{◌∙◌, refl, sym, subst}
+use Rattle.store_reads.specs.Shown.{IsReadFault}
+use Rattle.store_reads.proofs.Loading.{index_read, read_view, read_has, read_fault}
+use Rattle.store_reads.proofs.load.load.Goals as goal
+
+pub returns-in-Ok-clause-reads : goal.returns-in-Ok-clause-reads
+returns-in-Ok-clause-reads g c =
+    let index = index_read _ _ _ _ c.hosts.ensures.hosts c.requires.host c.index-hosts-host.is in
+    record {
+      quiet = c.in-Ok.ensures.quiet;
+      pool_same = refl;
+      catalog_same = refl;
+      sessions_same = refl;
+      halted_same = refl;
+      view = read_view c.args.parts.now c.args.host c.args.line _ _ index (c.lines-lines.ensures ∙ c.lines.ensures.lines) c.load.new.self
+          (c.requires.line _ index) c.in-Ok.ensures.has c.in-Ok.ensures.kept;
+    }
+
+pub returns-in-Ok-clause-has : goal.returns-in-Ok-clause-has
+returns-in-Ok-clause-has g c =
+    let index = index_read _ _ _ _ c.hosts.ensures.hosts c.requires.host c.index-hosts-host.is in
+    read_has c.args.parts.now c.args.host c.args.line _ _ index
+    (c.lines-lines.ensures ∙ c.lines.ensures.lines) c.load.new.self c.in-Ok.ensures.has
+
+pub returns-in-Err-clause-fault : goal.returns-in-Err-clause-fault
+returns-in-Err-clause-fault g c =
+    let index = index_read _ _ _ _ c.hosts.ensures.hosts c.requires.host c.index-hosts-host.is in
+    subst (IsReadFault c.args.parts.now) (sym c.refusal_of.ensures)
+    (read_fault c.args.parts.now c.args.host c.args.line _ _ index
+    (c.lines-lines.ensures ∙ c.lines.ensures.lines) c.in-Err.fault c.in-Err.ensures.damaged)

@@ -1,0 +1,3 @@
+pub mod CatalogLaws
+pub mod TreeLaws
+pub mod Shown

@@ -1,0 +1,127 @@
+-- What a read of a backup finds, and how it is refused.
+--     ShowsBackup given contents hosts name number rows      the tree of the backup of this name and number is that of the rows
+--     IsLoaded parts name number rows      in each office that the parts are at work with
+--     IsRefusal parts judged refusal      a rule that is broken there, or a fault
+--     Looks old new      files were read, and the parts are as before
+--     Answers judged reply      what was judged, or want of memory
+use Rattle.std.specs.Prelude.{⊤, ◌≡◌, ℕ, List, Option, Some, None, Result, Ok, Err}
+use Rattle.disk_trait.specs.declared.ids.PoolId.{PoolId}
+use Rattle.disk_trait.specs.declared.ids.FileId.TheVariants.{Pool as PoolFile}
+use Rattle.disk_trait.specs.declared.disk.Disk.{Ghosts as DiskGhosts}
+use Rattle.pool_name.specs.declared.namer.Namer.{Ghosts as NamerGhosts}
+use Rattle.attr_tables.specs.declared.records.Record.{Record}
+use Rattle.attr_tables.specs.declared.records.Record.TheVariants.{File, Dir, Link, Deleted}
+use Rattle.journal_view.specs.View.{Quiet}
+use Rattle.merge_view.specs.Views.{Rows, IsWhole}
+use Rattle.backup_views.specs.declared.fault.ViewFault.{ViewFault}
+use Rattle.backup_views.specs.declared.fault.ViewFault.TheVariants as V
+use Rattle.pool_changes.specs.Listed.{index_of}
+use Rattle.pool_store.specs.declared.fault.PoolFault.{PoolFault}
+use Rattle.pool_store.specs.declared.fault.PoolFault.TheVariants as P
+use Rattle.stored_trees.specs.Resolved.{resolved, AreTold}
+use Rattle.office_model.specs.declared.nodes.Node.{Node}
+use Rattle.office_model.specs.declared.nodes.Node.TheVariants as N
+use Rattle.office_model.specs.declared.refusal.BrokenRule.TheVariants.{NoPath, NotAFile, ChainFull}
+use Rattle.office_model.specs.declared.refusal.Refusal.{Refusal}
+use Rattle.office_model.specs.declared.refusal.Refusal.TheVariants as R
+use Rattle.office_model.specs.Office.{Office, Host, Backup, Names}
+use Rattle.office_model.specs.Meaning.{Judged}
+use Rattle.office_model.specs.Parts.{backup_of}
+use Rattle.office_files.specs.Pooled.{contents_of, IsListed}
+use Rattle.store_parts.specs.declared.parts.StoreParts.{StoreParts}
+use Rattle.store_parts.specs.Held.{given}
+use Rattle.store_parts.specs.States.{slots, IsRunning}
+
+-- ---- answers of a record
+
+-- what a record says of a path, without the bytes of a file; a deletion mark says that nothing is there
+abbrev pub node_told : Option Record → Judged Node
+node_told None = Err NoPath
+node_told (Some (File file)) = Ok (N.File (record { attr = file.attr; group = file.group; size = file.size }))
+node_told (Some (Dir dir)) = Ok (N.Dir dir)
+node_told (Some (Link link)) = Ok (N.Link link)
+node_told (Some Deleted) = Err NoPath
+
+-- the content of a file, None if it has no bytes
+abbrev pub content_told : Option Record → Judged (Option PoolId)
+content_told None = Err NoPath
+content_told (Some (File file)) = Ok file.content
+content_told (Some (Dir dir)) = Err NotAFile
+content_told (Some (Link link)) = Err NotAFile
+content_told (Some Deleted) = Err NoPath
+
+-- what was judged, or want of memory
+abbrev pub Answers : {A : Type 0} → Judged A → Result A Refusal → Type 0
+Answers judged (Ok x) = judged ≡ Ok x
+Answers judged (Err (R.Broken rule)) = judged ≡ Err rule
+Answers judged (Err R.Memory) = ⊤
+Answers judged (Err refusal) = ⊥
+
+-- ---- faults
+
+abbrev pub refusal_of_view : ViewFault → Refusal
+refusal_of_view V.Disk = R.DiskFault
+refusal_of_view V.Memory = R.Memory
+refusal_of_view (V.Damaged file found) = R.Damaged file found
+
+abbrev pub refusal_of_pool : PoolFault → Refusal
+refusal_of_pool (P.Foreign file found) = R.Damaged file found
+refusal_of_pool P.Disk = R.DiskFault
+refusal_of_pool P.Memory = R.Memory
+refusal_of_pool (P.Damaged id found) = R.Damaged (PoolFile id) found
+refusal_of_pool P.ChainFull = R.Broken ChainFull
+
+-- ---- backups
+
+-- the tree of the backup of this name and number is that of these whole rows, which name given ids
+pub record ShowsBackup (given : PoolId → Type 0) (contents : PoolId → List ℕ) (hosts : List Host) (name : List ℕ) (number : ℕ)
+    (rows : Rows) : Type 0 where
+  pub backup : Backup
+  pub is : backup_of hosts name number ≡ Ok backup
+  pub tree : backup.tree ≡ resolved contents rows
+  pub whole : IsWhole rows
+  pub told : AreTold given contents rows
+
+-- a live or staged id, if there is one
+abbrev pub IsGivenContent : (PoolId → Type 0) → Option PoolId → Type 0
+IsGivenContent given None = ⊤
+IsGivenContent given (Some id) = given id
+
+module _ {D N S : Type 0} {d : DiskGhosts D} {n : NamerGhosts N S} where
+  -- so in each office that the parts are at work with
+  abbrev pub IsLoaded : StoreParts D N S d n → List ℕ → ℕ → Rows → Type 0
+  IsLoaded parts name number rows =
+      (office : Office) (names : Names) → (at : IsRunning parts office names)
+      → ShowsBackup (IsListed (index_of (slots parts))) (contents_of at.all) office.hosts name number rows
+
+  -- a rule that is broken there, want of memory or a fault of the disk; a damaged file can't be there
+  abbrev pub IsRefusal : {A : Type 0} → StoreParts D N S d n → (Office → Judged A) → Refusal → Type 0
+  IsRefusal parts judged (R.Broken rule) = (office : Office) (names : Names) → IsRunning parts office names → judged office ≡ Err rule
+  IsRefusal parts judged (R.Damaged file found) = (office : Office) (names : Names) → IsRunning parts office names → ⊥
+  IsRefusal parts judged R.DiskFault = ⊤
+  IsRefusal parts judged R.Memory = ⊤
+  IsRefusal parts judged R.Halted = ⊥
+
+  -- the same if no rule can be broken
+  abbrev pub IsReadFault : StoreParts D N S d n → Refusal → Type 0
+  IsReadFault parts (R.Damaged file found) = (office : Office) (names : Names) → IsRunning parts office names → ⊥
+  IsReadFault parts R.DiskFault = ⊤
+  IsReadFault parts R.Memory = ⊤
+  IsReadFault parts refusal = ⊥
+
+  -- the same of a content, whose file can't be damaged there if its id is live or staged
+  abbrev pub IsContentFault : StoreParts D N S d n → Option PoolId → Refusal → Type 0
+  IsContentFault parts content (R.Damaged file found) =
+      (office : Office) (names : Names) → IsRunning parts office names → IsGivenContent (given (slots parts)) content → ⊥
+  IsContentFault parts content R.DiskFault = ⊤
+  IsContentFault parts content R.Memory = ⊤
+  IsContentFault parts content refusal = ⊥
+
+  -- files were read, and the parts are as before
+  pub record Looks (old new : StoreParts D N S d n) : Type 0 where
+    pub quiet : Quiet old.journal new.journal
+    pub pool_same : new.pool ≡ old.pool
+    pub catalog_same : new.catalog ≡ old.catalog
+    pub sessions_same : new.sessions ≡ old.sessions
+    pub halted_same : new.halted ≡ old.halted
+    pub views_same : new.views ≡ old.views

@@ -1,0 +1,55 @@
+//! The bytes of a content of the pool.
+
+ghost use Rattle.std.specs.Prelude.{◌≡◌, Some, false, IfOk, IfErr, Err};
+ghost use Rattle.fault_counts.specs.Counts.{Counted};
+ghost use Rattle.disk_trait.specs.Files.{Files};
+ghost use Rattle.journal_view.specs.View.{told};
+ghost use Rattle.stored_trees.specs.Resolved.{bytes_of};
+ghost use Rattle.office_files.specs.Pooled.{contents_of};
+ghost use Rattle.store_reads.specs.Shown.{refusal_of_pool, IsContentFault, Looks};
+
+use disk_trait::{Bytes, Disk, FileId, PoolId};
+use office_model::{BrokenRule, Refusal};
+use pool_name::Namer;
+use pool_store::PoolFault;
+use std::alloc::Global;
+use store_parts::StoreParts;
+
+/// What a fault of a content's file is to a caller of the store.
+fn refusal_of(fault: PoolFault) -> Refusal
+    ensures { result ≡ refusal_of_pool fault }
+{
+    match fault {
+        PoolFault::Foreign { file, found } => Refusal::Damaged { file, found },
+        PoolFault::Disk => Refusal::DiskFault,
+        PoolFault::Memory => Refusal::Memory,
+        PoolFault::Damaged { id, found } => Refusal::Damaged {
+            file: FileId::Pool(id),
+            found,
+        },
+        PoolFault::ChainFull => Refusal::Broken(BrokenRule::ChainFull),
+    }
+}
+
+/// The bytes of a content, none if there is no id: then nothing is read.
+pub(crate) fn read_content<D: Disk, N: Namer>(
+    parts: &mut StoreParts<D, N>,
+    alloc: Global,
+    content: Option<PoolId>,
+) -> Result<Bytes, Refusal>
+    requires ready { parts.old.journal.halted ≡ false }
+    ensures looks { Looks parts.old parts.new }
+    ensures bytes { IfOk result (λ bytes. (all : Files) → told parts.old.journal ≡ Some all → bytes ≡ bytes_of (contents_of all) content) }
+    ensures fault { IfErr result (IsContentFault parts.old content) }
+    ensures counted { Counted (D.fault_count parts.old.journal.disk) (D.fault_count parts.new.journal.disk)
+        (result ≡ Err Refusal.DiskFault) }
+{
+    let id = match content {
+        Some(id) => id,
+        None => return Ok(Bytes::new(alloc)),
+    };
+    match parts.pool.read(alloc, &mut parts.journal, id) {
+        Ok(bytes) => Ok(bytes),
+        Err(fault) => Err(refusal_of(fault)),
+    }
+}

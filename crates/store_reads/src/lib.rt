@@ -1,0 +1,20 @@
+//! The reads of a store at work: what is at a path of a backup, the bytes of a file, the names in a directory. The crate
+//! knows the catalog, the tables of backups and the contents of the pool, and changes no file.
+//!
+//! Its main clause: each event is answered as the model says (`Runs` of `store_parts`), whatever the journal's files hold
+//! of the tables, filled or not. The law file `specs/CatalogLaws` says for other events, too, that the catalog finds the
+//! host and the backup that the model finds; `specs/TreeLaws`, that the tables of backups show their trees.
+//!
+//! | Function | What it answers |
+//! |---|---|
+//! | [`lookup`] | the node at a path, without the bytes of a file |
+//! | [`read_file`] | the bytes of the file at a path |
+#![tactic(auto)]
+
+mod content;
+mod load;
+mod lookup_event;
+mod read_file_event;
+
+pub use lookup_event::lookup;
+pub use read_file_event::read_file;
