@@ -1,0 +1,31 @@
+use Rattle.std.proofs.Common.{refl, inl}
+use Rattle.store_hosts.specs.HostRuns.{runs_no_memory}
+use Rattle.store_hosts.proofs.Events.{runs_no_host, index_here, proposed, runs_replaced, runs_not_replaced}
+use Rattle.store_hosts.proofs.Replacing.{no_host_contact, replaces_contact}
+use Rattle.store_hosts.proofs.contacts.contact.Goals as goal
+
+pub returns-in-None : goal.returns-in-None
+returns-in-None g c = runs_no_host _ _ _ c.in-None.ensures.value (no_host_contact c.args.name.now c.args.good)
+
+pub returns-in_err-change : goal.returns-in_err-change
+returns-in_err-change g c = runs_no_memory _ _ _ c.from_residual.ensures.1
+
+pub returns-in-Ok : goal.returns-in-Ok
+returns-in-Ok g c =
+    let here = index_here _ _ _ _ c.hosts.ensures.hosts c.in-Some.ensures.within c.index-hosts-host.is in
+    let taken = c.take_changes-changes.ensures in
+    runs_replaced _ _ _ _ _ _ _ _
+    (proposed _ _ _ _ c.take_changes-changes.new.self _ c.in_ok-change.ensures.proposes taken.changes taken.edit)
+    (replaces_contact _ _ _ _ c.in-Some.ensures.value here _ _
+    c.contacts_after-good.ensures)
+    (λ office names. refl) c.in-Ok.ensures.made
+
+pub returns : goal.returns
+returns g c =
+    let here = index_here _ _ _ _ c.hosts.ensures.hosts c.in-Some.ensures.within c.index-hosts-host.is in
+    let taken = c.take_changes-changes.ensures in
+    runs_not_replaced _ _ _ _ _ _ _ _
+    (proposed _ _ _ _ c.take_changes-changes.new.self _ c.in_ok-change.ensures.proposes taken.changes taken.edit)
+    (replaces_contact _ _ _ _ c.in-Some.ensures.value here _ _
+    c.contacts_after-good.ensures)
+    _ (λ office names. inl refl) c.in-Err.ensures.refused
