@@ -5,3 +5,4 @@ pub mod Imaging
 pub mod Lists
 pub mod Sweeping
 pub mod Holding
+pub mod Missing
