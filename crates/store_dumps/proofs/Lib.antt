@@ -1,2 +1,4 @@
 pub mod Running
 pub mod Aborts
+pub mod Hosts
+pub mod Opens

@@ -6,10 +6,13 @@
 //!
 //! | Function | What it does |
 //! |---|---|
+//! | [`open_dump_full`] | opens a full dump of a host |
 //! | [`abort`] | drops an open dump, and lets go its claims |
 #![tactic(auto)]
 
 mod aborting;
 mod claims;
+mod opening;
 
 pub use aborting::abort;
+pub use opening::open_dump_full;
