@@ -30,7 +30,7 @@ use Rattle.store_parts.specs.Runs.{Runs}
 use Rattle.store_dumps.specs.Claims.{LetsGo}
 use Rattle.store_dumps.proofs.Running.{Makes, running_let_go, runs_kept}
 
-abbrev place_of : List OpenDump → SessionName → Option ℕ
+abbrev pub place_of : List OpenDump → SessionName → Option ℕ
 place_of dumps name = position_from (λ dump. is_same_session dump.name name) 0 dumps
 
 module _ {D N S : Type 0} {d : DiskGhosts D} {n : NamerGhosts N S} where

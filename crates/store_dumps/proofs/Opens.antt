@@ -49,7 +49,7 @@ use Rattle.store_parts.specs.StepLaws.{step_memory}
 use Rattle.store_parts.specs.RunLaws.{counted_still}
 use Rattle.store_dumps.specs.Claims.{LetsGo}
 use Rattle.store_dumps.specs.ClaimLaws.{lets_go_none}
-use Rattle.store_dumps.specs.Opening.{opening_rule, session_of, IsFresh, IsOpened, AreAlike}
+use Rattle.store_dumps.specs.Opening.{opening_rule, session_of, IsFresh, IsOpened}
 use Rattle.store_dumps.proofs.Hosts.{IsNamed, named_host, no_named, index_named}
 use Rattle.store_dumps.proofs.Running.{Makes, running_let_go, runs_kept}
 
@@ -96,9 +96,6 @@ judged_at name kind now office place host base at is =
     moved : (rule : Option BrokenRule) (dumps : List Dump) → ((rule >> Ok dumps) >>= made) ≡ (rule >> made dumps)
     moved None dumps = refl
     moved (Some rule) dumps = refl
-
-abbrev IsFault : Reply → Type 0
-IsFault reply = reply ≡ Err DiskFault
 
 -- ---- the sessions with one dump more
 
@@ -196,34 +193,6 @@ module _ {D N S : Type 0} {d : DiskGhosts D} {n : NamerGhosts N S} where
 
           sequence_same : office.sequence ≡ old.sessions.sequence
           sequence_same = sym at.sessions.sequence
-
-  -- want of memory, after which the same is open
-  pub runs_alike_memory : (old new : StoreParts D N S d n) (event : Event) → new.journal ≡ old.journal → new.pool ≡ old.pool
-      → new.catalog ≡ old.catalog → new.views ≡ old.views → new.halted ≡ old.halted → AreAlike old.sessions new.sessions
-      → Runs old event (Err Memory) new
-  runs_alike_memory old new event journal pool catalog views halted alike = record {
-    steps = λ office names at. record {
-      next = Running office names;
-      step = step_memory office names event at.used.distinct;
-      in_state = running_let_go old new office office names (λ id. 0) at journal catalog views halted
-          (subst (λ p. LetsGo (λ id. 0) (slots old) (slots_of p.names)) (sym pool) (lets_go_none (slots old) (slots old) (λ id. 0) (λ id. refl)))
-          (ap (λ p. p.in_one_file) pool)
-          (λ id. omega (arith, ap (λ items. claims_in_dumps items id) alike.dumps, ap (λ items. claims_in_restores items id) alike.restores))
-          (record {
-            dumps = subst (λ (items : List OpenDump). AtEachPair (λ i. IsDump (given (slots old)) (contents_of at.all)) office.dumps items)
-                (sym alike.dumps) at.sessions.dumps;
-            restores = subst (λ (items : List OpenRestore). AtEachPair (λ i. IsRestore (given (slots old)) (contents_of at.all)) office.restores items)
-                (sym alike.restores) at.sessions.restores;
-            sequence = alike.sequence ∙ at.sessions.sequence;
-          })
-          refl refl at.sound;
-    };
-    crash = λ office names at.
-        subst (λ j. FindsOnly old.journal j (MayRecover n.digest_of office ((meaning_of event).carried office names))) (sym journal)
-        (FindsOnly-still old.journal (MayRecover n.digest_of office ((meaning_of event).carried office names)));
-    counted = subst (λ j. Counted (d.fault_count old.journal.disk) (d.fault_count j.disk) (IsFault (Err Memory))) (sym journal)
-        (counted_still (d.fault_count old.journal.disk) (IsFault (Err Memory)) (λ e. absurd cc));
-  }
 
   -- ---- a full dump
 

@@ -2,6 +2,7 @@
 --     stored_let_go      a pool that lost claims is stored as it was
 --     running_let_go      parts are at work with other sessions, if what those don't claim was let go
 --     reads_same      parts to which nothing was done
+--     runs_alike_memory, runs_alike_refused      an event was refused, and the same is open
 --     runs_kept      an event that leaves the journal was answered as promised
 use Rattle.std.specs.Prelude.{◌≡◌, ◌<◌, ◌+◌, ℕ, Bool, true, false, List, Option, Some, None, Ok, Err, is_some}
 use Rattle.std.proofs.Common.{refl, sym, ap, ◌∙◌, subst, arith}
@@ -23,14 +24,20 @@ use Rattle.pool_store.specs.Fits.{Fits, IsLess, fits_less}
 use Rattle.backup_views.specs.declared.kept.Views.{Views}
 use Rattle.office_catalog.specs.Known.{Known}
 use Rattle.open_sessions.specs.declared.sessions.Sessions.{Sessions}
-use Rattle.open_sessions.specs.Opened.{AreSessions, claims_in}
+use Rattle.open_sessions.specs.Opened.{IsDump, IsRestore, AreSessions, claims_in, claims_in_dumps, claims_in_restores}
+use Rattle.open_sessions.specs.declared.sessions.OpenDump.{OpenDump}
+use Rattle.open_sessions.specs.declared.sessions.OpenRestore.{OpenRestore}
 use Rattle.open_sessions.specs.SessionLaws.{AreSessions-claimed}
 use Rattle.office_model.specs.declared.answer.Answer.{Answer}
 use Rattle.office_model.specs.declared.event.Event.{Event}
-use Rattle.office_model.specs.declared.refusal.Refusal.TheVariants.{DiskFault}
+use Rattle.office_model.specs.declared.refusal.Refusal.{Refusal}
+use Rattle.office_model.specs.declared.refusal.Refusal.TheVariants.{Broken, DiskFault, Memory}
+use Rattle.office_model.specs.declared.refusal.BrokenRule.{BrokenRule}
+use Rattle.office_model.specs.Meaning.{Reply}
 use Rattle.office_model.specs.Office.{Office, Host, Names, IsSound, durable}
-use Rattle.office_model.specs.Step.{Running, meaning_of}
+use Rattle.office_model.specs.Step.{Running, IsStep, meaning_of}
 use Rattle.office_model.specs.UsedNames.{AreNamesAfter}
+use Rattle.office_files.specs.Pairs.{AtEachPair}
 use Rattle.office_files.specs.Pooled.{contents_of}
 use Rattle.office_files.specs.Stands.{Stands}
 use Rattle.office_known.specs.KnownLaws.{known_of_office}
@@ -39,6 +46,9 @@ use Rattle.store_parts.specs.Held.{given, IsKeptView, IsStored}
 use Rattle.store_parts.specs.States.{slots, IsRunning}
 use Rattle.store_parts.specs.Runs.{MayRecover, Runs, Reads}
 use Rattle.store_parts.specs.RunLaws.{counted_still}
+use Rattle.store_parts.specs.StepLaws.{step_memory, step_refused}
+use Rattle.store_dumps.specs.Alike.{AreAlike}
+use Rattle.store_dumps.specs.ClaimLaws.{lets_go_none}
 use Rattle.store_dumps.specs.Claims.{Loses, LetsGo}
 
 live_is : (id : PoolId) (slot : Option Slot) → is_live slot ≡ is_some (item_of id slot)
@@ -49,6 +59,9 @@ live_is id (Some Doomed) = refl
 
 was_live : (id : PoolId) (old new : Option Slot) → item_of id new ≡ item_of id old → is_live new ≡ true → is_live old ≡ true
 was_live id old new same live = live_is id old ∙ ap is_some (sym same) ∙ sym (live_is id new) ∙ live
+
+abbrev IsFault : Reply → Type 0
+IsFault reply = reply ≡ Err DiskFault
 
 module _ {D N S : Type 0} {d : DiskGhosts D} {n : NamerGhosts N S} where
   pub stored_let_go : (journal : Journal D d) (pool pool' : Pool N S n) (catalog : Known) (office : Office) (names : Names) (count : PoolId → ℕ)
@@ -156,3 +169,49 @@ module _ {D N S : Type 0} {d : DiskGhosts D} {n : NamerGhosts N S} where
     counted = subst (λ (j : Journal D d). Counted (d.fault_count old.journal.disk) (d.fault_count j.disk) (Ok answer ≡ Err DiskFault)) (sym journal)
         (counted_still (d.fault_count old.journal.disk) (Ok answer ≡ Err DiskFault) (λ e. absurd cc));
   }
+
+  -- nothing was done to what is open: the event was refused
+  pub runs_alike : (old new : StoreParts D N S d n) (event : Event) (refusal : Refusal) → new.journal ≡ old.journal → new.pool ≡ old.pool
+      → new.catalog ≡ old.catalog → new.views ≡ old.views → new.halted ≡ old.halted → AreAlike old.sessions new.sessions
+      → ((office : Office) (names : Names) → IsRunning old office names → IsStep (Running office names) event (Err refusal) (Running office names))
+      → (IsFault (Err refusal) → ⊥) → Runs old event (Err refusal) new
+  runs_alike old new event refusal journal pool catalog views halted alike step fine = record {
+    steps = λ office names at. record {
+      next = Running office names;
+      step = step office names at;
+      in_state = running_let_go old new office office names (λ id. 0) at journal catalog views halted
+          (subst (λ (p : Pool N S n). LetsGo (λ id. 0) (slots old) (slots_of p.names)) (sym pool)
+          (lets_go_none (slots old) (slots old) (λ id. 0) (λ id. refl)))
+          (ap (λ (p : Pool N S n). p.in_one_file) pool)
+          (λ id. omega (arith, ap (λ items. claims_in_dumps items id) alike.dumps, ap (λ items. claims_in_restores items id) alike.restores))
+          (record {
+            dumps = subst (λ (items : List OpenDump). AtEachPair (λ i. IsDump (given (slots old)) (contents_of at.all)) office.dumps items)
+                (sym alike.dumps) at.sessions.dumps;
+            restores = subst (λ (items : List OpenRestore). AtEachPair (λ i. IsRestore (given (slots old)) (contents_of at.all)) office.restores items)
+                (sym alike.restores) at.sessions.restores;
+            sequence = alike.sequence ∙ at.sessions.sequence;
+          })
+          refl refl at.sound;
+    };
+    crash = λ office names at.
+        subst (λ (j : Journal D d). FindsOnly old.journal j (MayRecover n.digest_of office ((meaning_of event).carried office names))) (sym journal)
+        (FindsOnly-still old.journal (MayRecover n.digest_of office ((meaning_of event).carried office names)));
+    counted = subst (λ (j : Journal D d). Counted (d.fault_count old.journal.disk) (d.fault_count j.disk) (IsFault (Err refusal))) (sym journal)
+        (counted_still (d.fault_count old.journal.disk) (IsFault (Err refusal)) fine);
+  }
+
+  pub runs_alike_memory : (old new : StoreParts D N S d n) (event : Event) → new.journal ≡ old.journal → new.pool ≡ old.pool
+      → new.catalog ≡ old.catalog → new.views ≡ old.views → new.halted ≡ old.halted → AreAlike old.sessions new.sessions
+      → Runs old event (Err Memory) new
+  runs_alike_memory old new event journal pool catalog views halted alike =
+      runs_alike old new event Memory journal pool catalog views halted alike
+      (λ office names at. step_memory office names event at.used.distinct) (λ e. absurd cc)
+
+  pub runs_alike_refused : (old new : StoreParts D N S d n) (event : Event) (rule : BrokenRule) → new.journal ≡ old.journal
+      → new.pool ≡ old.pool → new.catalog ≡ old.catalog → new.views ≡ old.views → new.halted ≡ old.halted
+      → AreAlike old.sessions new.sessions
+      → ((office : Office) (names : Names) → IsRunning old office names → (meaning_of event).carried office names ≡ Err rule)
+      → Runs old event (Err (Broken rule)) new
+  runs_alike_refused old new event rule journal pool catalog views halted alike broken =
+      runs_alike old new event (Broken rule) journal pool catalog views halted alike
+      (λ office names at. step_refused office names event rule at.used.distinct (broken office names at)) (λ e. absurd cc)

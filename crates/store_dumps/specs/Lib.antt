@@ -1,3 +1,4 @@
 pub mod Claims
 pub mod ClaimLaws
+pub mod Alike
 pub mod Opening

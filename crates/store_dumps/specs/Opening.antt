@@ -1,7 +1,6 @@
 -- A further open dump.
 --     opening_rule is_open next sequence      the first rule that keeps a host's dump from being opened, but for those of its base
 --     IsOpened old epoch host kind now base name new      the sessions have one dump more, whose rows are those of its base
---     AreAlike old new      the same is open
 use Rattle.std.specs.Prelude.{◌≡◌, ℕ, ◌+◌, Bool, List, [], ◌∷◌, ◌++◌, nat_le, Option, Some, None, if◌then◌else◌}
 use Rattle.backup_rules.specs.declared.lines.Kind.{Kind}
 use Rattle.merge_view.specs.Views.{Rows}
@@ -39,8 +38,3 @@ pub record IsOpened (old : Sessions) (epoch host : ℕ) (kind : Kind) (now : ℕ
   pub dumps : new.dumps.items ≡ old.dumps.items ++ dump ∷ []
   pub restores : new.restores.items ≡ old.restores.items
   pub sequence : new.sequence ≡ old.sequence + 1
-
-pub record AreAlike (old new : Sessions) : Type 0 where
-  pub dumps : new.dumps.items ≡ old.dumps.items
-  pub restores : new.restores.items ≡ old.restores.items
-  pub sequence : new.sequence ≡ old.sequence

@@ -7,12 +7,15 @@
 //! | Function | What it does |
 //! |---|---|
 //! | [`open_dump_full`] | opens a full dump of a host |
+//! | [`remove`] | takes a path and all below it out of its tree |
 //! | [`abort`] | drops an open dump, and lets go its claims |
 #![tactic(auto)]
 
 mod aborting;
 mod claims;
 mod opening;
+mod removing;
 
 pub use aborting::abort;
 pub use opening::open_dump_full;
+pub use removing::remove;

@@ -6,7 +6,8 @@ ghost use Rattle.std.specs.Arc.{arc_value};
 ghost use Rattle.office_model.specs.declared.event.Event.TheVariants.{OpenDump as OpenDumpEvent};
 ghost use Rattle.backup_rules.specs.declared.lines.Kind.TheVariants.{Full};
 ghost use Rattle.store_parts.specs.Runs.{Runs};
-ghost use Rattle.store_dumps.specs.Opening.{opening_rule, IsFresh, IsOpened, AreAlike};
+ghost use Rattle.store_dumps.specs.Opening.{opening_rule, IsFresh, IsOpened};
+ghost use Rattle.store_dumps.specs.Alike.{AreAlike};
 
 use attr_records::HostName;
 use attr_tables::Table;

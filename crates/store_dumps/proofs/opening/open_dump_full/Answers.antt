@@ -1,7 +1,8 @@
 use Rattle.std.proofs.Common.{refl, sym, ap, ◌∙◌, [], Some}
 use Rattle.backup_rules.specs.declared.lines.Kind.TheVariants.{Full}
 use Rattle.store_parts.specs.RunLaws.{runs_refused, runs_memory, reads_still, counted_still}
-use Rattle.store_dumps.proofs.Opens.{no_host, judged_by, runs_alike_memory, runs_opened_full, opened_alike, rule_next, index_read}
+use Rattle.store_dumps.proofs.Running.{runs_alike_memory}
+use Rattle.store_dumps.proofs.Opens.{no_host, judged_by, runs_opened_full, opened_alike, rule_next, index_read}
 use Rattle.store_dumps.proofs.opening.open_dump_full.Goals as goal
 
 pub returns-in-None : goal.returns-in-None

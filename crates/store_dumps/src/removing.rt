@@ -1,0 +1,46 @@
+//! A path is removed.
+
+ghost use Rattle.std.specs.Prelude.{◌≡◌, false};
+ghost use Rattle.office_model.specs.declared.event.Event.TheVariants.{Remove};
+ghost use Rattle.store_parts.specs.Runs.{Runs};
+
+use crate::claims::release_rows;
+use attr_records::PathName;
+use disk_trait::Disk;
+use dump_session::RemoveFault;
+use office_model::{Answer, BrokenRule, Refusal, SessionName};
+use pool_name::Namer;
+use std::alloc::Global;
+use store_parts::StoreParts;
+
+/// Takes a path and all below it out of the tree of an open dump, and lets go what their rows claim: a content that was
+/// staged for them and that nothing else claims is to be swept. After a refusal nothing has changed.
+pub fn remove<D: Disk, N: Namer>(
+    parts: &mut StoreParts<D, N>,
+    alloc: Global,
+    session: SessionName,
+    path: &PathName,
+) -> Result<Answer, Refusal>
+    requires ready { parts.old.halted ≡ false }
+    ensures { Runs parts.old (Remove session path.now) result parts.new }
+{
+    let at = match parts.sessions.dump_at(session) {
+        Some(at) => at,
+        None => return Err(Refusal::Broken(BrokenRule::NoSession)),
+    };
+    let tree = match parts.sessions.dumps[at].tree.tree(alloc) {
+        Ok(tree) => tree,
+        Err(_) => return Err(Refusal::Memory),
+    };
+    match parts.sessions.remove(alloc, at, path) {
+        Ok(()) => {
+            release_rows(
+                &mut parts.pool,
+                merge_view::within(tree.rows(), path.as_slice()),
+            );
+            Ok(Answer::Done)
+        }
+        Err(RemoveFault::NoPath) => Err(Refusal::Broken(BrokenRule::NoPath)),
+        Err(RemoveFault::Memory) => Err(Refusal::Memory),
+    }
+}
