@@ -8,6 +8,7 @@ use Rattle.pool_name.specs.declared.namer.Namer.{Ghosts as NamerGhosts}
 use Rattle.intent_journal.specs.declared.changes.Change.{Change}
 use Rattle.pool_changes.specs.Listed.{index_of}
 use Rattle.backup_rules.specs.Values.{RuleSet}
+use Rattle.backup_index.specs.Index.{Index}
 use Rattle.backup_index.specs.Names.{has_name}
 use Rattle.ref_counts.specs.CountsFile.{counts_file}
 use Rattle.office_catalog.specs.Known.{Known, names_of, with_host, new_host}
@@ -69,16 +70,17 @@ proposed_host old p name name' rules rules' change taken front same_name same_ru
     proposed old (with_host old (new_host p name rules)) (F.Head ∷ F.Host p ∷ []) change taken front
     (copied old p name name' rules rules' change same_name same_rules proposes) same edit
 
-pub new_host_change : (old new known : Known) (p : ℕ) (front changes : List Change) (counts : Change)
-    → IsProposed old new (F.Head ∷ F.Host p ∷ []) known front → changes ≡ front ++ counts ∷ [] → counts.file ≡ F.Counts p
-    → counts.bytes ≡ Some (counts_file p []) → IsNewHostChange old new p changes
-new_host_change old new known p front changes counts proposed are file bytes = record {
+pub new_host_change : (old new known : Known) (items hosts : List Index) (front changes : List Change) (counts : Change)
+    → IsProposed old new (F.Head ∷ F.Host (length hosts) ∷ []) known front → changes ≡ front ++ counts ∷ [] → items ≡ hosts
+    → counts.file ≡ F.Counts (length items) → counts.bytes ≡ Some (counts_file (length items) [])
+    → IsNewHostChange old new (length hosts) changes
+new_host_change old new known items hosts front changes counts proposed are same file bytes = record {
   front = front;
   counts = counts;
   changes_are = are;
   leads = proposed.leads;
-  file = file;
-  bytes = bytes;
+  file = file ∙ ap (λ (l : List Index). F.Counts (length l)) same;
+  bytes = bytes ∙ ap (λ (l : List Index). Some (counts_file (length l) [])) same;
 }
 
 module _ {D N S : Type 0} {d : DiskGhosts D} {n : NamerGhosts N S} where

@@ -44,6 +44,11 @@ judged_rules : (name : List ℕ) (change : RuleChanges) (office : Office) (names
     ≡ Ok (record { answer = Done; after = record office { hosts = slice_set office.hosts p (with_change host change) } })
 judged_rules name change office names p host e = rw e refl
 
+-- what was made of the rules of the index
+pub changed_same : (rules before : RuleSet) (change : RuleChanges) (index : Index) → rules ≡ changed before change → before ≡ index.rules
+    → rules ≡ changed index.rules change
+changed_same rules before change index is same = is ∙ ap (λ (r : RuleSet). changed r change) same
+
 -- ---- contacts
 
 pub no_host_contact : (name : List ℕ) (good : Bool) (office : Office) (names : Names) → host_at office.hosts name ≡ Err NoHost

@@ -5,3 +5,5 @@ pub mod FileLaws
 pub mod HostRuns
 pub mod OneHostLaws
 pub mod NewHostLaws
+pub mod Opened
+pub mod TotalLaws

@@ -1,7 +1,4 @@
-use Rattle.std.proofs.Common.{refl, sym, ap, ◌∙◌, List, [], length, Some}
-use Rattle.disk_trait.specs.declared.ids.FileId.TheVariants as F
-use Rattle.backup_index.specs.Index.{Index}
-use Rattle.ref_counts.specs.CountsFile.{counts_file}
+use Rattle.std.proofs.Common.{refl, sym}
 use Rattle.store_hosts.specs.HostRuns.{runs_no_memory}
 use Rattle.store_hosts.specs.NewHostLaws.{new_are}
 use Rattle.store_hosts.proofs.Adding.{proposed_host, new_host_change, runs_exists, runs_full, runs_added, runs_not_added}
@@ -32,18 +29,16 @@ pub make-requires-clause-changes : goal.make-requires-clause-changes
 make-requires-clause-changes g c =
     let front = proposed_host _ _ _ _ _ _ _ c.take_changes-changes.new.self _ c.in_ok-name.ensures c.in_ok-rules.ensures
     c.in_ok-change.ensures.proposes c.take_changes-changes.ensures.changes c.take_changes-changes.ensures.edit in
-    new_are _ _ _ _ (new_host_change _ _ _ _ _ _ _ front c.in_ok-push.ensures.ok
-    (c.in_ok-counts.ensures.file ∙ ap (λ (l : List Index). F.Counts (length l)) c.hosts.ensures.hosts)
-    (c.in_ok-counts.ensures.bytes ∙ ap (λ (l : List Index). Some (counts_file (length l) [])) c.hosts.ensures.hosts))
+    new_are _ _ _ _ (new_host_change _ _ _ _ c.args.parts.now.catalog.hosts _ _ _ front c.in_ok-push.ensures.ok c.hosts.ensures.hosts
+    c.in_ok-counts.ensures.file c.in_ok-counts.ensures.bytes)
 
 pub returns-in-Ok : goal.returns-in-Ok
 returns-in-Ok g c =
     let front = proposed_host _ _ _ _ _ _ _ c.take_changes-changes.new.self _ c.in_ok-name.ensures c.in_ok-rules.ensures
     c.in_ok-change.ensures.proposes c.take_changes-changes.ensures.changes c.take_changes-changes.ensures.edit in
     runs_added _ _ _ _ _ (sym c.if-has.ensures) (c.if-is_full.ensures.room refl)
-    (new_host_change _ _ _ _ _ _ _ front c.in_ok-push.ensures.ok
-    (c.in_ok-counts.ensures.file ∙ ap (λ (l : List Index). F.Counts (length l)) c.hosts.ensures.hosts)
-    (c.in_ok-counts.ensures.bytes ∙ ap (λ (l : List Index). Some (counts_file (length l) [])) c.hosts.ensures.hosts))
+    (new_host_change _ _ _ _ c.args.parts.now.catalog.hosts _ _ _ front c.in_ok-push.ensures.ok c.hosts.ensures.hosts
+    c.in_ok-counts.ensures.file c.in_ok-counts.ensures.bytes)
     front.known_is _ c.in-Ok.ensures.made
 
 pub returns : goal.returns
@@ -51,7 +46,6 @@ returns g c =
     let front = proposed_host _ _ _ _ _ _ _ c.take_changes-changes.new.self _ c.in_ok-name.ensures c.in_ok-rules.ensures
     c.in_ok-change.ensures.proposes c.take_changes-changes.ensures.changes c.take_changes-changes.ensures.edit in
     runs_not_added _ _ _ _ _ (sym c.if-has.ensures) (c.if-is_full.ensures.room refl)
-    (new_host_change _ _ _ _ _ _ _ front c.in_ok-push.ensures.ok
-    (c.in_ok-counts.ensures.file ∙ ap (λ (l : List Index). F.Counts (length l)) c.hosts.ensures.hosts)
-    (c.in_ok-counts.ensures.bytes ∙ ap (λ (l : List Index). Some (counts_file (length l) [])) c.hosts.ensures.hosts))
+    (new_host_change _ _ _ _ c.args.parts.now.catalog.hosts _ _ _ front c.in_ok-push.ensures.ok c.hosts.ensures.hosts
+    c.in_ok-counts.ensures.file c.in_ok-counts.ensures.bytes)
     front.known_is _ _ c.in-Err.ensures.refused

@@ -1,9 +1,7 @@
-use Rattle.std.proofs.Common.{refl, ap, ◌∙◌, inl}
-use Rattle.backup_rules.specs.Values.{RuleSet}
-use Rattle.backup_rules.specs.Changes.{changed}
+use Rattle.std.proofs.Common.{refl, inl}
 use Rattle.store_hosts.specs.HostRuns.{runs_no_memory}
 use Rattle.store_hosts.proofs.Events.{runs_no_host, index_here, proposed, runs_replaced, runs_not_replaced}
-use Rattle.store_hosts.proofs.Replacing.{no_host_rules, replaces_rules}
+use Rattle.store_hosts.proofs.Replacing.{no_host_rules, changed_same, replaces_rules}
 use Rattle.store_hosts.proofs.new_rules.set_rules.Goals as goal
 
 pub returns-in-None : goal.returns-in-None
@@ -22,7 +20,7 @@ returns-in-Ok g c =
     runs_replaced _ _ _ _ _ _ _ _
     (proposed _ _ _ _ c.take_changes-changes.new.self _ c.in_ok-change.ensures.proposes taken.changes taken.edit)
     (replaces_rules _ _ _ _ c.in-Some.ensures.value here _ _
-    (c.in_ok-rules.ensures ∙ ap (λ (r : RuleSet). changed r c.args.change.now) c.rules.ensures))
+    (changed_same _ _ c.args.change.now c.index-hosts-host.result c.in_ok-rules.ensures c.rules.ensures))
     (λ office names. refl) c.in-Ok.ensures.made
 
 pub returns : goal.returns
@@ -32,5 +30,5 @@ returns g c =
     runs_not_replaced _ _ _ _ _ _ _ _
     (proposed _ _ _ _ c.take_changes-changes.new.self _ c.in_ok-change.ensures.proposes taken.changes taken.edit)
     (replaces_rules _ _ _ _ c.in-Some.ensures.value here _ _
-    (c.in_ok-rules.ensures ∙ ap (λ (r : RuleSet). changed r c.args.change.now) c.rules.ensures))
+    (changed_same _ _ c.args.change.now c.index-hosts-host.result c.in_ok-rules.ensures c.rules.ensures))
     _ (λ office names. inl refl) c.in-Err.ensures.refused
