@@ -6,6 +6,7 @@ ghost use Rattle.fault_counts.specs.Counts.{Counted};
 ghost use Rattle.disk_trait.specs.Files.{Files};
 ghost use Rattle.backup_rules.specs.declared.lines.Line.{Line as LineValue};
 ghost use Rattle.attr_records.specs.Trees.{node_at};
+ghost use Rattle.merge_view.specs.Runs.{within_rows};
 ghost use Rattle.merge_view.specs.Views.{Rows, IsWhole};
 ghost use Rattle.journal_view.specs.View.{told, Quiet};
 
@@ -16,6 +17,7 @@ use attr_tables::{Record, Row, Table};
 use backup_rules::Line;
 use disk_trait::Disk;
 use intent_journal::Journal;
+use merge_view::within;
 use std::alloc::Global;
 
 /// The tree of a backup, decoded.
@@ -101,6 +103,16 @@ impl Views {
     {
         match &self.kept {
             Some(kept) => kept.rows.rows(),
+            None => &[],
+        }
+    }
+
+    /// The rows of a directory and of all below it in the view that is kept: a search, and no memory.
+    pub fn within(&self, directory: &[u8]) -> &[Row]
+        ensures { result.now ≡ within_rows directory.now (rows_of self.now.kept) }
+    {
+        match &self.kept {
+            Some(kept) => within(kept.rows.rows(), directory),
             None => &[],
         }
     }

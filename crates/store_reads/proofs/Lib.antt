@@ -2,3 +2,5 @@ mod Loading
 mod Answering
 mod Reading
 mod Contents
+mod NameLaws
+mod Listing

@@ -55,7 +55,8 @@ use Rattle.store_reads.proofs.Answering.{Failed, answers_fine, refused_later, re
 -- ---- one record
 
 module _ (given : PoolId → Type 0) (contents : PoolId → List ℕ) where
-  size_told : (size : ℕ) (content : Option PoolId) → IsToldContent given contents size content → length (bytes_of contents content) ≡ size
+  pub size_told : (size : ℕ) (content : Option PoolId) → IsToldContent given contents size content
+      → length (bytes_of contents content) ≡ size
   size_told size None told = sym told
   size_told size (Some id) told = sym told.1
 

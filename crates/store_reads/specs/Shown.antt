@@ -1,17 +1,20 @@
 -- What a read of a backup finds, and how it is refused.
 --     ShowsBackup given contents hosts name number rows      the tree of the backup of this name and number is that of the rows
 --     IsLoaded parts name number rows      in each office that the parts are at work with
+--     node_told, content_told, list_told, entries_told      what rows say to Lookup, ReadFile and List
 --     IsRefusal parts judged refusal      a rule that is broken there, or a fault
 --     Looks old new      files were read, and the parts are as before
 --     Answers judged reply      what was judged, or want of memory
-use Rattle.std.specs.Prelude.{⊤, ◌≡◌, ℕ, List, Option, Some, None, Result, Ok, Err}
+use Rattle.std.specs.Prelude.{⊤, ◌≡◌, ℕ, List, [], ◌∷◌, Option, Some, None, Result, Ok, Err, option_map}
 use Rattle.disk_trait.specs.declared.ids.PoolId.{PoolId}
 use Rattle.disk_trait.specs.declared.ids.FileId.TheVariants.{Pool as PoolFile}
 use Rattle.disk_trait.specs.declared.disk.Disk.{Ghosts as DiskGhosts}
 use Rattle.pool_name.specs.declared.namer.Namer.{Ghosts as NamerGhosts}
+use Rattle.attr_records.specs.Trees.{node_at}
 use Rattle.attr_tables.specs.declared.records.Record.{Record}
 use Rattle.attr_tables.specs.declared.records.Record.TheVariants.{File, Dir, Link, Deleted}
 use Rattle.journal_view.specs.View.{Quiet}
+use Rattle.merge_view.specs.Runs.{children}
 use Rattle.merge_view.specs.Views.{Rows, IsWhole}
 use Rattle.backup_views.specs.declared.fault.ViewFault.{ViewFault}
 use Rattle.backup_views.specs.declared.fault.ViewFault.TheVariants as V
@@ -19,14 +22,17 @@ use Rattle.pool_changes.specs.Listed.{index_of}
 use Rattle.pool_store.specs.declared.fault.PoolFault.{PoolFault}
 use Rattle.pool_store.specs.declared.fault.PoolFault.TheVariants as P
 use Rattle.stored_trees.specs.Resolved.{resolved, AreTold}
+use Rattle.office_model.specs.declared.answer.NamedNode.{NamedNode}
 use Rattle.office_model.specs.declared.nodes.Node.{Node}
 use Rattle.office_model.specs.declared.nodes.Node.TheVariants as N
-use Rattle.office_model.specs.declared.refusal.BrokenRule.TheVariants.{NoPath, NotAFile, ChainFull}
+use Rattle.office_model.specs.declared.refusal.BrokenRule.{BrokenRule}
+use Rattle.office_model.specs.declared.refusal.BrokenRule.TheVariants.{NoPath, NotAFile, NotADirectory, ChainFull}
 use Rattle.office_model.specs.declared.refusal.Refusal.{Refusal}
 use Rattle.office_model.specs.declared.refusal.Refusal.TheVariants as R
 use Rattle.office_model.specs.Office.{Office, Host, Backup, Names}
-use Rattle.office_model.specs.Meaning.{Judged}
+use Rattle.office_model.specs.Meaning.{Judged, found}
 use Rattle.office_model.specs.Parts.{backup_of}
+use Rattle.office_model.specs.events.List.{name_in}
 use Rattle.office_files.specs.Pooled.{contents_of, IsListed}
 use Rattle.store_parts.specs.declared.parts.StoreParts.{StoreParts}
 use Rattle.store_parts.specs.Held.{given}
@@ -34,13 +40,17 @@ use Rattle.store_parts.specs.States.{slots, IsRunning}
 
 -- ---- answers of a record
 
--- what a record says of a path, without the bytes of a file; a deletion mark says that nothing is there
+-- the node that a record says, without the bytes of a file; a deletion mark says none
+abbrev pub node_in : Record → Option Node
+node_in (File file) = Some (N.File (record { attr = file.attr; group = file.group; size = file.size }))
+node_in (Dir dir) = Some (N.Dir dir)
+node_in (Link link) = Some (N.Link link)
+node_in Deleted = None
+
+-- what is said of a path
 abbrev pub node_told : Option Record → Judged Node
 node_told None = Err NoPath
-node_told (Some (File file)) = Ok (N.File (record { attr = file.attr; group = file.group; size = file.size }))
-node_told (Some (Dir dir)) = Ok (N.Dir dir)
-node_told (Some (Link link)) = Ok (N.Link link)
-node_told (Some Deleted) = Err NoPath
+node_told (Some stored) = found NoPath (node_in stored)
 
 -- the content of a file, None if it has no bytes
 abbrev pub content_told : Option Record → Judged (Option PoolId)
@@ -49,6 +59,35 @@ content_told (Some (File file)) = Ok file.content
 content_told (Some (Dir dir)) = Err NotAFile
 content_told (Some (Link link)) = Err NotAFile
 content_told (Some Deleted) = Err NoPath
+
+-- the rule that listing a path breaks
+abbrev pub directory_told : Option Record → Option BrokenRule
+directory_told None = Some NoPath
+directory_told (Some (File file)) = Some NotADirectory
+directory_told (Some (Dir dir)) = None
+directory_told (Some (Link link)) = Some NotADirectory
+directory_told (Some Deleted) = Some NoPath
+
+-- the root is always there
+abbrev pub list_told : Rows → Option (List ℕ) → Option BrokenRule
+list_told rows None = None
+list_told rows (Some directory) = directory_told (node_at rows directory)
+
+-- the entry of a row of what lies in a directory, or in the root
+abbrev pub entry_told : Option (List ℕ) → List ℕ × Record → Option NamedNode
+entry_told directory row = option_map (λ node. record { name = name_in directory row.0; node = node }) (node_in row.1)
+
+abbrev pub pushed : {A : Type 0} → Option A → List A → List A
+pushed None xs = xs
+pushed (Some x) xs = x ∷ xs
+
+abbrev pub entries_in : Option (List ℕ) → Rows → List NamedNode
+entries_in directory [] = []
+entries_in directory (row ∷ rows) = pushed (entry_told directory row) (entries_in directory rows)
+
+-- what lies directly in a directory, or in the root
+abbrev pub entries_told : Option (List ℕ) → Rows → List NamedNode
+entries_told directory rows = entries_in directory (children directory rows)
 
 -- what was judged, or want of memory
 abbrev pub Answers : {A : Type 0} → Judged A → Result A Refusal → Type 0

@@ -8,13 +8,17 @@
 //! | Function | What it answers |
 //! |---|---|
 //! | [`lookup`] | the node at a path, without the bytes of a file |
+//! | [`list`] | what lies directly in a directory |
 //! | [`read_file`] | the bytes of the file at a path |
 #![tactic(auto)]
 
 mod content;
+mod list_event;
 mod load;
 mod lookup_event;
+mod nodes;
 mod read_file_event;
 
+pub use list_event::list;
 pub use lookup_event::lookup;
 pub use read_file_event::read_file;

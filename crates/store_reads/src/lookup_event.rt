@@ -7,30 +7,27 @@ ghost use Rattle.store_parts.specs.Runs.{Runs};
 ghost use Rattle.store_reads.specs.Shown.{node_told, Answers};
 
 use crate::load::load_backup;
+use crate::nodes::node_of;
 use attr_records::{HostName, PathName};
 use attr_tables::Record;
 use disk_trait::Disk;
-use office_model::{Answer, BrokenRule, FileNode, Node, Refusal};
+use office_model::{Answer, BrokenRule, Node, Refusal};
 use pool_name::Namer;
 use std::alloc::Global;
 use store_parts::StoreParts;
 
-/// The node that a record tells, without the bytes of a file.
-pub(crate) fn node_of(alloc: Global, found: Option<&Record>) -> Result<Node, Refusal>
+/// What is said of a path, without the bytes of a file.
+fn node_at(alloc: Global, found: Option<&Record>) -> Result<Node, Refusal>
     ensures { Answers (node_told (option_copied found.entry)) result }
 {
-    match found {
-        Some(Record::File(file)) => Ok(Node::File(FileNode {
-            attr: file.attr,
-            group: file.group,
-            size: file.size,
-        })),
-        Some(Record::Dir(dir)) => Ok(Node::Dir(*dir)),
-        Some(Record::Link(link)) => match link.copy(alloc) {
-            Ok(link) => Ok(Node::Link(link)),
-            Err(_) => Err(Refusal::Memory),
-        },
-        Some(Record::Deleted) | None => Err(Refusal::Broken(BrokenRule::NoPath)),
+    let stored = match found {
+        Some(stored) => stored,
+        None => return Err(Refusal::Broken(BrokenRule::NoPath)),
+    };
+    match node_of(alloc, stored) {
+        Ok(Some(node)) => Ok(node),
+        Ok(None) => Err(Refusal::Broken(BrokenRule::NoPath)),
+        Err(_) => Err(Refusal::Memory),
     }
 }
 
@@ -51,7 +48,7 @@ pub fn lookup<D: Disk, N: Namer>(
         Ok(()) => {}
         Err(refusal) => return Err(refusal),
     }
-    match node_of(alloc, parts.views.find(path)) {
+    match node_at(alloc, parts.views.find(path)) {
         Ok(node) => Ok(Answer::Entry(node)),
         Err(refusal) => Err(refusal),
     }

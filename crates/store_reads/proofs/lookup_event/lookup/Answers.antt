@@ -7,12 +7,12 @@ returns-in-Err g c =
     lookup_refused c.args.parts.now c.load_backup.new.parts c.args.host.now c.args.number c.args.path.now c.in-Err.ensures.reads
     c.in-Err.refusal c.in-Err.ensures.refusal c.in-Err.ensures.counted
 
-pub returns-in-Ok-node_of : goal.returns-in-Ok-node_of
-returns-in-Ok-node_of g c =
+pub returns-in-Ok-node_at : goal.returns-in-Ok-node_at
+returns-in-Ok-node_at g c =
     lookup_ok c.args.parts.now c.load_backup.new.parts c.args.host.now c.args.number c.args.path.now c.in-Ok.ensures.reads _
-    c.in-Ok.ensures.loaded _ c.find.ensures c.in-Ok-node_of.node c.in-Ok-node_of.ensures c.in-Ok.ensures.counted (not_failed _)
+    c.in-Ok.ensures.loaded _ c.find.ensures c.in-Ok-node_at.node c.in-Ok-node_at.ensures c.in-Ok.ensures.counted (not_failed _)
 
-pub returns-in-Err-node_of : goal.returns-in-Err-node_of
-returns-in-Err-node_of g c =
+pub returns-in-Err-node_at : goal.returns-in-Err-node_at
+returns-in-Err-node_at g c =
     lookup_err c.args.parts.now c.load_backup.new.parts c.args.host.now c.args.number c.args.path.now c.in-Ok.ensures.reads _
-    c.in-Ok.ensures.loaded _ c.find.ensures c.in-Err-node_of.refusal c.in-Err-node_of.ensures c.in-Ok.ensures.counted (not_failed _)
+    c.in-Ok.ensures.loaded _ c.find.ensures c.in-Err-node_at.refusal c.in-Err-node_at.ensures c.in-Ok.ensures.counted (not_failed _)
