@@ -18,6 +18,8 @@ mod load;
 mod lookup_event;
 mod nodes;
 mod read_file_event;
+#[cfg(test)]
+mod tests;
 
 pub use list_event::list;
 pub use lookup_event::lookup;
