@@ -1,0 +1,167 @@
+-- What the files of a store are found to hold.
+use Rattle.std.specs.Prelude.{is_some, option_map, ◌⊎◌}
+use Rattle.std.proofs.Common.{◌≡◌, ℕ, ◌<◌, Bool, false, true, List, Option, None, Some, refl, sym, ap, ◌∙◌, subst, inl, inr}
+use Rattle.std.proofs.lemmas.Bool.{false≢true}
+use Rattle.disk_trait.specs.declared.ids.PoolId.{PoolId}
+use Rattle.disk_trait.specs.declared.ids.FileId.{FileId}
+use Rattle.disk_trait.specs.declared.ids.FileId.TheVariants as F
+use Rattle.disk_trait.specs.declared.disk.Disk.{Ghosts as DiskGhosts}
+use Rattle.disk_trait.specs.Files.{Files}
+use Rattle.pool_name.specs.declared.namer.Namer.{Ghosts as NamerGhosts}
+use Rattle.intent_journal.specs.declared.journal.Journal.{Journal}
+use Rattle.journal_view.specs.Found.{seen}
+use Rattle.journal_view.specs.FoundLaws.{told_raw}
+use Rattle.journal_view.specs.View.{told, uncertain, Quiet}
+use Rattle.pool_index.specs.Index.{Index, TellsIn, TellsByte, TellsOne, TellsBuckets, TellsIndex}
+use Rattle.pool_changes.specs.declared.slot.Slot.{Slot}
+use Rattle.pool_changes.specs.declared.slot.Slot.TheVariants.{Live, Staged, Doomed}
+use Rattle.pool_changes.specs.Slots.{Slots, is_given, is_live}
+use Rattle.pool_changes.specs.Kept.{slots_of}
+use Rattle.pool_changes.specs.Listed.{index_of}
+use Rattle.pool_store.specs.Opened.{IsFresh, Opens}
+use Rattle.pool_store.specs.Opening.{AreFresh}
+use Rattle.pool_store.specs.Complete.{HaveFiles}
+use Rattle.ref_counts.specs.Stored.{Backup as StoredBackup}
+use Rattle.office_model.specs.Office.{Office}
+use Rattle.office_files.specs.KeptLaws.{tells_kept, listed_held}
+use Rattle.office_files.specs.OneLaws.{one_listing}
+use Rattle.office_files.specs.Stands.{Stands, StandsFor}
+use Rattle.office_catalog.specs.Known.{Known}
+use Rattle.office_catalog.specs.Held.{HoldsCatalog}
+use Rattle.office_known.specs.KnownLaws.{known_of_office, stands_catalog, one_catalog}
+use Rattle.office_pool.specs.FitLaws.{fits_stands}
+use Rattle.store_parts.specs.Held.{IsEither, IsStored}
+use Rattle.store_opening.specs.declared.found.Found.{Found}
+use Rattle.store_opening.specs.Strays.{IsStray}
+use Rattle.store_opening.specs.Recovers.{Holds, Recovers}
+use Rattle.store_opening.proofs.Strays.{never_stray}
+use Rattle.store_opening.proofs.UsedNames.{used_of, used_names}
+
+-- files of which this is seen have the same index of the pool
+at_file : (raw all : Files) → seen raw ≡ all → (file : FileId) → seen raw file ≡ all file
+at_file raw all same file = ap (λ (f : Files). f file) same
+
+-- ---- a pool of an office is opened
+
+pub pool_calm : (digest_of : List ℕ → List ℕ) (raw : Option Files) (all : Files) (office : Office) → option_map seen raw ≡ Some all
+    → StandsFor digest_of all office → ((files : Files) (index : Index) → raw ≡ Some files → TellsIndex index files → HaveFiles index files → ⊥) → ⊥
+pool_calm digest_of raw all office is stands never =
+    let w = told_raw raw all is in
+    let at = at_file w.0 all w.2 in
+    never w.0 stands.index w.1
+    (tells_kept all w.0 (at F.PoolIndex) (λ byte. at (F.PoolBucket byte)) stands.index stands.stands.index_told)
+    (λ id listed. ap is_some (at (F.Pool id) ∙ listed_held stands.index all stands.stands.one id listed))
+
+tells_seen : (in_one_file : Bool) (index : Index) (raw all : Files) → seen raw ≡ all → TellsIn in_one_file index raw → TellsIn in_one_file index all
+tells_seen true index raw all same tells =
+    let at = at_file raw all same in
+    record {
+      items = tells.items;
+      are = tells.are;
+      is = sym (at F.PoolIndex) ∙ tells.is;
+      each = tells.each;
+      none = λ byte within. sym (at (F.PoolBucket byte)) ∙ tells.none byte within;
+    }
+tells_seen false index raw all same tells =
+    let at = at_file raw all same in
+    record {
+      none = sym (at F.PoolIndex) ∙ tells.none;
+      each = λ byte within.
+          let t = tells.each byte within in
+          record { items = t.items; are = t.are; is = sym (at (F.PoolBucket byte)) ∙ t.is; each = t.each };
+      within = tells.within;
+    }
+
+tells_any : (in_one_file : Bool) (index : Index) (files : Files) → TellsIn in_one_file index files → TellsIndex index files
+tells_any true index files tells = inl tells
+tells_any false index files tells = inr tells
+
+fresh_live : (slot : Option Slot) → IsFresh slot → is_given slot ≡ true → is_live slot ≡ true
+fresh_live None fresh given = absurd (false≢true given)
+fresh_live (Some (Live size mark claims)) fresh given = refl
+fresh_live (Some (Staged size claims)) fresh given = absurd fresh
+fresh_live (Some Doomed) fresh given = absurd (false≢true given)
+
+-- ---- what was read is one of the two offices
+
+module _ {D N S : Type 0} {d : DiskGhosts D} {n : NamerGhosts N S} where
+  read_one : (new : Journal D d) (found : Found N S n) (all raw : Files) (office : Office) → new.halted ≡ false → told new ≡ Some all
+      → seen raw ≡ all → ((file : FileId) → uncertain new file ≡ false) → Opens found.pool.in_one_file (slots_of found.pool.names) raw
+      → AreFresh (slots_of found.pool.names) → HoldsCatalog all found.catalog → StandsFor n.digest_of all office
+      → IsStored new found.pool found.catalog office (record { digest_of = n.digest_of; used = used_of found.pool.names })
+  read_one new found all raw office ready told_is same certain opens fresh holds s = record {
+    journal_ready = ready;
+    all = all;
+    backups = s.backups;
+    told_is = told_is;
+    stands = stands;
+    tells = tells;
+    fits = fits_stands n.digest_of slots s.backups all office (uncertain new) (λ id given. fresh_live (slots id) (fresh id) given)
+        (λ id live. certain (F.Pool id)) stands;
+    all_used = λ id there. opens.used id ∙ ap is_some (at_file raw all same (F.Pool id)) ∙ there;
+    used = used_names found.pool.names;
+    digest = refl;
+    catalog_is = one_catalog n.digest_of s.index s.backups all office s.stands found.catalog holds;
+  }
+    where
+      slots : Slots
+      slots = slots_of found.pool.names
+
+      tells : TellsIn found.pool.in_one_file (index_of slots) all
+      tells = tells_seen found.pool.in_one_file (index_of slots) raw all same opens.tells
+
+      index_is : s.index ≡ index_of slots
+      index_is = λ i id. one_listing s.index (index_of slots) all s.stands.index_told
+          (tells_any found.pool.in_one_file (index_of slots) all tells) id i
+
+      stands : Stands n.digest_of (index_of slots) s.backups all office
+      stands = subst (λ (index : Index). Stands n.digest_of index s.backups all office) index_is s.stands
+
+  pub recovered_by : (old new : Journal D d) (found : Found N S n) (a b : Office) → old.halted ≡ false → Quiet old new
+      → Holds n.digest_of old a b
+      → ((all : Files) → d.files old.disk ≡ Some all → Opens found.pool.in_one_file (slots_of found.pool.names) all)
+      → AreFresh (slots_of found.pool.names) → ((all : Files) → told old ≡ Some all → HoldsCatalog all found.catalog)
+      → Recovers new found a b
+  recovered_by old new found a b ready quiet holds opens fresh catalog = step holds.either
+    where
+      raw : (files : Files) × (d.files old.disk ≡ Some files) × (seen files ≡ holds.all)
+      raw = told_raw (d.files old.disk) holds.all holds.told_is
+
+      stored : (office : Office) → StandsFor n.digest_of holds.all office
+          → IsStored new found.pool found.catalog office (record { digest_of = n.digest_of; used = used_of found.pool.names })
+      stored office s =
+          read_one new found holds.all raw.0 office (quiet.halted_same ∙ ready) (quiet.told_same ∙ holds.told_is) raw.2
+          (λ file. quiet.certain.each file (holds.certain.each file refl)) (opens raw.0 raw.1) fresh (catalog holds.all holds.told_is) s
+
+      step : IsEither n.digest_of a b holds.all → Recovers new found a b
+      step (inl s) = record {
+        office = a;
+        is_one = inl refl;
+        names = record { digest_of = n.digest_of; used = used_of found.pool.names };
+        stored = stored a s;
+        fresh = fresh;
+      }
+      step (inr s) = record {
+        office = b;
+        is_one = inr refl;
+        names = record { digest_of = n.digest_of; used = used_of found.pool.names };
+        stored = stored b s;
+        fresh = fresh;
+      }
+
+-- ---- files of one of the two are never foreign
+
+module _ {D : Type 0} {d : DiskGhosts D} (digest_of : List ℕ → List ℕ) (journal : Journal D d) (a b : Office)
+    (holds : Holds digest_of journal a b) where
+  abbrev of_either : {P : Type 0} → ((office : Office) → StandsFor digest_of holds.all office → P) → P
+  of_either each = elim holds.either [ | inl s ↦ each a s | inr s ↦ each b s ]
+
+  pub pool_known : ((all : Files) (index : Index) → d.files journal.disk ≡ Some all → TellsIndex index all → HaveFiles index all → ⊥) → ⊥
+  pool_known never = of_either (λ office s. pool_calm digest_of (d.files journal.disk) holds.all office holds.told_is s never)
+
+  pub catalog_known : ((all : Files) (known : Known) → told journal ≡ Some all → HoldsCatalog all known → ⊥) → ⊥
+  catalog_known never = of_either (λ office s.
+      never holds.all (known_of_office office) holds.told_is (stands_catalog digest_of s.index s.backups holds.all office s.stands))
+
+  pub stray_known : (file : FileId) (found : Option (List ℕ)) → ((all : Files) → told journal ≡ Some all → IsStray all file found) → ⊥
+  stray_known file found stray = of_either (λ office s. never_stray digest_of holds.all office file found s (stray holds.all holds.told_is))

@@ -1,0 +1,29 @@
+use Rattle.std.proofs.Common.{inr, ◌∙◌}
+use Rattle.journal_view.specs.ViewLaws.{Quiet-then}
+use Rattle.store_opening.proofs.Recovering.{recovered_by, stray_known}
+use Rattle.store_opening.proofs.recover.recover.Goals as goal
+
+pub returns-in-Ok-refuse_strays-clause-recovers : goal.returns-in-Ok-refuse_strays-clause-recovers
+returns-in-Ok-refuse_strays-clause-recovers g c = λ a b holds.
+    recovered_by c.args.journal.now _ c.in-Ok.found a b c.requires
+    (Quiet-then c.args.journal.now c.read_parts.new.journal _ c.in-Ok.ensures.quiet c.in-Ok-refuse_strays.ensures.quiet)
+    holds c.in-Ok.ensures.opened c.in-Ok.ensures.fresh c.in-Ok.ensures.catalog
+
+pub returns-in-Ok-refuse_strays-clause-whole : goal.returns-in-Ok-refuse_strays-clause-whole
+returns-in-Ok-refuse_strays-clause-whole g c = λ all is.
+    (c.in-Ok.ensures.catalog all is, c.in-Ok-refuse_strays.ensures.none all (c.in-Ok.ensures.quiet.told_same ∙ is))
+
+pub returns-in-Ok-refuse_strays-clause-quiet : goal.returns-in-Ok-refuse_strays-clause-quiet
+returns-in-Ok-refuse_strays-clause-quiet g c = Quiet-then c.args.journal.now c.read_parts.new.journal _ c.in-Ok.ensures.quiet c.in-Ok-refuse_strays.ensures.quiet
+
+pub returns-in-Err-refuse_strays-clause-quiet : goal.returns-in-Err-refuse_strays-clause-quiet
+returns-in-Err-refuse_strays-clause-quiet g c = Quiet-then c.args.journal.now c.read_parts.new.journal _ c.in-Ok.ensures.quiet c.in-Err-refuse_strays.ensures.quiet
+
+pub returns-in-Err-refuse_strays-clause-foreign : goal.returns-in-Err-refuse_strays-clause-foreign
+returns-in-Err-refuse_strays-clause-foreign g c = λ file found e.
+    inr (inr (λ all is. c.in-Err-refuse_strays.ensures.stray file found e all (c.in-Ok.ensures.quiet.told_same ∙ is) (c.in-Ok.ensures.catalog all is)))
+
+pub returns-in-Err-refuse_strays-clause-known : goal.returns-in-Err-refuse_strays-clause-known
+returns-in-Err-refuse_strays-clause-known g c = λ a b holds file found e.
+    stray_known _ _ a b holds file found (λ all is.
+    c.in-Err-refuse_strays.ensures.stray file found e all (c.in-Ok.ensures.quiet.told_same ∙ is) (c.in-Ok.ensures.catalog all is))

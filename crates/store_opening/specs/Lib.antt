@@ -1,0 +1,3 @@
+pub mod Strays
+pub mod Recovers
+pub mod Begins

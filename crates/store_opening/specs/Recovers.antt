@@ -1,0 +1,55 @@
+-- What an opening finds in the files that a journal tells.
+--     Holds      files that stand for one of two offices, all of them durable
+--     Recovers      one of the two was found
+--     IsForeign      a file that doesn't belong to a store
+use Rattle.std.specs.Prelude.{◌≡◌, ◌⊎◌, ℕ, List, Option, Some, Result, Ok, Err}
+use Rattle.disk_trait.specs.declared.ids.FileId.{FileId}
+use Rattle.disk_trait.specs.declared.disk.Disk.{Ghosts as DiskGhosts}
+use Rattle.disk_trait.specs.Files.{Files}
+use Rattle.disk_trait.specs.Images.{nothing, IsWithin}
+use Rattle.pool_name.specs.declared.namer.Namer.{Ghosts as NamerGhosts}
+use Rattle.intent_journal.specs.declared.journal.Journal.{Journal}
+use Rattle.journal_view.specs.View.{told, uncertain, FindsOnly}
+use Rattle.pool_changes.specs.Kept.{slots_of}
+use Rattle.pool_store.specs.Opening.{AreFresh}
+use Rattle.pool_store.specs.Opened.{IsForeign as IsForeignToPool}
+use Rattle.office_catalog.specs.Held.{IsForeign as IsForeignToCatalog}
+use Rattle.office_model.specs.Office.{Office, Names}
+use Rattle.office_model.specs.Step.{IsPicked}
+use Rattle.store_parts.specs.Held.{IsEither, IsStored, MayBe}
+use Rattle.store_opening.specs.declared.found.Found.{Found}
+use Rattle.store_opening.specs.declared.fault.OpenRefusal.{OpenRefusal}
+use Rattle.store_opening.specs.declared.fault.OpenRefusal.TheVariants.{Foreign}
+use Rattle.store_opening.specs.Strays.{IsStray}
+
+-- the file doesn't belong to the pool, to the catalog, or to any
+abbrev pub IsForeign : (raw told : Option Files) → FileId → Option (List ℕ) → Type 0
+IsForeign raw told file found =
+    IsForeignToPool raw file found
+    ⊎ (IsForeignToCatalog told file found ⊎ ((all : Files) → told ≡ Some all → IsStray all file found))
+
+-- what a refusal says of the files
+abbrev pub SaysForeign : (raw told : Option Files) → OpenRefusal → Type 0
+SaysForeign raw told refusal = (file : FileId) (found : Option (List ℕ)) → refusal ≡ Foreign file found → IsForeign raw told file found
+
+module _ {D : Type 0} {d : DiskGhosts D} where
+  -- the journal tells files that stand for one of two offices, and all of them are durable
+  pub record Holds (digest_of : List ℕ → List ℕ) (journal : Journal D d) (a b : Office) : Type 0 where
+    pub all : Files
+    pub told_is : told journal ≡ Some all
+    pub either : IsEither digest_of a b all
+    pub certain : IsWithin (uncertain journal) nothing
+
+  -- a crash now leaves one of two offices, and so did one meanwhile
+  pub record Looks (digest_of : List ℕ → List ℕ) (old new : Journal D d) (a b : Office) : Type 0 where
+    pub now : MayBe digest_of new a b
+    pub crash : FindsOnly old new (IsEither digest_of a b)
+
+module _ {D N S : Type 0} {d : DiskGhosts D} {n : NamerGhosts N S} where
+  -- one of the two offices was found; nothing is staged or claimed
+  pub record Recovers (journal : Journal D d) (found : Found N S n) (a b : Office) : Type 0 where
+    pub office : Office
+    pub is_one : IsPicked a b office
+    pub names : Names
+    pub stored : IsStored journal found.pool found.catalog office names
+    pub fresh : AreFresh (slots_of found.pool.names)

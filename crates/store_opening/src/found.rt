@@ -1,0 +1,15 @@
+//! What an opening has found.
+
+ghost use Rattle.std.specs.Prelude.{⊤};
+
+use office_catalog::Catalog;
+use pool_name::Namer;
+use pool_store::Pool;
+
+/// The pool and the catalog of a store's files.
+#[derive(Drop)]
+pub struct Found<N: Namer> {
+    pub pool: Pool<N>,
+    pub catalog: Catalog,
+    ghost plain: { ⊤ },
+}

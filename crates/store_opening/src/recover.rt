@@ -1,0 +1,123 @@
+//! Finding the office that the files of a journal stand for.
+
+ghost use Rattle.std.specs.Prelude.{◌≡◌, true, false, List, ℕ, Option, Some, IfOk, IfErr, OnOk, Err, IsErrOf};
+ghost use Rattle.fault_counts.specs.Counts.{Counted};
+ghost use Rattle.disk_trait.specs.declared.ids.FileId.{FileId as File};
+ghost use Rattle.disk_trait.specs.Files.{Files};
+ghost use Rattle.journal_view.specs.View.{told, Quiet};
+ghost use Rattle.pool_index.specs.Index.{Index, TellsIndex};
+ghost use Rattle.pool_changes.specs.Kept.{slots_of};
+ghost use Rattle.pool_store.specs.Opened.{Opens, IsForeign as IsForeignToPool};
+ghost use Rattle.pool_store.specs.Opening.{AreFresh};
+ghost use Rattle.pool_store.specs.Complete.{HaveFiles};
+ghost use Rattle.office_catalog.specs.Held.{HoldsCatalog, IsForeign as IsForeignToCatalog};
+ghost use Rattle.office_catalog.specs.Known.{Known};
+ghost use Rattle.office_model.specs.Office.{Office};
+ghost use Rattle.store_opening.specs.Strays.{HasNoStray};
+ghost use Rattle.store_opening.specs.Recovers.{Holds, Recovers, SaysForeign};
+
+use crate::fault::{OpenRefusal, catalog_refusal, pool_refusal};
+use crate::found::Found;
+use crate::stray::refuse_strays;
+use disk_trait::{Disk, FileId};
+use intent_journal::Journal;
+use office_catalog::{Catalog, held_files_are_not_foreign};
+use pool_name::Namer;
+use pool_store::Pool;
+use std::alloc::Global;
+
+/// The pool of a store's files.
+fn read_pool<D: Disk, N: Namer>(
+    alloc: Global,
+    journal: &mut Journal<D>,
+    namer: N,
+) -> Result<Pool<N>, OpenRefusal>
+    requires { journal.old.halted ≡ false }
+    ensures opened { IfOk result (λ pool. (all : Files) → D.files journal.old.disk ≡ Some all → Opens pool.in_one_file (slots_of pool.names) all) }
+    ensures fresh { IfOk result (λ pool. AreFresh (slots_of pool.names)) }
+    ensures foreign { IfErr result (λ refusal. (file : File) (found : Option (List ℕ)) → refusal ≡ OpenRefusal.Foreign file found → IsForeignToPool (D.files journal.old.disk) file found) }
+    ensures complete { IfErr result (λ refusal. (all : Files) (index : Index) → D.files journal.old.disk ≡ Some all → TellsIndex index all → HaveFiles index all
+        → (file : File) (found : Option (List ℕ)) → refusal ≡ OpenRefusal.Foreign file found → ⊥) }
+    ensures kind { IfErr result (λ refusal. refusal ≡ OpenRefusal.EpochsSpent → ⊥) }
+    ensures quiet { Quiet journal.old journal.new }
+    ensures counted { Counted (D.fault_count journal.old.disk) (D.fault_count journal.new.disk) (IsErrOf result OpenRefusal.DiskFault) }
+{
+    match Pool::open(alloc, journal, namer) {
+        Ok(pool) => Ok(pool),
+        Err(fault) => Err(pool_refusal(fault)),
+    }
+}
+
+/// The catalog of a store's files.
+fn read_catalog<D: Disk>(alloc: Global, journal: &mut Journal<D>) -> Result<Catalog, OpenRefusal>
+    requires { journal.old.halted ≡ false }
+    ensures opened { IfOk result (λ catalog. (all : Files) → told journal.old ≡ Some all → HoldsCatalog all catalog) }
+    ensures foreign { IfErr result (λ refusal. (file : File) (found : Option (List ℕ)) → refusal ≡ OpenRefusal.Foreign file found → IsForeignToCatalog (told journal.old) file found) }
+    ensures complete { IfErr result (λ refusal. (all : Files) (known : Known) → told journal.old ≡ Some all → HoldsCatalog all known
+        → (file : File) (found : Option (List ℕ)) → refusal ≡ OpenRefusal.Foreign file found → ⊥) }
+    ensures kind { IfErr result (λ refusal. refusal ≡ OpenRefusal.EpochsSpent → ⊥) }
+    ensures quiet { Quiet journal.old journal.new }
+    ensures counted { Counted (D.fault_count journal.old.disk) (D.fault_count journal.new.disk) (IsErrOf result OpenRefusal.DiskFault) }
+{
+    held_files_are_not_foreign();
+    match office_catalog::open(alloc, journal) {
+        Ok(catalog) => Ok(catalog),
+        Err(fault) => Err(catalog_refusal(fault)),
+    }
+}
+
+/// The pool and the catalog of a store's files.
+fn read_parts<D: Disk, N: Namer>(
+    alloc: Global,
+    journal: &mut Journal<D>,
+    namer: N,
+) -> Result<Found<N>, OpenRefusal>
+    requires { journal.old.halted ≡ false }
+    ensures opened { IfOk result (λ found. (all : Files) → D.files journal.old.disk ≡ Some all → Opens found.pool.in_one_file (slots_of found.pool.names) all) }
+    ensures fresh { IfOk result (λ found. AreFresh (slots_of found.pool.names)) }
+    ensures catalog { IfOk result (λ found. (all : Files) → told journal.old ≡ Some all → HoldsCatalog all found.catalog) }
+    ensures foreign { IfErr result (SaysForeign (D.files journal.old.disk) (told journal.old)) }
+    ensures known { IfErr result (λ refusal. (a b : Office) → Holds N.digest_of journal.old a b
+        → (file : File) (found : Option (List ℕ)) → refusal ≡ OpenRefusal.Foreign file found → ⊥) }
+    ensures kind { IfErr result (λ refusal. refusal ≡ OpenRefusal.EpochsSpent → ⊥) }
+    ensures quiet { Quiet journal.old journal.new }
+    ensures counted { Counted (D.fault_count journal.old.disk) (D.fault_count journal.new.disk) (IsErrOf result OpenRefusal.DiskFault) }
+{
+    let pool = match read_pool(alloc, journal, namer) {
+        Ok(pool) => pool,
+        Err(refusal) => return Err(refusal),
+    };
+    match read_catalog(alloc, journal) {
+        Ok(catalog) => Ok(Found { pool, catalog }),
+        Err(refusal) => Err(refusal),
+    }
+}
+
+/// Finds the office that the files of a journal stand for. Nothing is written.
+///
+/// `Foreign` comes where a file is outside its layout, is called for and absent, or isn't called for; never where the
+/// files stand for an office.
+pub(crate) fn recover<D: Disk, N: Namer>(
+    alloc: Global,
+    journal: &mut Journal<D>,
+    namer: N,
+) -> Result<Found<N>, OpenRefusal>
+    requires { journal.old.halted ≡ false }
+    ensures recovers { IfOk result (λ found. (a b : Office) → Holds N.digest_of journal.old a b → Recovers journal.new found a b) }
+    ensures whole { IfOk result (λ found. (all : Files) → told journal.old ≡ Some all → HoldsCatalog all found.catalog × HasNoStray found.catalog all) }
+    ensures foreign { IfErr result (SaysForeign (D.files journal.old.disk) (told journal.old)) }
+    ensures known { IfErr result (λ refusal. (a b : Office) → Holds N.digest_of journal.old a b
+        → (file : File) (found : Option (List ℕ)) → refusal ≡ OpenRefusal.Foreign file found → ⊥) }
+    ensures kind { IfErr result (λ refusal. refusal ≡ OpenRefusal.EpochsSpent → ⊥) }
+    ensures quiet { Quiet journal.old journal.new }
+    ensures counted { Counted (D.fault_count journal.old.disk) (D.fault_count journal.new.disk) (IsErrOf result OpenRefusal.DiskFault) }
+{
+    let found = match read_parts(alloc, journal, namer) {
+        Ok(found) => found,
+        Err(refusal) => return Err(refusal),
+    };
+    match refuse_strays(alloc, journal, &found.catalog) {
+        Ok(()) => Ok(found),
+        Err(refusal) => Err(refusal),
+    }
+}
