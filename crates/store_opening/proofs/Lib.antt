@@ -1,3 +1,5 @@
 pub mod Strays
 pub mod UsedNames
 pub mod Recovering
+pub mod Raising
+pub mod Beginning

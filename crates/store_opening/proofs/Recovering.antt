@@ -52,25 +52,21 @@ pool_calm digest_of raw all office is stands never =
     (tells_kept all w.0 (at F.PoolIndex) (λ byte. at (F.PoolBucket byte)) stands.index stands.stands.index_told)
     (λ id listed. ap is_some (at (F.Pool id) ∙ listed_held stands.index all stands.stands.one id listed))
 
-tells_seen : (in_one_file : Bool) (index : Index) (raw all : Files) → seen raw ≡ all → TellsIn in_one_file index raw → TellsIn in_one_file index all
-tells_seen true index raw all same tells =
-    let at = at_file raw all same in
-    record {
-      items = tells.items;
-      are = tells.are;
-      is = sym (at F.PoolIndex) ∙ tells.is;
-      each = tells.each;
-      none = λ byte within. sym (at (F.PoolBucket byte)) ∙ tells.none byte within;
-    }
-tells_seen false index raw all same tells =
-    let at = at_file raw all same in
-    record {
-      none = sym (at F.PoolIndex) ∙ tells.none;
-      each = λ byte within.
-          let t = tells.each byte within in
-          record { items = t.items; are = t.are; is = sym (at (F.PoolBucket byte)) ∙ t.is; each = t.each };
-      within = tells.within;
-    }
+pub tells_same : (in_one_file : Bool) (index : Index) (files image : Files) → image F.PoolIndex ≡ files F.PoolIndex
+    → ((byte : ℕ) → image (F.PoolBucket byte) ≡ files (F.PoolBucket byte)) → TellsIn in_one_file index files → TellsIn in_one_file index image
+tells_same true index files image one each tells = record {
+  items = tells.items;
+  are = tells.are;
+  is = one ∙ tells.is;
+  each = tells.each;
+  none = λ byte within. each byte ∙ tells.none byte within;
+}
+tells_same false index files image one each tells = record {
+  none = one ∙ tells.none;
+  each = λ byte within.
+      let t = tells.each byte within in record { items = t.items; are = t.are; is = each byte ∙ t.is; each = t.each };
+  within = tells.within;
+}
 
 tells_any : (in_one_file : Bool) (index : Index) (files : Files) → TellsIn in_one_file index files → TellsIndex index files
 tells_any true index files tells = inl tells
@@ -108,7 +104,9 @@ module _ {D N S : Type 0} {d : DiskGhosts D} {n : NamerGhosts N S} where
       slots = slots_of found.pool.names
 
       tells : TellsIn found.pool.in_one_file (index_of slots) all
-      tells = tells_seen found.pool.in_one_file (index_of slots) raw all same opens.tells
+      tells =
+          let at = at_file raw all same in
+          tells_same found.pool.in_one_file (index_of slots) raw all (sym (at F.PoolIndex)) (λ byte. sym (at (F.PoolBucket byte))) opens.tells
 
       index_is : s.index ≡ index_of slots
       index_is = λ i id. one_listing s.index (index_of slots) all s.stands.index_told

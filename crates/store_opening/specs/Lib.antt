@@ -1,3 +1,4 @@
 pub mod Strays
 pub mod Recovers
 pub mod Begins
+pub mod Reopens

@@ -5,7 +5,7 @@ ghost use Rattle.disk_trait.specs.declared.ids.FileId.{FileId as File};
 ghost use Rattle.pool_store.specs.Opening.{OfOpening};
 
 use disk_trait::{Bytes, FileId};
-use intent_journal::JournalFault;
+use intent_journal::{JournalFault, OpenJournalFault};
 use office_catalog::CatalogFault;
 use pool_store::PoolFault;
 use std::alloc::AllocError;
@@ -89,5 +89,19 @@ pub(crate) fn catalog_refusal(fault: CatalogFault) -> OpenRefusal
         CatalogFault::Foreign { file, found } => OpenRefusal::Foreign { file, found },
         CatalogFault::Disk => OpenRefusal::DiskFault,
         CatalogFault::Memory => OpenRefusal::Memory,
+    }
+}
+
+/// What a fault of an opening of a journal is to that of its store.
+pub(crate) fn open_refusal(fault: OpenJournalFault) -> OpenRefusal
+    ensures foreign { (file : File) (found : Option (List ℕ)) → result ≡ OpenRefusal.Foreign file found → fault ≡ OpenJournalFault.Foreign file found }
+    ensures disk { (result ≡ OpenRefusal.DiskFault) ↔ (fault ≡ OpenJournalFault.Disk) }
+    ensures memory { (result ≡ OpenRefusal.Memory) ↔ (fault ≡ OpenJournalFault.Memory) }
+    ensures kind { result ≡ OpenRefusal.EpochsSpent → ⊥ }
+{
+    match fault {
+        OpenJournalFault::Foreign { file, found } => OpenRefusal::Foreign { file, found },
+        OpenJournalFault::Disk => OpenRefusal::DiskFault,
+        OpenJournalFault::Memory => OpenRefusal::Memory,
     }
 }

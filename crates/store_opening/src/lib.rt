@@ -7,9 +7,12 @@
 //! state it is in.
 #![tactic(auto)]
 
+mod begin;
 mod fault;
 mod found;
 mod recover;
+mod reopen;
 mod stray;
 
 pub use fault::OpenRefusal;
+pub use reopen::reopen;

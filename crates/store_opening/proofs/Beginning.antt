@@ -1,0 +1,132 @@
+-- How an opening goes, of files that stand for one of two offices.
+use Rattle.std.specs.Prelude.{is_some, ◌⊎◌}
+use Rattle.std.proofs.Common.{◌≡◌, ℕ, ◌+◌, ◌<◌, ◌≤◌, false, List, Option, Some, Result, Ok, Err, refl, sym, ap, ◌∙◌, subst, inl, inr, ⊎_elim, arith}
+use Rattle.disk_trait.specs.declared.ids.FileId.{FileId}
+use Rattle.disk_trait.specs.declared.ids.FileId.TheVariants as F
+use Rattle.disk_trait.specs.declared.disk.Disk.{Ghosts as DiskGhosts}
+use Rattle.disk_trait.specs.Files.{Files}
+use Rattle.pool_name.specs.declared.namer.Namer.{Ghosts as NamerGhosts}
+use Rattle.intent_journal.specs.declared.journal.Journal.{Journal}
+use Rattle.journal_view.specs.Found.{IsAlikeBut}
+use Rattle.journal_view.specs.View.{told, uncertain, Quiet, FindsOnly}
+use Rattle.journal_view.specs.ViewLaws.{FindsOnly-each, FindsOnly-then, FindsNow-each, working_finds, Quiet-then}
+use Rattle.pool_changes.specs.Kept.{slots_of}
+use Rattle.pool_store.specs.Opening.{AreFresh}
+use Rattle.office_model.specs.Office.{Office, Names, reopened, last_sequence}
+use Rattle.office_model.specs.Step.{IsPicked}
+use Rattle.office_files.specs.KeptLaws.{stands_kept}
+use Rattle.office_files.specs.Stands.{StandsFor}
+use Rattle.office_catalog.specs.Known.{Known}
+use Rattle.store_parts.specs.Held.{IsEither, IsStored, MayBe}
+use Rattle.store_opening.specs.declared.found.Found.{Found}
+use Rattle.store_opening.specs.declared.fault.OpenRefusal.{OpenRefusal}
+use Rattle.store_opening.specs.declared.fault.OpenRefusal.TheVariants.{Foreign, EpochsSpent, DiskFault, Memory}
+use Rattle.store_opening.specs.Recovers.{Holds, Looks, Recovers}
+use Rattle.store_opening.specs.Begins.{MayLeave, IsPlain, IsSpent, Raised, Begins}
+
+-- what stands for one of two offices, of which one was picked, stands for one of the two
+pub either_of : (digest_of : List ℕ → List ℕ) (a b office : Office) → IsPicked a b office → (found : Files)
+    → IsEither digest_of office (reopened office) found → MayLeave digest_of a b found
+either_of digest_of a b office (inl e) found (inl s) = inl (inl (subst (StandsFor digest_of found) e s))
+either_of digest_of a b office (inl e) found (inr s) = inr (inl (subst (λ (o : Office). StandsFor digest_of found (reopened o)) e s))
+either_of digest_of a b office (inr e) found (inl s) = inl (inr (subst (StandsFor digest_of found) e s))
+either_of digest_of a b office (inr e) found (inr s) = inr (inr (subst (λ (o : Office). StandsFor digest_of found (reopened o)) e s))
+
+module _ {D : Type 0} {d : DiskGhosts D} (digest_of : List ℕ → List ℕ) (old : Journal D d) (a b : Office)
+    (holds : Holds digest_of old a b) where
+  -- all is durable, so what is found stands for one of the two
+  alike_either : (new : Journal D d) → Quiet old new → (found : Files) → IsAlikeBut holds.all (uncertain new) found → IsEither digest_of a b found
+  alike_either new quiet found alike = elim holds.either [ | inl s ↦ inl (kept a s) | inr s ↦ inr (kept b s) ]
+    where
+      kept : (office : Office) → StandsFor digest_of holds.all office → StandsFor digest_of found office
+      kept office s = record {
+        index = s.index;
+        backups = s.backups;
+        stands = stands_kept digest_of s.index s.backups holds.all found office alike.metadata
+            (λ id listed. alike.contents (F.Pool id) refl (quiet.certain.each (F.Pool id) (holds.certain.each (F.Pool id) refl))) s.stands;
+      }
+
+  alike_before : (found : Files) → IsAlikeBut holds.all (uncertain old) found → IsEither digest_of a b found
+  alike_before found alike = elim holds.either [ | inl s ↦ inl (kept a s) | inr s ↦ inr (kept b s) ]
+    where
+      kept : (office : Office) → StandsFor digest_of holds.all office → StandsFor digest_of found office
+      kept office s = record {
+        index = s.index;
+        backups = s.backups;
+        stands = stands_kept digest_of s.index s.backups holds.all found office alike.metadata
+            (λ id listed. alike.contents (F.Pool id) refl (holds.certain.each (F.Pool id) refl)) s.stands;
+      }
+
+  pub may_still : (new : Journal D d) → old.halted ≡ false → Quiet old new → MayBe digest_of new a b
+  may_still new ready quiet = record {
+    each = FindsNow-each (IsAlikeBut holds.all (uncertain new)) (IsEither digest_of a b) new (alike_either new quiet)
+        (working_finds new holds.all (quiet.halted_same ∙ ready) (quiet.told_same ∙ holds.told_is));
+    tells = ap is_some (quiet.told_same ∙ holds.told_is);
+  }
+
+  pub crash_still : (new : Journal D d) → Quiet old new → FindsOnly old new (MayLeave digest_of a b)
+  crash_still new quiet =
+      FindsOnly-each (IsAlikeBut holds.all (uncertain old)) (MayLeave digest_of a b) old new (λ found alike. inl (alike_before found alike))
+      (quiet.crash holds.all holds.told_is)
+
+module _ {D N S : Type 0} {d : DiskGhosts D} (n : NamerGhosts N S) (old : Journal D d) (a b : Office) (holds : Holds n.digest_of old a b)
+    (ready : old.halted ≡ false) where
+  -- nothing was found
+  pub begins_not : (new : Journal D d) (refusal : OpenRefusal)
+      → ((file : FileId) (found : Option (List ℕ)) → refusal ≡ Foreign file found → ⊥) → (refusal ≡ EpochsSpent → ⊥) → Quiet old new
+      → Begins {n = n} a b (Err refusal) new
+  begins_not new (Foreign file found) known spent quiet = absurd (known file found refl)
+  begins_not new EpochsSpent known spent quiet = absurd (spent refl)
+  begins_not new DiskFault known spent quiet = inl (may_still n.digest_of old a b holds new ready quiet)
+  begins_not new Memory known spent quiet = may_still n.digest_of old a b holds new ready quiet
+
+  module _ (mid : Journal D d) (found : Found N S n) (recovers : Recovers mid found a b) (quiet : Quiet old mid) where
+    epoch_is : found.catalog.epoch ≡ recovers.office.epoch
+    epoch_is = ap (λ (k : Known). k.epoch) recovers.stored.catalog_is
+
+    pub begins_spent : (epoch : ℕ) → epoch ≡ found.catalog.epoch → last_sequence ≤ epoch → IsSpent n.digest_of a b mid
+    begins_spent epoch read last = record {
+      office = recovers.office;
+      is_one = recovers.is_one;
+      last = subst (λ (e : ℕ). last_sequence ≤ e) (read ∙ epoch_is) last;
+      now = may_still n.digest_of old a b holds mid ready quiet;
+    }
+
+    pub begins_raised : (new : Journal D d) (raised : Found N S n) (epoch : ℕ) → epoch ≡ found.catalog.epoch → epoch < last_sequence
+        → raised.pool ≡ found.pool
+        → ((office : Office) (names : Names) → IsStored mid found.pool found.catalog office names
+        → IsStored new raised.pool raised.catalog (reopened office) names)
+        → Raised new raised a b
+    begins_raised new raised epoch read room same stored = record {
+      office = recovers.office;
+      is_one = recovers.is_one;
+      room = subst (λ (e : ℕ). e < last_sequence) (read ∙ epoch_is) room;
+      names = recovers.names;
+      stored = stored recovers.office recovers.names recovers.stored;
+      fresh = subst (λ p. AreFresh (slots_of p.names)) (sym same) recovers.fresh;
+    }
+
+    module _ (new : Journal D d) (looks : (office : Office) (names : Names) → IsStored mid found.pool found.catalog office names
+        → Looks n.digest_of mid new office (reopened office)) where
+      abbrev ours : Looks n.digest_of mid new recovers.office (reopened recovers.office)
+      ours = looks recovers.office recovers.names recovers.stored
+
+      pub begins_between : (refusal : OpenRefusal) → (refusal ≡ DiskFault) ⊎ (refusal ≡ Memory) → (refusal ≡ Memory → Quiet mid new)
+          → Begins {n = n} a b (Err refusal) new
+      begins_between refusal kind memory = elim kind [
+        | inl e ↦ subst (λ (r : OpenRefusal). Begins {n = n} a b (Err r) new) (sym e) (inr (recovers.office, recovers.is_one, ours.now))
+        | inr e ↦ subst (λ (r : OpenRefusal). Begins {n = n} a b (Err r) new) (sym e)
+            (may_still n.digest_of old a b holds new ready (Quiet-then old mid new quiet (memory e)))
+      ]
+
+      pub begins_crash : FindsOnly old new (MayLeave n.digest_of a b)
+      begins_crash =
+          FindsOnly-then (MayLeave n.digest_of a b) old mid new (crash_still n.digest_of old a b holds mid quiet)
+          (FindsOnly-each (IsEither n.digest_of recovers.office (reopened recovers.office)) (MayLeave n.digest_of a b) mid new
+          (either_of n.digest_of a b recovers.office recovers.is_one) ours.crash)
+
+-- a fault of a commit that isn't plain, or that wrote nothing
+pub plain_quiet : {D : Type 0} {d : DiskGhosts D} (old mid new : Journal D d) (refusal : OpenRefusal) → (refusal ≡ DiskFault) ⊎ (refusal ≡ Memory)
+    → Quiet old mid → (refusal ≡ Memory → Quiet mid new) → IsPlain refusal → Quiet old new
+plain_quiet old mid new refusal (inl e) quiet memory plain = absurd (subst IsPlain e plain)
+plain_quiet old mid new refusal (inr e) quiet memory plain = Quiet-then old mid new quiet (memory e)

@@ -1,0 +1,43 @@
+use Rattle.std.proofs.Common.{Err, ap, ◌∙◌}
+use Rattle.intent_journal.specs.declared.fault.JournalFault.{JournalFault}
+use Rattle.store_opening.proofs.Beginning.{crash_still, begins_not, begins_spent, begins_raised, begins_between, begins_crash}
+use Rattle.store_opening.proofs.begin.begin.Goals as goal
+
+pub returns-in-Err-clause-begins : goal.returns-in-Err-clause-begins
+returns-in-Err-clause-begins g c = λ a b holds.
+    begins_not g.N.Namer c.args.journal.now a b holds c.requires _ c.in-Err.refusal (c.in-Err.ensures.known a b holds) c.in-Err.ensures.kind
+    c.in-Err.ensures.quiet
+
+pub returns-in-Err-clause-crash : goal.returns-in-Err-clause-crash
+returns-in-Err-clause-crash g c = λ a b holds. crash_still _ c.args.journal.now a b holds _ c.in-Err.ensures.quiet
+
+pub returns-then-epoch-ge18446744073709551615-clause-begins : goal.returns-then-epoch-ge18446744073709551615-clause-begins
+returns-then-epoch-ge18446744073709551615-clause-begins g c = λ a b holds.
+    begins_spent g.N.Namer c.args.journal.now a b holds c.requires c.recover.new.journal c.in-Ok.found (c.in-Ok.ensures.recovers a b holds)
+    c.in-Ok.ensures.quiet c.epoch.result c.epoch.ensures c.if-epoch-ge18446744073709551615.true
+
+pub returns-then-epoch-ge18446744073709551615-clause-crash : goal.returns-then-epoch-ge18446744073709551615-clause-crash
+returns-then-epoch-ge18446744073709551615-clause-crash g c = λ a b holds.
+    crash_still _ c.args.journal.now a b holds c.recover.new.journal c.in-Ok.ensures.quiet
+
+pub returns-in-Ok-raise-clause-begins : goal.returns-in-Ok-raise-clause-begins
+returns-in-Ok-raise-clause-begins g c = λ a b holds.
+    begins_raised g.N.Namer c.args.journal.now a b holds c.requires c.recover.new.journal c.in-Ok.found (c.in-Ok.ensures.recovers a b holds)
+    c.in-Ok.ensures.quiet c.raise.new.journal c.raise.new.found c.epoch.result c.epoch.ensures c.if-epoch-ge18446744073709551615.false
+    c.raise.ensures.pool c.in-Ok-raise.ensures.ok
+
+pub returns-in-Ok-raise-clause-crash : goal.returns-in-Ok-raise-clause-crash
+returns-in-Ok-raise-clause-crash g c = λ a b holds.
+    begins_crash g.N.Namer c.args.journal.now a b holds c.requires c.recover.new.journal c.in-Ok.found (c.in-Ok.ensures.recovers a b holds)
+    c.in-Ok.ensures.quiet c.raise.new.journal c.raise.ensures.looks
+
+pub returns-in-Err-raise-clause-begins : goal.returns-in-Err-raise-clause-begins
+returns-in-Err-raise-clause-begins g c = λ a b holds.
+    begins_between g.N.Namer c.args.journal.now a b holds c.requires c.recover.new.journal c.in-Ok.found (c.in-Ok.ensures.recovers a b holds)
+    c.in-Ok.ensures.quiet c.raise.new.journal c.raise.ensures.looks c.refusal_of.result c.refusal_of.ensures.kind
+    (λ e. c.raise.ensures.memory (c.in-Err-raise.is ∙ ap (λ (f : JournalFault). Err f) (c.refusal_of.ensures.memory.0 e)))
+
+pub returns-in-Err-raise-clause-crash : goal.returns-in-Err-raise-clause-crash
+returns-in-Err-raise-clause-crash g c = λ a b holds.
+    begins_crash g.N.Namer c.args.journal.now a b holds c.requires c.recover.new.journal c.in-Ok.found (c.in-Ok.ensures.recovers a b holds)
+    c.in-Ok.ensures.quiet c.raise.new.journal c.raise.ensures.looks

@@ -1,0 +1,100 @@
+-- What a reopening of a store does, whatever state it is in.
+--     IsOfFound parts found      the parts are what was found, with nothing open
+--     Goes      how it went, of a store that a crash would have left with one of two offices
+--     Reopens      it went so, and a refusal changed nothing but what is said here
+--     first_of, second_of      the two offices of a state, of which a crash leaves one
+use Rattle.std.specs.Prelude.{◌≡◌, ◌<◌, ◌+◌, ◌||◌, ℕ, Bool, true, false, List, [], Option, None, Result, Ok, Err, is_some}
+use Rattle.fault_counts.specs.Counts.{Counted}
+use Rattle.disk_trait.specs.declared.disk.Disk.{Ghosts as DiskGhosts}
+use Rattle.pool_name.specs.declared.namer.Namer.{Ghosts as NamerGhosts}
+use Rattle.intent_journal.specs.declared.journal.Journal.{Journal}
+use Rattle.journal_view.specs.View.{told, Quiet, FindsOnly}
+use Rattle.office_model.specs.declared.answer.Answer.{Answer}
+use Rattle.office_model.specs.declared.answer.Answer.TheVariants.{Reopened as ReopenedAnswer}
+use Rattle.office_model.specs.declared.refusal.BrokenRule.TheVariants.{NumbersSpent}
+use Rattle.office_model.specs.declared.refusal.Refusal.{Refusal}
+use Rattle.office_model.specs.declared.refusal.Refusal.TheVariants.{Broken, Halted as HaltedReply, DiskFault, Damaged, Memory}
+use Rattle.office_model.specs.Meaning.{Reply}
+use Rattle.office_model.specs.Office.{Office, Names, durable, reopened, last_sequence}
+use Rattle.office_model.specs.Step.{State, Running, Halted, IsPicked}
+use Rattle.store_parts.specs.declared.parts.StoreParts.{StoreParts}
+use Rattle.store_parts.specs.Held.{MayBe}
+use Rattle.store_parts.specs.States.{IsRunning}
+use Rattle.store_opening.specs.declared.fault.OpenRefusal.{OpenRefusal}
+use Rattle.store_opening.specs.declared.fault.OpenRefusal.TheVariants as O
+use Rattle.store_opening.specs.declared.found.Found.{Found}
+use Rattle.store_opening.specs.Begins.{MayLeave, IsSpent, IsBetween}
+
+-- what a store answers to a reopening that was refused
+abbrev pub reply_of : OpenRefusal → Refusal
+reply_of (O.Foreign file found) = Damaged file found
+reply_of O.EpochsSpent = Broken NumbersSpent
+reply_of O.DiskFault = DiskFault
+reply_of O.Memory = Memory
+
+-- whether a refusal leaves the store halted, though it was at work
+abbrev pub halts : OpenRefusal → Bool
+halts (O.Foreign file found) = true
+halts O.EpochsSpent = false
+halts O.DiskFault = true
+halts O.Memory = false
+
+-- refused by a rule or for want of memory
+abbrev pub IsPlainReply : Reply → Type 0
+IsPlainReply (Ok answer) = ⊥
+IsPlainReply (Err (Broken rule)) = Unit {0}
+IsPlainReply (Err HaltedReply) = ⊥
+IsPlainReply (Err DiskFault) = ⊥
+IsPlainReply (Err (Damaged file found)) = ⊥
+IsPlainReply (Err Memory) = Unit {0}
+
+-- the two offices of which a crash now leaves one
+abbrev pub first_of : State → Office
+first_of (Running office names) = durable office
+first_of (Halted a b names) = a
+
+abbrev pub second_of : State → Office
+second_of (Running office names) = durable office
+second_of (Halted a b names) = b
+
+module _ {D N S : Type 0} {d : DiskGhosts D} {n : NamerGhosts N S} where
+  -- the parts with another journal, halted or not
+  abbrev pub with_journal : StoreParts D N S d n → Journal D d → Bool → StoreParts D N S d n
+  with_journal parts journal halted = record parts { journal = journal; halted = halted }
+
+  -- the parts are at work on what was found, and nothing is open
+  pub record IsOfFound (parts : StoreParts D N S d n) (found : Found N S n) : Type 0 where
+    pub ready : parts.halted ≡ false
+    pub pool_is : parts.pool ≡ found.pool
+    pub catalog_is : parts.catalog ≡ found.catalog
+    pub no_dumps : parts.sessions.dumps.items ≡ []
+    pub no_restores : parts.sessions.restores.items ≡ []
+    pub first : parts.sessions.sequence ≡ 0
+    pub no_view : parts.views.kept ≡ None
+
+  -- one of the two offices is at work in its next epoch
+  pub record Reopened (a b : Office) (answer : Answer) (new : StoreParts D N S d n) : Type 0 where
+    pub office : Office
+    pub is_one : IsPicked a b office
+    pub room : office.epoch < last_sequence
+    pub answer_is : answer ≡ ReopenedAnswer (office.epoch + 1)
+    pub names : Names
+    pub running : IsRunning new (reopened office) names
+
+  abbrev pub Goes : Office → Office → Reply → StoreParts D N S d n → Type 0
+  Goes a b (Ok answer) new = Reopened a b answer new
+  Goes a b (Err (Broken rule)) new = (rule ≡ NumbersSpent) × IsSpent n.digest_of a b new.journal
+  Goes a b (Err HaltedReply) new = ⊥
+  Goes a b (Err DiskFault) new = (new.halted ≡ true) × IsBetween n.digest_of a b new.journal
+  Goes a b (Err (Damaged file found)) new = ⊥
+  Goes a b (Err Memory) new = MayBe n.digest_of new.journal a b
+
+  -- The store reopened. It had one of two offices; a plain refusal leaves it as it was, and any refusal leaves all but the
+  -- journal and whether it is halted.
+  pub record Reopens (old : StoreParts D N S d n) (reply : Reply) (new : StoreParts D N S d n) : Type 0 where
+    pub goes : (a b : Office) → MayBe n.digest_of old.journal a b → Goes a b reply new
+    pub crash : (a b : Office) → MayBe n.digest_of old.journal a b → FindsOnly old.journal new.journal (MayLeave n.digest_of a b)
+    pub stays : (refusal : Refusal) → reply ≡ Err refusal → new ≡ with_journal old new.journal new.halted
+    pub halted_same : IsPlainReply reply → new.halted ≡ old.halted
+    pub quiet : IsPlainReply reply → old.journal.halted ≡ false → is_some (told old.journal) ≡ true → Quiet old.journal new.journal
+    pub counted : Counted (d.fault_count old.journal.disk) (d.fault_count new.journal.disk) (reply ≡ Err DiskFault)

@@ -1,0 +1,79 @@
+//! Making the office that was found durable in its next epoch.
+
+ghost use Rattle.std.specs.Prelude.{◌≡◌, ◌<◌, false, List, ℕ, Option, IfOk, IfErr, OnOk, Err, IsErrOf};
+ghost use Rattle.fault_counts.specs.Counts.{Counted};
+ghost use Rattle.journal_view.specs.View.{told, Quiet, FindsOnly};
+ghost use Rattle.office_model.specs.Office.{Office, Names, reopened};
+ghost use Rattle.store_parts.specs.Held.{IsStored};
+ghost use Rattle.store_opening.specs.Recovers.{Holds, Looks, SaysForeign};
+ghost use Rattle.store_opening.specs.Begins.{MayLeave, IsPlain, Begins};
+
+use crate::fault::{OpenRefusal, refusal_of};
+use crate::found::Found;
+use crate::recover::recover;
+use disk_trait::Disk;
+use intent_journal::{Journal, JournalFault};
+use pool_name::Namer;
+use std::alloc::{AllocError, Global};
+
+/// Makes durable that the office is in its next epoch.
+///
+/// After Ok what was found is of that epoch. After `Memory` nothing was written; after `Disk` the disk has the office as it
+/// was, or in its next epoch.
+fn raise<D: Disk, N: Namer>(
+    alloc: Global,
+    journal: &mut Journal<D>,
+    found: &mut Found<N>,
+) -> Result<(), JournalFault>
+    requires ready { journal.old.halted ≡ false }
+    requires room { found.old.catalog.epoch < 18446744073709551615 }
+    ensures ok { OnOk result ((office : Office) (names : Names) → IsStored journal.old found.old.pool found.old.catalog office names
+        → IsStored journal.new found.new.pool found.new.catalog (reopened office) names) }
+    ensures pool { found.new.pool ≡ found.old.pool }
+    ensures looks { (office : Office) (names : Names) → IsStored journal.old found.old.pool found.old.catalog office names
+        → Looks N.digest_of journal.old journal.new office (reopened office) }
+    ensures memory { result ≡ Err JournalFault.Memory → Quiet journal.old journal.new }
+    ensures running { result ≡ Err JournalFault.Halted → ⊥ }
+    ensures counted { Counted (D.fault_count journal.old.disk) (D.fault_count journal.new.disk) (result ≡ Err JournalFault.Disk) }
+{
+    let change = match found.catalog.propose_epoch(alloc) {
+        Ok(change) => change,
+        Err(AllocError) => return Err(JournalFault::Memory),
+    };
+    match journal_view::commit(journal, alloc, change.changes()) {
+        Ok(()) => {
+            found.catalog.accept(change);
+            Ok(())
+        }
+        Err(fault) => Err(fault),
+    }
+}
+
+/// Makes the office that the files of a journal stand for durable in its next epoch.
+///
+/// After `Foreign`, `EpochsSpent` and `Memory` nothing was written; after `DiskFault` the disk has the office as it was, or
+/// in its next epoch.
+pub(crate) fn begin<D: Disk, N: Namer>(
+    alloc: Global,
+    journal: &mut Journal<D>,
+    namer: N,
+) -> Result<Found<N>, OpenRefusal>
+    requires { journal.old.halted ≡ false }
+    ensures begins { (a b : Office) → Holds N.digest_of journal.old a b → Begins a b result journal.new }
+    ensures crash { (a b : Office) → Holds N.digest_of journal.old a b → FindsOnly journal.old journal.new (MayLeave N.digest_of a b) }
+    ensures quiet { IfErr result (λ refusal. IsPlain refusal → Quiet journal.old journal.new) }
+    ensures foreign { IfErr result (SaysForeign (D.files journal.old.disk) (told journal.old)) }
+    ensures counted { Counted (D.fault_count journal.old.disk) (D.fault_count journal.new.disk) (IsErrOf result OpenRefusal.DiskFault) }
+{
+    let mut found = match recover(alloc, journal, namer) {
+        Ok(found) => found,
+        Err(refusal) => return Err(refusal),
+    };
+    if found.catalog.epoch() >= u64::MAX {
+        return Err(OpenRefusal::EpochsSpent);
+    }
+    match raise(alloc, journal, &mut found) {
+        Ok(()) => Ok(found),
+        Err(fault) => Err(refusal_of(fault)),
+    }
+}
