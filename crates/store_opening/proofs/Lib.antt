@@ -3,3 +3,5 @@ pub mod UsedNames
 pub mod Recovering
 pub mod Raising
 pub mod Beginning
+pub mod Reopening
+pub mod Running

@@ -7,12 +7,13 @@
 //! state it is in.
 #![tactic(auto)]
 
+mod again;
 mod begin;
 mod fault;
 mod found;
 mod recover;
-mod reopen;
+
 mod stray;
 
 pub use fault::OpenRefusal;
-pub use reopen::reopen;
+pub use again::reopen;

@@ -1,6 +1,6 @@
 //! Opening a store again.
 
-ghost use Rattle.std.specs.Prelude.{◌≡◌, ◌↔◌, true, false, List, ℕ, Option, is_some, IfErr, Err, IsErrOf};
+ghost use Rattle.std.specs.Prelude.{◌≡◌, ◌||◌, true, false, List, ℕ, Option, is_some, IfErr, Err, IsErrOf};
 ghost use Rattle.fault_counts.specs.Counts.{Counted};
 ghost use Rattle.disk_trait.specs.declared.ids.FileId.{FileId as File};
 ghost use Rattle.journal_view.specs.View.{told, Quiet, FindsOnly};
@@ -70,6 +70,13 @@ fn halts(refusal: &OpenRefusal) -> bool
     }
 }
 
+/// Whether a store is halted after a refusal, that was halted or not before.
+fn is_halted_after(was: bool, refusal: &OpenRefusal) -> bool
+    ensures { result ≡ (was || halts refusal.now) }
+{
+    was || halts(refusal)
+}
+
 /// Makes what was found the parts of a store, with nothing open; the journal stays.
 fn take_over<D: Disk, N: Namer>(parts: &mut StoreParts<D, N>, alloc: Global, found: Found<N>)
     ensures is { IsOfFound parts.new found }
@@ -86,6 +93,27 @@ fn take_over<D: Disk, N: Namer>(parts: &mut StoreParts<D, N>, alloc: Global, fou
     parts.halted = false;
 }
 
+/// Opens a store again, as `reopen` does.
+fn reopen_parts<D: Disk, N: Namer>(
+    parts: &mut StoreParts<D, N>,
+    alloc: Global,
+    namer: N,
+) -> Result<Answer, Refusal>
+    ensures { Reopens parts.old result parts.new }
+{
+    match begin_again(alloc, &mut parts.journal, namer) {
+        Ok(found) => {
+            let epoch = found.catalog.epoch();
+            take_over(parts, alloc, found);
+            Ok(Answer::Reopened(epoch))
+        }
+        Err(refusal) => {
+            parts.halted = is_halted_after(parts.halted, &refusal);
+            Err(reply_of(refusal))
+        }
+    }
+}
+
 /// Opens a store again, whether it is at work or halted.
 ///
 /// After Ok it is at work in the next epoch, with the office that was durable, or of a halted one the one of its two that
@@ -99,17 +127,8 @@ pub fn reopen<D: Disk, N: Namer>(
 ) -> Result<Answer, Refusal>
     ensures reopens { Reopens parts.old result parts.new }
     ensures steps { (state : State) → InState parts.old state → Steps state Reopen result parts.new }
-    ensures crash { (state : State) → InState parts.old state → FindsOnly parts.old.journal parts.new.journal (MayLeave N.digest_of (first_of state) (second_of state)) }
+    ensures crash { (state : State) → InState parts.old state
+        → FindsOnly parts.old.journal parts.new.journal (MayLeave N.digest_of (first_of state) (second_of state)) }
 {
-    match begin_again(alloc, &mut parts.journal, namer) {
-        Ok(found) => {
-            let epoch = found.catalog.epoch();
-            take_over(parts, alloc, found);
-            Ok(Answer::Reopened(epoch))
-        }
-        Err(refusal) => {
-            parts.halted = parts.halted || halts(&refusal);
-            Err(reply_of(refusal))
-        }
-    }
+    reopen_parts(parts, alloc, namer)
 }

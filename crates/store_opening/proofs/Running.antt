@@ -1,0 +1,372 @@
+-- A store that was opened again, and the step of the model that it took.
+use Rattle.std.specs.Prelude.{IsErrOf, is_some, nat_le, ◌||◌, ◌⊎◌}
+use Rattle.std.proofs.Common.{◌≡◌, ℕ, ◌+◌, ◌<◌, ◌≤◌, Bool, false, true, List, [], Option, None, Some, Result, Ok, Err, refl, sym, ap, ◌∙◌, subst, inl, inr, arith}
+use Rattle.std.proofs.lemmas.Bool.Decides.{nat_tests}
+use Rattle.fault_counts.specs.Counts.{Counted}
+use Rattle.disk_trait.specs.declared.ids.PoolId.{PoolId}
+use Rattle.disk_trait.specs.declared.ids.FileId.TheVariants as F
+use Rattle.disk_trait.specs.declared.disk.Disk.{Ghosts as DiskGhosts}
+use Rattle.pool_name.specs.declared.namer.Namer.{Ghosts as NamerGhosts}
+use Rattle.intent_journal.specs.declared.journal.Journal.{Journal}
+use Rattle.journal_view.specs.View.{told, uncertain, Quiet, FindsOnly}
+use Rattle.pool_changes.specs.declared.slot.Slot.{Slot}
+use Rattle.pool_changes.specs.declared.slot.Slot.TheVariants.{Live, Staged, Doomed}
+use Rattle.pool_changes.specs.Slots.{Slots, claims_of}
+use Rattle.pool_changes.specs.Kept.{slots_of}
+use Rattle.pool_store.specs.declared.pool.Pool.{Pool}
+use Rattle.pool_store.specs.Opened.{IsFresh}
+use Rattle.pool_store.specs.Opening.{AreFresh}
+use Rattle.backup_views.specs.declared.kept.KeptView.{KeptView}
+use Rattle.ref_counts.specs.Stored.{Backup as StoredBackup}
+use Rattle.open_sessions.specs.declared.sessions.Sessions.{Sessions}
+use Rattle.open_sessions.specs.Opened.{AreSessions, IsDump, IsRestore, claims_in, claims_in_dumps, claims_in_restores}
+use Rattle.office_catalog.specs.Known.{Known}
+use Rattle.office_files.specs.Pairs.{AtEachPair, no_pairs}
+use Rattle.office_files.specs.Pooled.{contents_of}
+use Rattle.office_model.specs.declared.answer.Answer.{Answer}
+use Rattle.office_model.specs.declared.answer.Answer.TheVariants.{Reopened as ReopenedAnswer}
+use Rattle.office_model.specs.declared.event.Event.TheVariants.{Reopen}
+use Rattle.office_model.specs.declared.refusal.BrokenRule.{BrokenRule}
+use Rattle.office_model.specs.declared.refusal.BrokenRule.TheVariants.{NumbersSpent}
+use Rattle.office_model.specs.declared.refusal.Refusal.{Refusal}
+use Rattle.office_model.specs.declared.refusal.Refusal.TheVariants.{Broken, Halted as HaltedReply, DiskFault, Damaged, Memory}
+use Rattle.office_model.specs.Office.{Office, Host, Names, durable, reopened, last_sequence}
+use Rattle.office_model.specs.Meaning.{Carried, Judged, Reply}
+use Rattle.office_model.specs.Step.{State, Running, Halted, IsPicked, IsLeft}
+use Rattle.office_model.specs.events.Reopen.{carried}
+use Rattle.store_parts.specs.declared.parts.StoreParts.{StoreParts}
+use Rattle.store_parts.specs.Held.{AreUsed, given, IsStored, IsKeptView, MayBe}
+use Rattle.store_parts.specs.States.{slots, IsRunning, IsHalted, InState}
+use Rattle.store_parts.specs.Runs.{Steps}
+use Rattle.store_opening.specs.declared.found.Found.{Found}
+use Rattle.store_opening.specs.declared.fault.OpenRefusal.{OpenRefusal}
+use Rattle.store_opening.specs.declared.fault.OpenRefusal.TheVariants as O
+use Rattle.store_opening.specs.Begins.{MayLeave, IsPlain, IsSpent, IsBetween, Raised, Begins}
+use Rattle.store_opening.specs.Reopens.{reply_of, halts, IsPlainReply, first_of, second_of, with_journal, IsOfFound, Reopened, Goes, Reopens}
+use Rattle.store_opening.proofs.Raising.{stored_may}
+
+-- ---- nothing is open
+
+fresh_claims : (slot : Option Slot) → IsFresh slot → claims_of slot ≡ 0
+fresh_claims None fresh = refl
+fresh_claims (Some (Live size mark claims)) fresh = fresh
+fresh_claims (Some (Staged size claims)) fresh = absurd fresh
+fresh_claims (Some Doomed) fresh = refl
+
+pairs_none : {A B : Type 0} (P : ℕ → A → B → Type 0) (ys : List B) → ys ≡ [] → AtEachPair P [] ys
+pairs_none P ys e = subst (AtEachPair P []) (sym e) (no_pairs P)
+
+no_claims : (sessions : Sessions) (id : PoolId) → sessions.dumps.items ≡ [] → sessions.restores.items ≡ [] → claims_in sessions id ≡ 0
+no_claims sessions id dumps restores = λ i. claims_in_dumps (dumps i) id + claims_in_restores (restores i) id
+
+kept_none : (kept : Option KeptView) (hosts : List Host) (backups : List (List StoredBackup)) → kept ≡ None → IsKeptView kept hosts backups
+kept_none kept hosts backups e = subst (λ (k : Option KeptView). IsKeptView k hosts backups) (sym e) tt
+
+module _ {D N S : Type 0} {d : DiskGhosts D} {n : NamerGhosts N S} where
+  -- a store of these parts is at work
+  fresh_running : (parts : StoreParts D N S d n) (found : Found N S n) (office : Office) (names : Names) → IsOfFound parts found
+      → AreFresh (slots parts) → IsStored parts.journal parts.pool parts.catalog (reopened office) names
+      → IsRunning parts (reopened office) names
+  fresh_running parts found office names is fresh stored = record {
+    working = record {
+      ready = is.ready;
+      stored = stored;
+      sessions = record {
+        dumps = pairs_none (λ i. IsDump (given (slots parts)) (contents_of stored.all)) parts.sessions.dumps.items is.no_dumps;
+        restores = pairs_none (λ i. IsRestore (given (slots parts)) (contents_of stored.all)) parts.sessions.restores.items is.no_restores;
+        sequence = is.first;
+      };
+      view = kept_none parts.views.kept office.hosts stored.backups is.no_view;
+      sound = stored.stands.sound;
+    };
+    claimed = λ id. fresh_claims (slots parts id) (fresh id) ∙ sym (no_claims parts.sessions id is.no_dumps is.no_restores);
+  }
+
+  pub raised_running : (parts : StoreParts D N S d n) (journal : Journal D d) (found : Found N S n) (a b : Office) (epoch : ℕ)
+      → Raised journal found a b → IsOfFound parts found → parts.journal ≡ journal → epoch ≡ found.catalog.epoch
+      → Reopened a b (ReopenedAnswer epoch) parts
+  raised_running parts journal found a b epoch raised is same epoch_is = record {
+    office = raised.office;
+    is_one = raised.is_one;
+    room = raised.room;
+    answer_is = ap ReopenedAnswer (epoch_is ∙ ap (λ (k : Known). k.epoch) raised.stored.catalog_is);
+    names = raised.names;
+    running = fresh_running parts found raised.office raised.names is
+        (subst (λ (p : Pool N S n). AreFresh (slots_of p.names)) (sym is.pool_is) raised.fresh) stored;
+  }
+    where
+      stored : IsStored parts.journal parts.pool parts.catalog (reopened raised.office) raised.names
+      stored =
+          subst (λ (j : Journal D d). IsStored j parts.pool parts.catalog (reopened raised.office) raised.names) (sym same)
+          (subst (λ (p : Pool N S n). IsStored journal p parts.catalog (reopened raised.office) raised.names) (sym is.pool_is)
+          (subst (λ (k : Known). IsStored journal found.pool k (reopened raised.office) raised.names) (sym is.catalog_is) raised.stored))
+
+  -- ---- how it goes
+
+  pub goes_refused : (new : StoreParts D N S d n) (a b : Office) (refusal : OpenRefusal) → (halts refusal ≡ true → new.halted ≡ true)
+      → Begins {n = n} a b (Err refusal) new.journal → Goes a b (Err (reply_of refusal)) new
+  goes_refused new a b (O.Foreign file found) halted begins = begins
+  goes_refused new a b O.EpochsSpent halted begins = (refl, begins)
+  goes_refused new a b O.DiskFault halted begins = (halted refl, begins)
+  goes_refused new a b O.Memory halted begins = begins
+
+plain_of : (refusal : OpenRefusal) → IsPlainReply (Err (reply_of refusal)) → IsPlain refusal
+plain_of (O.Foreign file found) plain = absurd plain
+plain_of O.EpochsSpent plain = tt
+plain_of O.DiskFault plain = absurd plain
+plain_of O.Memory plain = tt
+
+calm_of : (refusal : OpenRefusal) → IsPlainReply (Err (reply_of refusal)) → halts refusal ≡ false
+calm_of (O.Foreign file found) plain = absurd plain
+calm_of O.EpochsSpent plain = refl
+calm_of O.DiskFault plain = absurd plain
+calm_of O.Memory plain = refl
+
+abbrev refused : Refusal → Reply
+refused refusal = Err refusal
+
+abbrev answered : Answer → Reply
+answered answer = Ok answer
+
+fault_to : (refusal : OpenRefusal) → refusal ≡ O.DiskFault → refused (reply_of refusal) ≡ Err DiskFault
+fault_to refusal e = ap (λ (r : OpenRefusal). refused (reply_of r)) e
+
+fault_back : (refusal : OpenRefusal) → refused (reply_of refusal) ≡ Err DiskFault → refusal ≡ O.DiskFault
+fault_back (O.Foreign file found) e = absurd cc
+fault_back O.EpochsSpent e = absurd cc
+fault_back O.DiskFault e = refl
+fault_back O.Memory e = absurd cc
+
+counted_as : (before now : ℕ) (P Q : Type 0) → (P → Q) → (Q → P) → Counted before now P → Counted before now Q
+counted_as before now P Q to back counted =
+    record { later = counted.later; rose = λ q. counted.rose (back q); stays = λ none. counted.stays (λ p. none (to p)) }
+
+either_halts : (was now : Bool) → now ≡ true → (was || now) ≡ true
+either_halts true now e = refl
+either_halts false now e = e
+
+neither_halts : (was now : Bool) → now ≡ false → (was || now) ≡ was
+neither_halts true now e = refl
+neither_halts false now e = e
+
+module _ {D N S : Type 0} {d : DiskGhosts D} {n : NamerGhosts N S} where
+  -- ---- what a reopening promises
+
+  pub reopens_raised : (old new : StoreParts D N S d n) (journal : Journal D d) (found : Found N S n) (epoch : ℕ)
+      → ((a b : Office) → MayBe n.digest_of old.journal a b → Begins a b (Ok found) journal)
+      → ((a b : Office) → MayBe n.digest_of old.journal a b → FindsOnly old.journal journal (MayLeave n.digest_of a b))
+      → Counted (d.fault_count old.journal.disk) (d.fault_count journal.disk) (IsErrOf (Ok found) O.DiskFault)
+      → IsOfFound new found → new.journal ≡ journal → epoch ≡ found.catalog.epoch → Reopens old (Ok (ReopenedAnswer epoch)) new
+  reopens_raised old new journal found epoch begins crash counted is same epoch_is = record {
+    goes = λ a b may. raised_running new journal found a b epoch (begins a b may) is same epoch_is;
+    crash = λ a b may. subst (λ (j : Journal D d). FindsOnly old.journal j (MayLeave n.digest_of a b)) (sym same) (crash a b may);
+    stays = λ refusal e. absurd cc;
+    halted_same = λ plain. absurd plain;
+    quiet = λ plain. absurd plain;
+    counted = subst (λ (j : Journal D d). Counted (d.fault_count old.journal.disk) (d.fault_count j.disk) (answered (ReopenedAnswer epoch) ≡ Err DiskFault)) (sym same)
+        (counted_as _ _ (IsErrOf (Ok found) O.DiskFault) (answered (ReopenedAnswer epoch) ≡ Err DiskFault) (λ p. absurd cc) (λ q. absurd cc) counted);
+  }
+
+  pub reopens_refused : (old new : StoreParts D N S d n) (refusal : OpenRefusal) (reply : Refusal) → reply ≡ reply_of refusal
+      → new ≡ with_journal old new.journal new.halted → new.halted ≡ (old.halted || halts refusal)
+      → ((a b : Office) → MayBe n.digest_of old.journal a b → Begins {n = n} a b (Err refusal) new.journal)
+      → ((a b : Office) → MayBe n.digest_of old.journal a b → FindsOnly old.journal new.journal (MayLeave n.digest_of a b))
+      → (IsPlain refusal → old.journal.halted ≡ false → is_some (told old.journal) ≡ true → Quiet old.journal new.journal)
+      → Counted (d.fault_count old.journal.disk) (d.fault_count new.journal.disk) (IsErrOf {T = Found N S n} (Err refusal) O.DiskFault)
+      → Reopens old (Err reply) new
+  reopens_refused old new refusal reply reply_is stays halted begins crash quiet counted =
+      subst (λ (r : Refusal). Reopens old (Err r) new) (sym reply_is) (record {
+        goes = λ a b may. goes_refused new a b refusal (λ e. halted ∙ either_halts old.halted (halts refusal) e) (begins a b may);
+        crash = crash;
+        stays = λ r e. stays;
+        halted_same = λ plain. halted ∙ neither_halts old.halted (halts refusal) (calm_of refusal plain);
+        quiet = λ plain. quiet (plain_of refusal plain);
+        counted = counted_as _ _ (IsErrOf {T = Found N S n} (Err refusal) O.DiskFault) (refused (reply_of refusal) ≡ Err DiskFault)
+            (λ p. fault_to refusal cc) (λ q. ap (λ (r : OpenRefusal). Err r) (fault_back refusal q)) counted;
+      })
+
+-- ---- the step of the model
+
+room_is : (epoch : ℕ) → epoch < last_sequence → nat_le last_sequence epoch ≡ false
+room_is epoch room = grind (arith, nat_tests)
+
+last_is : (epoch : ℕ) → last_sequence ≤ epoch → nat_le last_sequence epoch ≡ true
+last_is epoch last = grind (arith, nat_tests)
+
+carried_at : (office : Office) → office.epoch < last_sequence
+    → carried office ≡ Ok (record { answer = ReopenedAnswer (office.epoch + 1); after = reopened office })
+carried_at office room = rw (room_is office.epoch room) refl
+
+spent_at : (office : Office) → last_sequence ≤ office.epoch → carried office ≡ Err NumbersSpent
+spent_at office last = rw (last_is office.epoch last) refl
+
+one_of : (x office : Office) → IsPicked x x office → office ≡ x
+one_of x office (inl e) = e
+one_of x office (inr e) = e
+
+module _ {D N S : Type 0} {d : DiskGhosts D} {n : NamerGhosts N S} where
+  -- files were read, or made durable
+  running_quiet : (old : StoreParts D N S d n) (journal : Journal D d) (office : Office) (names : Names) → Quiet old.journal journal
+      → IsRunning old office names → IsRunning (with_journal old journal old.halted) office names
+  running_quiet old journal office names quiet at = record {
+    working = record {
+      ready = at.ready;
+      stored = record {
+        journal_ready = quiet.halted_same ∙ at.journal_ready;
+        all = at.all;
+        backups = at.backups;
+        told_is = quiet.told_same ∙ at.told_is;
+        stands = at.stands;
+        tells = at.tells;
+        fits = record {
+          near = at.fits.near;
+          held = at.fits.held;
+          one = at.fits.one;
+          certain = λ id live. quiet.certain.each (F.Pool id) (at.fits.certain id live);
+        };
+        all_used = at.all_used;
+        used = at.used;
+        digest = at.digest;
+        catalog_is = at.catalog_is;
+      };
+      sessions = at.sessions;
+      view = at.view;
+      sound = at.sound;
+    };
+    claimed = at.claimed;
+  }
+
+  same_parts : (old new : StoreParts D N S d n) → new ≡ with_journal old new.journal new.halted → new.halted ≡ old.halted
+      → new ≡ with_journal old new.journal old.halted
+  same_parts old new stays halted = stays ∙ ap (λ (h : Bool). with_journal old new.journal h) halted
+
+  may_of : (parts : StoreParts D N S d n) (state : State) → InState parts state → MayBe n.digest_of parts.journal (first_of state) (second_of state)
+  may_of parts (Running office names) at = stored_may parts.journal parts.pool parts.catalog (durable office) names at.stored (durable office)
+  may_of parts (Halted a b names) at = at.may_be
+
+  -- refused without a fault of the disk, the parts are in the state that they were in
+  still_in : (old new : StoreParts D N S d n) (state : State) → InState old state → new ≡ with_journal old new.journal new.halted
+      → new.halted ≡ old.halted → (old.journal.halted ≡ false → is_some (told old.journal) ≡ true → Quiet old.journal new.journal)
+      → MayBe n.digest_of new.journal (first_of state) (second_of state) → InState new state
+  still_in old new (Running office names) at stays halted quiet may =
+      subst (λ (p : StoreParts D N S d n). IsRunning p office names) (sym (same_parts old new stays halted))
+      (running_quiet old new.journal office names (quiet at.journal_ready (ap is_some at.told_is)) at)
+  still_in old new (Halted a b names) at stays halted quiet may = record {
+    stuck = halted ∙ at.stuck;
+    may_be = may;
+    used = subst (λ (p : StoreParts D N S d n). AreUsed (slots p) names.used) (sym (same_parts old new stays halted)) at.used;
+    digest = at.digest;
+  }
+
+  -- a fault of the disk: the parts are halted
+  halted_in : (old new : StoreParts D N S d n) (state : State) (names : Names) (a b : Office) → InState old state
+      → AreUsed (slots old) names.used → names.digest_of ≡ n.digest_of → new ≡ with_journal old new.journal new.halted → new.halted ≡ true
+      → MayBe n.digest_of new.journal a b → IsHalted new a b names
+  halted_in old new state names a b at used digest stays stuck may = record {
+    stuck = stuck;
+    may_be = may;
+    used = subst (λ (p : StoreParts D N S d n). AreUsed (slots p) names.used) (sym stays) used;
+    digest = digest;
+  }
+
+  -- of a store at work
+  steps_running : (old new : StoreParts D N S d n) (reply : Reply) (office : Office) (names : Names) → Reopens old reply new
+      → IsRunning old office names → Goes (durable office) (durable office) reply new → Steps (Running office names) Reopen reply new
+  steps_running old new (Ok answer) office names reopens at r =
+      let one = one_of (durable office) r.office r.is_one in
+      let room : office.epoch < last_sequence = subst (λ (o : Office). o.epoch < last_sequence) one r.room in
+      record {
+        next = Running (reopened r.office) r.names;
+        step = (
+          carried_at office room ∙ (λ i. Ok (record { answer = answer_at i; after = reopened (one_back i) })),
+          r.running.used.distinct,
+          r.running.digest ∙ sym at.digest,
+        );
+        in_state = r.running;
+      }
+    where
+      one_back : durable office ≡ r.office
+      one_back = sym (one_of (durable office) r.office r.is_one)
+
+      answer_at : ReopenedAnswer (office.epoch + 1) ≡ answer
+      answer_at = ap (λ (o : Office). ReopenedAnswer (o.epoch + 1)) one_back ∙ sym r.answer_is
+  steps_running old new (Err (Broken rule)) office names reopens at goes =
+      let one = one_of (durable office) goes.1.office goes.1.is_one in
+      let last : last_sequence ≤ office.epoch = subst (λ (o : Office). last_sequence ≤ o.epoch) one goes.1.last in
+      record {
+        next = Running office names;
+        step = ((spent_at office last ∙ ap (λ (r : BrokenRule). Err r) (sym goes.0), refl), refl, refl);
+        in_state = still_in old new (Running office names) at (reopens.stays (Broken rule) refl) (reopens.halted_same tt) (reopens.quiet tt) goes.1.now;
+      }
+  steps_running old new (Err HaltedReply) office names reopens at goes = absurd goes
+  steps_running old new (Err (Damaged file found)) office names reopens at goes = absurd goes
+  steps_running old new (Err Memory) office names reopens at goes = record {
+    next = Running office names;
+    step = (refl, refl, refl);
+    in_state = still_in old new (Running office names) at (reopens.stays Memory refl) (reopens.halted_same tt) (reopens.quiet tt) goes;
+  }
+  steps_running old new (Err DiskFault) office names reopens at goes = elim goes.1 [
+    | inl may ↦ record {
+      next = Halted (durable office) (durable office) names;
+      step = ((refl, inl refl), refl, refl);
+      in_state = halted_in old new (Running office names) names (durable office) (durable office) at at.used at.digest
+          (reopens.stays DiskFault refl) goes.0 may;
+    }
+    | inr w ↦ record {
+      next = Halted w.0 (reopened w.0) names;
+      step = ((one_of (durable office) w.0 w.1, inr (ap reopened (one_of (durable office) w.0 w.1))), refl, refl);
+      in_state = halted_in old new (Running office names) names w.0 (reopened w.0) at at.used at.digest (reopens.stays DiskFault refl) goes.0 w.2;
+    }
+  ]
+
+  -- of a halted store
+  steps_halted : (old new : StoreParts D N S d n) (reply : Reply) (a b : Office) (names : Names) → Reopens old reply new
+      → IsHalted old a b names → Goes a b reply new → Steps (Halted a b names) Reopen reply new
+  steps_halted old new (Ok answer) a b names reopens at r = record {
+    next = Running (reopened r.office) r.names;
+    step = (
+      (r.office, r.is_one, carried_at r.office r.room ∙ (λ i. Ok (record { answer = sym r.answer_is i; after = reopened r.office }))),
+      r.running.used.distinct,
+      r.running.digest ∙ sym at.digest,
+    );
+    in_state = r.running;
+  }
+  steps_halted old new (Err (Broken rule)) a b names reopens at goes = record {
+    next = Halted a b names;
+    step = (
+      ((goes.1.office, goes.1.is_one, spent_at goes.1.office goes.1.last ∙ ap (λ (r : BrokenRule). Err r) (sym goes.0)), refl, refl),
+      refl,
+      refl,
+    );
+    in_state = still_in old new (Halted a b names) at (reopens.stays (Broken rule) refl) (reopens.halted_same tt) (reopens.quiet tt) goes.1.now;
+  }
+  steps_halted old new (Err HaltedReply) a b names reopens at goes = absurd goes
+  steps_halted old new (Err (Damaged file found)) a b names reopens at goes = absurd goes
+  steps_halted old new (Err Memory) a b names reopens at goes = record {
+    next = Halted a b names;
+    step = ((refl, refl), refl, refl);
+    in_state = still_in old new (Halted a b names) at (reopens.stays Memory refl) (reopens.halted_same tt) (reopens.quiet tt) goes;
+  }
+  steps_halted old new (Err DiskFault) a b names reopens at goes = elim goes.1 [
+    | inl may ↦ record {
+      next = Halted a b names;
+      step = (inl (refl, refl), refl, refl);
+      in_state = halted_in old new (Halted a b names) names a b at at.used at.digest (reopens.stays DiskFault refl) goes.0 may;
+    }
+    | inr w ↦ record {
+      next = Halted w.0 (reopened w.0) names;
+      step = (inr (w.1, refl), refl, refl);
+      in_state = halted_in old new (Halted a b names) names w.0 (reopened w.0) at at.used at.digest (reopens.stays DiskFault refl) goes.0 w.2;
+    }
+  ]
+
+  pub reopen_steps : (old new : StoreParts D N S d n) (reply : Reply) → Reopens old reply new → (state : State) → InState old state
+      → Steps state Reopen reply new
+  reopen_steps old new reply reopens (Running office names) at =
+      steps_running old new reply office names reopens at
+      (reopens.goes (durable office) (durable office) (may_of old (Running office names) at))
+  reopen_steps old new reply reopens (Halted a b names) at = steps_halted old new reply a b names reopens at (reopens.goes a b at.may_be)
+
+  pub reopen_crash : (old new : StoreParts D N S d n) (reply : Reply) → Reopens old reply new → (state : State) → InState old state
+      → FindsOnly old.journal new.journal (MayLeave n.digest_of (first_of state) (second_of state))
+  reopen_crash old new reply reopens state at = reopens.crash (first_of state) (second_of state) (may_of old state at)
