@@ -5,3 +5,4 @@ pub mod Raising
 pub mod Beginning
 pub mod Reopening
 pub mod Running
+pub mod Telling

@@ -12,13 +12,14 @@ use Rattle.journal_view.specs.Found.{seen, Finds, FindsAll, CanFind, IsOpenable,
 use Rattle.journal_view.specs.FoundLaws.{finds_each, finds_wider}
 use Rattle.journal_view.specs.OpeningLaws.{reopened_has, opens_of, still_has}
 use Rattle.journal_view.specs.View.{told, uncertain, Quiet, FindsOnly}
-use Rattle.journal_view.specs.ViewLaws.{FindsOnly-each, FindsOnly-then, Quiet-then}
-use Rattle.office_model.specs.Office.{Office}
+use Rattle.journal_view.specs.ViewLaws.{seen_some}
+use Rattle.office_model.specs.Office.{Office, reopened}
 use Rattle.store_parts.specs.Held.{IsEither, MayBe}
 use Rattle.store_opening.specs.declared.fault.OpenRefusal.{OpenRefusal}
 use Rattle.store_opening.specs.declared.fault.OpenRefusal.TheVariants.{Foreign, EpochsSpent, DiskFault, Memory}
 use Rattle.store_opening.specs.Recovers.{Holds}
 use Rattle.store_opening.specs.Begins.{MayLeave, IsPlain, Begins}
+use Rattle.store_opening.specs.Opens.{IsOf, Left}
 
 pub some_files : (files : Option Files) → is_some (option_map seen files) ≡ true → (raw : Files) × (files ≡ Some raw)
 some_files None e = absurd (false≢true e)
@@ -35,39 +36,35 @@ left_has P told u old new start crash =
     leaves_wider crash (λ image finds. finds_wider (CanFind told u) P image
     (λ found may. finds_each P may.image found (start may.image may.left) may.in_image) finds)
 
-module _ {D : Type 0} {d : DiskGhosts D} (digest_of : List ℕ → List ℕ) (old new : Journal D d) (a b : Office) (may : MayBe digest_of old a b) where
-  openable : IsOpenable (d.files old.disk) (d.uncertain old.disk)
-  openable = opens_of (IsEither digest_of a b) (d.files old.disk) (d.uncertain old.disk) may.each
+module _ {D : Type 0} (d : DiskGhosts D) (digest_of : List ℕ → List ℕ) (old : D) (a b : Office)
+    (start : FindsAll (d.files old) (d.uncertain old) (IsEither digest_of a b)) (raw : (files : Files) × (d.files old ≡ Some files)) where
+  openable : IsOpenable (d.files old) (d.uncertain old)
+  openable = opens_of (IsEither digest_of a b) (d.files old) (d.uncertain old) start
 
-  raw : (files : Files) × (d.files old.disk ≡ Some files)
-  raw = some_files (d.files old.disk) may.tells
-
-  module _ (done : (all : Files) → d.files old.disk ≡ Some all → IsOpenable (d.files old.disk) (d.uncertain old.disk)
-      → Reopened d.files d.uncertain d.moment d.left_since (CanFind (d.files old.disk) (d.uncertain old.disk)) old.disk new.disk) where
-    opened : Reopened d.files d.uncertain d.moment d.left_since (IsEither digest_of a b) old.disk new.disk
-    opened = reopened_has (IsEither digest_of a b) old.disk new.disk may.each (done raw.0 raw.1 openable)
+  module _ (new : Journal D d) (done : (all : Files) → d.files old ≡ Some all → IsOpenable (d.files old) (d.uncertain old)
+      → Reopened d.files d.uncertain d.moment d.left_since (CanFind (d.files old) (d.uncertain old)) old new.disk) where
+    opened : Reopened d.files d.uncertain d.moment d.left_since (IsEither digest_of a b) old new.disk
+    opened = reopened_has (IsEither digest_of a b) old new.disk start (done raw.0 raw.1 openable)
 
     pub again_holds : Holds digest_of new a b
     again_holds = record { all = opened.found; told_is = opened.told_is; either = opened.has; certain = opened.certain }
 
-    pub again_crash : FindsOnly old new (MayLeave digest_of a b)
-    again_crash = FindsOnly-each (IsEither digest_of a b) (MayLeave digest_of a b) old new (λ found is. inl is) opened.crash
+    pub again_crash : Leaves d.moment d.left_since old new.disk (Finds (MayLeave digest_of a b))
+    again_crash = leaves_wider opened.crash (λ image finds. finds_wider (IsEither digest_of a b) (MayLeave digest_of a b) image (λ found is. inl is) finds)
 
-  module _ (failed : (all : Files) → d.files old.disk ≡ Some all → IsOpenable (d.files old.disk) (d.uncertain old.disk)
-      → Leaves d.moment d.left_since old.disk new.disk (Finds (CanFind (d.files old.disk) (d.uncertain old.disk)))
-      × FindsAll (d.files new.disk) (d.uncertain new.disk) (CanFind (d.files old.disk) (d.uncertain old.disk))) where
-    pub failed_may : (is_some (d.files old.disk) ≡ true → is_some (d.files new.disk) ≡ true) → MayBe digest_of new a b
-    failed_may tells = record {
-      each = still_has (IsEither digest_of a b) (d.files old.disk) (d.uncertain old.disk) (d.files new.disk) (d.uncertain new.disk) may.each
-          (failed raw.0 raw.1 openable).1;
-      tells = seen_tells (d.files new.disk) (tells (ap is_some raw.1));
-    }
+  module _ (new : D) (failed : (all : Files) → d.files old ≡ Some all → IsOpenable (d.files old) (d.uncertain old)
+      → Leaves d.moment d.left_since old new (Finds (CanFind (d.files old) (d.uncertain old)))
+      × FindsAll (d.files new) (d.uncertain new) (CanFind (d.files old) (d.uncertain old))) where
+    pub failed_each : FindsAll (d.files new) (d.uncertain new) (IsEither digest_of a b)
+    failed_each = still_has (IsEither digest_of a b) (d.files old) (d.uncertain old) (d.files new) (d.uncertain new) start
+        (failed raw.0 raw.1 openable).1
 
-    pub failed_crash : FindsOnly old new (MayLeave digest_of a b)
-    failed_crash = FindsOnly-each (IsEither digest_of a b) (MayLeave digest_of a b) old new (λ found is. inl is)
-        (left_has (IsEither digest_of a b) (d.files old.disk) (d.uncertain old.disk) old.disk new.disk may.each (failed raw.0 raw.1 openable).0)
+    pub failed_crash : Leaves d.moment d.left_since old new (Finds (MayLeave digest_of a b))
+    failed_crash =
+        leaves_wider (left_has (IsEither digest_of a b) (d.files old) (d.uncertain old) old new start (failed raw.0 raw.1 openable).0)
+        (λ image finds. finds_wider (IsEither digest_of a b) (MayLeave digest_of a b) image (λ found is. inl is) finds)
 
-  pub unknown_never : ((all : Files) → d.files old.disk ≡ Some all → IsOpenable (d.files old.disk) (d.uncertain old.disk) → ⊥) → ⊥
+  pub unknown_never : ((all : Files) → d.files old ≡ Some all → IsOpenable (d.files old) (d.uncertain old) → ⊥) → ⊥
   unknown_never never = never raw.0 raw.1 openable
 
 -- the disk wasn't opened
@@ -85,3 +82,45 @@ plain_memory (Foreign file found) spent plain = absurd plain
 plain_memory EpochsSpent spent plain = absurd (spent refl)
 plain_memory DiskFault spent plain = absurd plain
 plain_memory Memory spent plain = refl
+
+pub plain_not : (refusal : OpenRefusal) → IsPlain refusal → refusal ≡ DiskFault → ⊥
+plain_not refusal plain e = subst IsPlain e plain
+
+-- what a journal leaves of two offices, its disk leaves
+may_disk : {D : Type 0} {d : DiskGhosts D} (digest_of : List ℕ → List ℕ) (journal : Journal D d) (a b : Office) → MayBe digest_of journal a b
+    → IsOf digest_of (d.files journal.disk) (d.uncertain journal.disk) a b
+may_disk {d = d} digest_of journal a b may = record { each = may.each; tells = seen_some (d.files journal.disk) may.tells }
+
+pub left_of : {D N S : Type 0} {d : DiskGhosts D} (n : NamerGhosts N S) (journal : Journal D d) (a b : Office) (refusal : OpenRefusal)
+    → Begins {n = n} a b (Err refusal) journal
+    → Left n.digest_of (d.files journal.disk) (d.uncertain journal.disk) a b refusal
+left_of n journal a b (Foreign file found) begins = begins
+left_of n journal a b EpochsSpent begins =
+    (record { office = begins.office; is_one = begins.is_one; last = begins.last }, may_disk n.digest_of journal a b begins.now)
+left_of n journal a b DiskFault (inl may) = inl (may_disk n.digest_of journal a b may)
+left_of n journal a b DiskFault (inr w) = inr (w.0, w.1, may_disk n.digest_of journal w.0 (reopened w.0) w.2)
+left_of n journal a b Memory begins = may_disk n.digest_of journal a b begins
+
+-- the journal wasn't opened
+pub left_unopened : (digest_of : List ℕ → List ℕ) (told : Option Files) (uncertain : FileSet) (a b : Office) (refusal : OpenRefusal)
+    → ((file : FileId) (found : Option (List ℕ)) → refusal ≡ Foreign file found → ⊥) → (refusal ≡ EpochsSpent → ⊥)
+    → IsOf digest_of told uncertain a b → Left digest_of told uncertain a b refusal
+left_unopened digest_of told uncertain a b (Foreign file found) known spent is = absurd (known file found refl)
+left_unopened digest_of told uncertain a b EpochsSpent known spent is = absurd (spent refl)
+left_unopened digest_of told uncertain a b DiskFault known spent is = inl is
+left_unopened digest_of told uncertain a b Memory known spent is = is
+
+pub told_files : (files : Option Files) → is_some files ≡ true → (raw : Files) × (files ≡ Some raw)
+told_files None e = absurd (false≢true e)
+told_files (Some raw) e = (raw, refl)
+
+-- the same of another name of the disk
+pub crash_at : {D : Type 0} {moment : D → ℕ} {left_since : D → ℕ → Files → Type 0} (P : Files → Type 0) (old disk other : D) → other ≡ disk
+    → Leaves moment left_since old disk P → Leaves moment left_since old other P
+crash_at {moment = moment} {left_since = left_since} P old disk other same crash =
+    subst (λ (x : _). Leaves moment left_since old x P) (sym same) crash
+
+pub left_at : {D : Type 0} (d : DiskGhosts D) (digest_of : List ℕ → List ℕ) (a b : Office) (refusal : OpenRefusal) (disk other : D)
+    → other ≡ disk → Left digest_of (d.files disk) (d.uncertain disk) a b refusal → Left digest_of (d.files other) (d.uncertain other) a b refusal
+left_at d digest_of a b refusal disk other same left =
+    subst (λ (x : _). Left digest_of (d.files x) (d.uncertain x) a b refusal) (sym same) left

@@ -43,6 +43,7 @@ use Rattle.store_opening.specs.declared.fault.OpenRefusal.{OpenRefusal}
 use Rattle.store_opening.specs.declared.fault.OpenRefusal.TheVariants as O
 use Rattle.store_opening.specs.Begins.{MayLeave, IsPlain, IsSpent, IsBetween, Raised, Begins}
 use Rattle.store_opening.specs.Reopens.{reply_of, halts, IsPlainReply, first_of, second_of, with_journal, IsOfFound, Reopened, Goes, Reopens}
+use Rattle.store_opening.specs.Opens.{Opened}
 use Rattle.store_opening.proofs.Raising.{stored_may}
 
 -- ---- nothing is open
@@ -100,6 +101,12 @@ module _ {D N S : Type 0} {d : DiskGhosts D} {n : NamerGhosts N S} where
           subst (λ (j : Journal D d). IsStored j parts.pool parts.catalog (reopened raised.office) raised.names) (sym same)
           (subst (λ (p : Pool N S n). IsStored journal p parts.catalog (reopened raised.office) raised.names) (sym is.pool_is)
           (subst (λ (k : Known). IsStored journal found.pool k (reopened raised.office) raised.names) (sym is.catalog_is) raised.stored))
+
+  pub opened_of : (parts : StoreParts D N S d n) (journal : Journal D d) (found : Found N S n) (a b : Office) → Raised journal found a b
+      → IsOfFound parts found → parts.journal ≡ journal → Opened a b parts
+  opened_of parts journal found a b raised is same =
+      let r = raised_running parts journal found a b found.catalog.epoch raised is same refl in
+      record { office = r.office; is_one = r.is_one; room = r.room; names = r.names; running = r.running }
 
   -- ---- how it goes
 

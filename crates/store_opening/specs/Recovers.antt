@@ -23,14 +23,14 @@ use Rattle.store_opening.specs.declared.fault.OpenRefusal.TheVariants.{Foreign}
 use Rattle.store_opening.specs.Strays.{IsStray}
 
 -- the file doesn't belong to the pool, to the catalog, or to any
-abbrev pub IsForeign : (raw told : Option Files) → FileId → Option (List ℕ) → Type 0
-IsForeign raw told file found =
-    IsForeignToPool raw file found
+abbrev pub IsForeign : (told : Option Files) → FileId → Option (List ℕ) → Type 0
+IsForeign told file found =
+    IsForeignToPool told file found
     ⊎ (IsForeignToCatalog told file found ⊎ ((all : Files) → told ≡ Some all → IsStray all file found))
 
 -- what a refusal says of the files
-abbrev pub SaysForeign : (raw told : Option Files) → OpenRefusal → Type 0
-SaysForeign raw told refusal = (file : FileId) (found : Option (List ℕ)) → refusal ≡ Foreign file found → IsForeign raw told file found
+abbrev pub SaysForeign : (told : Option Files) → OpenRefusal → Type 0
+SaysForeign told refusal = (file : FileId) (found : Option (List ℕ)) → refusal ≡ Foreign file found → IsForeign told file found
 
 module _ {D : Type 0} {d : DiskGhosts D} where
   -- the journal tells files that stand for one of two offices, and all of them are durable

@@ -6,7 +6,7 @@ ghost use Rattle.journal_view.specs.View.{told, Quiet, FindsOnly};
 ghost use Rattle.office_model.specs.Office.{Office, Names, reopened};
 ghost use Rattle.store_parts.specs.Held.{IsStored};
 ghost use Rattle.store_opening.specs.Recovers.{Holds, Looks, SaysForeign};
-ghost use Rattle.store_opening.specs.Begins.{MayLeave, IsPlain, Begins};
+ghost use Rattle.store_opening.specs.Begins.{MayLeave, Begins};
 
 use crate::fault::{OpenRefusal, refusal_of};
 use crate::found::Found;
@@ -61,8 +61,8 @@ pub(crate) fn begin<D: Disk, N: Namer>(
     requires { journal.old.halted ≡ false }
     ensures begins { (a b : Office) → Holds N.digest_of journal.old a b → Begins a b result journal.new }
     ensures crash { (a b : Office) → Holds N.digest_of journal.old a b → FindsOnly journal.old journal.new (MayLeave N.digest_of a b) }
-    ensures quiet { IfErr result (λ refusal. IsPlain refusal → Quiet journal.old journal.new) }
-    ensures foreign { IfErr result (SaysForeign (D.files journal.old.disk) (told journal.old)) }
+    ensures quiet { IfErr result (λ refusal. (refusal ≡ OpenRefusal.DiskFault → ⊥) → Quiet journal.old journal.new) }
+    ensures foreign { IfErr result (SaysForeign (told journal.old)) }
     ensures counted { Counted (D.fault_count journal.old.disk) (D.fault_count journal.new.disk) (IsErrOf result OpenRefusal.DiskFault) }
 {
     let mut found = match recover(alloc, journal, namer) {

@@ -13,7 +13,9 @@ mod fault;
 mod found;
 mod recover;
 
+mod start;
 mod stray;
 
 pub use fault::OpenRefusal;
 pub use again::reopen;
+pub use start::open;

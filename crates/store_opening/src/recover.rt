@@ -35,7 +35,7 @@ fn read_pool<D: Disk, N: Namer>(
     requires { journal.old.halted ≡ false }
     ensures opened { IfOk result (λ pool. (all : Files) → D.files journal.old.disk ≡ Some all → Opens pool.in_one_file (slots_of pool.names) all) }
     ensures fresh { IfOk result (λ pool. AreFresh (slots_of pool.names)) }
-    ensures foreign { IfErr result (λ refusal. (file : File) (found : Option (List ℕ)) → refusal ≡ OpenRefusal.Foreign file found → IsForeignToPool (D.files journal.old.disk) file found) }
+    ensures foreign { IfErr result (λ refusal. (file : File) (found : Option (List ℕ)) → refusal ≡ OpenRefusal.Foreign file found → IsForeignToPool (told journal.old) file found) }
     ensures complete { IfErr result (λ refusal. (all : Files) (index : Index) → D.files journal.old.disk ≡ Some all → TellsIndex index all → HaveFiles index all
         → (file : File) (found : Option (List ℕ)) → refusal ≡ OpenRefusal.Foreign file found → ⊥) }
     ensures kind { IfErr result (λ refusal. refusal ≡ OpenRefusal.EpochsSpent → ⊥) }
@@ -76,7 +76,7 @@ fn read_parts<D: Disk, N: Namer>(
     ensures opened { IfOk result (λ found. (all : Files) → D.files journal.old.disk ≡ Some all → Opens found.pool.in_one_file (slots_of found.pool.names) all) }
     ensures fresh { IfOk result (λ found. AreFresh (slots_of found.pool.names)) }
     ensures catalog { IfOk result (λ found. (all : Files) → told journal.old ≡ Some all → HoldsCatalog all found.catalog) }
-    ensures foreign { IfErr result (SaysForeign (D.files journal.old.disk) (told journal.old)) }
+    ensures foreign { IfErr result (SaysForeign (told journal.old)) }
     ensures known { IfErr result (λ refusal. (a b : Office) → Holds N.digest_of journal.old a b
         → (file : File) (found : Option (List ℕ)) → refusal ≡ OpenRefusal.Foreign file found → ⊥) }
     ensures kind { IfErr result (λ refusal. refusal ≡ OpenRefusal.EpochsSpent → ⊥) }
@@ -105,7 +105,7 @@ pub(crate) fn recover<D: Disk, N: Namer>(
     requires { journal.old.halted ≡ false }
     ensures recovers { IfOk result (λ found. (a b : Office) → Holds N.digest_of journal.old a b → Recovers journal.new found a b) }
     ensures whole { IfOk result (λ found. (all : Files) → told journal.old ≡ Some all → HoldsCatalog all found.catalog × HasNoStray found.catalog all) }
-    ensures foreign { IfErr result (SaysForeign (D.files journal.old.disk) (told journal.old)) }
+    ensures foreign { IfErr result (SaysForeign (told journal.old)) }
     ensures known { IfErr result (λ refusal. (a b : Office) → Holds N.digest_of journal.old a b
         → (file : File) (found : Option (List ℕ)) → refusal ≡ OpenRefusal.Foreign file found → ⊥) }
     ensures kind { IfErr result (λ refusal. refusal ≡ OpenRefusal.EpochsSpent → ⊥) }
