@@ -36,7 +36,7 @@ module _ {D : Type 0} {d : DiskGhosts D} (digest_of : List ℕ → List ℕ) (ol
     (holds : Holds digest_of old a b) where
   -- all is durable, so what is found stands for one of the two
   alike_either : (new : Journal D d) → Quiet old new → (found : Files) → IsAlikeBut holds.all (uncertain new) found → IsEither digest_of a b found
-  alike_either new quiet found alike = elim holds.either [ | inl s ↦ inl (kept a s) | inr s ↦ inr (kept b s) ]
+  alike_either new quiet found alike = elim holds.either [ inl s ↦ inl (kept a s) | inr s ↦ inr (kept b s) ]
     where
       kept : (office : Office) → StandsFor digest_of holds.all office → StandsFor digest_of found office
       kept office s = record {
@@ -47,7 +47,7 @@ module _ {D : Type 0} {d : DiskGhosts D} (digest_of : List ℕ → List ℕ) (ol
       }
 
   alike_before : (found : Files) → IsAlikeBut holds.all (uncertain old) found → IsEither digest_of a b found
-  alike_before found alike = elim holds.either [ | inl s ↦ inl (kept a s) | inr s ↦ inr (kept b s) ]
+  alike_before found alike = elim holds.either [ inl s ↦ inl (kept a s) | inr s ↦ inr (kept b s) ]
     where
       kept : (office : Office) → StandsFor digest_of holds.all office → StandsFor digest_of found office
       kept office s = record {

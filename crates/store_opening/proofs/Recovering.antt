@@ -152,7 +152,7 @@ module _ {D N S : Type 0} {d : DiskGhosts D} {n : NamerGhosts N S} where
 module _ {D : Type 0} {d : DiskGhosts D} (digest_of : List ℕ → List ℕ) (journal : Journal D d) (a b : Office)
     (holds : Holds digest_of journal a b) where
   abbrev of_either : {P : Type 0} → ((office : Office) → StandsFor digest_of holds.all office → P) → P
-  of_either each = elim holds.either [ | inl s ↦ each a s | inr s ↦ each b s ]
+  of_either each = elim holds.either [ inl s ↦ each a s | inr s ↦ each b s ]
 
   pub pool_known : ((all : Files) (index : Index) → d.files journal.disk ≡ Some all → TellsIndex index all → HaveFiles index all → ⊥) → ⊥
   pool_known never = of_either (λ office s. pool_calm digest_of (d.files journal.disk) holds.all office holds.told_is s never)

@@ -12,10 +12,12 @@ mod begin;
 mod fault;
 mod found;
 mod recover;
-
 mod start;
 mod stray;
 
-pub use fault::OpenRefusal;
 pub use again::reopen;
+pub use fault::OpenRefusal;
 pub use start::open;
+
+#[cfg(test)]
+mod tests;
