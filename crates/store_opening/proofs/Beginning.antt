@@ -35,7 +35,8 @@ either_of digest_of a b office (inr e) found (inr s) = inr (inr (subst (λ (o : 
 module _ {D : Type 0} {d : DiskGhosts D} (digest_of : List ℕ → List ℕ) (old : Journal D d) (a b : Office)
     (holds : Holds digest_of old a b) where
   -- all is durable, so what is found stands for one of the two
-  alike_either : (new : Journal D d) → Quiet old new → (found : Files) → IsAlikeBut holds.all (uncertain new) found → IsEither digest_of a b found
+  alike_either : (new : Journal D d) → Quiet old new → (found : Files) → IsAlikeBut holds.all (uncertain new) found
+      → IsEither digest_of a b found
   alike_either new quiet found alike = elim holds.either [ inl s ↦ inl (kept a s) | inr s ↦ inr (kept b s) ]
     where
       kept : (office : Office) → StandsFor digest_of holds.all office → StandsFor digest_of found office
@@ -126,7 +127,8 @@ module _ {D N S : Type 0} {d : DiskGhosts D} (n : NamerGhosts N S) (old : Journa
           (either_of n.digest_of a b recovers.office recovers.is_one) ours.crash)
 
 -- a fault of a commit that isn't plain, or that wrote nothing
-pub plain_quiet : {D : Type 0} {d : DiskGhosts D} (old mid new : Journal D d) (refusal : OpenRefusal) → (refusal ≡ DiskFault) ⊎ (refusal ≡ Memory)
+pub plain_quiet : {D : Type 0} {d : DiskGhosts D} (old mid new : Journal D d) (refusal : OpenRefusal)
+    → (refusal ≡ DiskFault) ⊎ (refusal ≡ Memory)
     → Quiet old mid → (refusal ≡ Memory → Quiet mid new) → IsPlain refusal → Quiet old new
 plain_quiet old mid new refusal (inl e) quiet memory plain = absurd (subst IsPlain e plain)
 plain_quiet old mid new refusal (inr e) quiet memory plain = Quiet-then old mid new quiet (memory e)

@@ -79,7 +79,8 @@ head_there epoch names None head = let e : epoch + 1 ≡ 0 = head.0 in absurd (o
 head_there epoch names (Some bytes) head = refl
 
 -- the changes lead to the next epoch
-module _ (digest_of : List ℕ → List ℕ) (index : Index) (backups : List (List StoredBackup)) (all : Files) (office : Office) (changes : List Change)
+module _ (digest_of : List ℕ → List ℕ) (index : Index) (backups : List (List StoredBackup)) (all : Files) (office : Office)
+    (changes : List Change)
     (leads : Leads (known_of_office office) (with_epoch (known_of_office office) (office.epoch + 1)) (F.Head ∷ []) changes)
     (stands : Stands digest_of index backups all office) where
   head_raised : IsHeadFile (office.epoch + 1) (names_of office.hosts) (applied changes all F.Head)
@@ -90,7 +91,8 @@ module _ (digest_of : List ℕ → List ℕ) (index : Index) (backups : List (Li
 
   pub raised_stands : Stands digest_of index backups (applied changes all) (reopened office)
   raised_stands =
-      epoch_raised digest_of index backups all (applied changes all) office (λ file metadata other. head_only changes all file leads.named other)
+      epoch_raised digest_of index backups all (applied changes all) office
+      (λ file metadata other. head_only changes all file leads.named other)
       (λ id listed. head_only changes all (F.Pool id) leads.named (content_apart id))
       (head_there office.epoch (names_of office.hosts) (applied changes all F.Head) head_raised) head_raised
       (IsSound-closed office (office.epoch + 1) stands.sound) stands
@@ -124,7 +126,8 @@ module _ {D N S : Type 0} {d : DiskGhosts D} {n : NamerGhosts N S} (journal : Jo
       (proposes : Proposes catalog (with_epoch catalog (catalog.epoch + 1)) (F.Head ∷ []) change) (are : changes ≡ change.changes) where
     leads : Leads (known_of_office office) (with_epoch (known_of_office office) (office.epoch + 1)) (F.Head ∷ []) changes
     leads = subst (Leads (known_of_office office) (with_epoch (known_of_office office) (office.epoch + 1)) (F.Head ∷ [])) (sym are)
-        (subst (λ (known : Known). Leads known (with_epoch known (known.epoch + 1)) (F.Head ∷ []) change.changes) at.catalog_is proposes.leads)
+        (subst (λ (known : Known). Leads known (with_epoch known (known.epoch + 1))
+        (F.Head ∷ []) change.changes) at.catalog_is proposes.leads)
 
     next_stands : Stands n.digest_of (index_of (slots_of pool.names)) at.backups (applied changes at.all) (reopened office)
     next_stands = raised_stands n.digest_of (index_of (slots_of pool.names)) at.backups at.all office changes leads at.stands
@@ -144,7 +147,8 @@ module _ {D N S : Type 0} {d : DiskGhosts D} {n : NamerGhosts N S} (journal : Jo
       tells = tells_same pool.in_one_file (index_of (slots_of pool.names)) at.all (applied changes at.all)
           (head_only changes at.all F.PoolIndex leads.named index_apart)
           (λ byte. head_only changes at.all (F.PoolBucket byte) leads.named (bucket_apart byte)) at.tells;
-      fits = fits_less n.digest_of (slots_of pool.names) (slots_of pool.names) (uncertain journal) (uncertain new) at.all (applied changes at.all)
+      fits = fits_less n.digest_of (slots_of pool.names) (slots_of pool.names) (uncertain journal) (uncertain new) at.all
+          (applied changes at.all)
           (record { given = λ id g. g; size = λ id g. refl; file = λ id g. content_same id; live = λ id l. l })
           (λ id live. (certain (ap is_some at.told_is)).each (F.Pool id) refl) at.fits;
       all_used = λ id there. at.all_used id (ap is_some (sym (content_same id)) ∙ there);
@@ -153,12 +157,14 @@ module _ {D N S : Type 0} {d : DiskGhosts D} {n : NamerGhosts N S} (journal : Jo
       catalog_is = known_is ∙ proposes.after_is ∙ ap (λ (k : Known). with_epoch k (k.epoch + 1)) at.catalog_is;
     }
 
-    either_raised : (found : Files) → IsOldOrNew at.all (uncertain journal) changes found → IsEither n.digest_of office (reopened office) found
+    either_raised : (found : Files) → IsOldOrNew at.all (uncertain journal) changes found
+        → IsEither n.digest_of office (reopened office) found
     either_raised found (inl alike) = inl (stored_alike found alike)
     either_raised found (inr alike) = inr (record {
       index = index_of (slots_of pool.names);
       backups = at.backups;
-      stands = stands_kept n.digest_of (index_of (slots_of pool.names)) at.backups (applied changes at.all) found (reopened office) alike.metadata
+      stands = stands_kept n.digest_of (index_of (slots_of pool.names)) at.backups (applied changes at.all) found
+          (reopened office) alike.metadata
           (λ id listed. alike.contents (F.Pool id) refl refl) next_stands;
     })
 
@@ -167,10 +173,12 @@ module _ {D N S : Type 0} {d : DiskGhosts D} {n : NamerGhosts N S} (journal : Jo
         → Looks n.digest_of journal new office (reopened office)
     looks_raised result committed = record {
       now = record {
-        each = FindsNow-each (IsOldOrNew at.all (uncertain journal) changes) (IsEither n.digest_of office (reopened office)) new either_raised
+        each = FindsNow-each (IsOldOrNew at.all (uncertain journal) changes) (IsEither n.digest_of office
+            (reopened office)) new either_raised
             (committed.now at.all at.told_is);
         tells = committed.tells (ap is_some at.told_is);
       };
-      crash = FindsOnly-each (IsOldOrNew at.all (uncertain journal) changes) (IsEither n.digest_of office (reopened office)) journal new either_raised
+      crash = FindsOnly-each (IsOldOrNew at.all (uncertain journal) changes) (IsEither n.digest_of office
+          (reopened office)) journal new either_raised
           (committed.crash at.all at.told_is);
     }

@@ -44,7 +44,8 @@ at_file raw all same file = ap (λ (f : Files). f file) same
 -- ---- a pool of an office is opened
 
 pub pool_calm : (digest_of : List ℕ → List ℕ) (raw : Option Files) (all : Files) (office : Office) → option_map seen raw ≡ Some all
-    → StandsFor digest_of all office → ((files : Files) (index : Index) → raw ≡ Some files → TellsIndex index files → HaveFiles index files → ⊥) → ⊥
+    → StandsFor digest_of all office → ((files : Files) (index : Index) → raw ≡ Some files → TellsIndex index files
+    → HaveFiles index files → ⊥) → ⊥
 pool_calm digest_of raw all office is stands never =
     let w = told_raw raw all is in
     let at = at_file w.0 all w.2 in
@@ -53,7 +54,8 @@ pool_calm digest_of raw all office is stands never =
     (λ id listed. ap is_some (at (F.Pool id) ∙ listed_held stands.index all stands.stands.one id listed))
 
 pub tells_same : (in_one_file : Bool) (index : Index) (files image : Files) → image F.PoolIndex ≡ files F.PoolIndex
-    → ((byte : ℕ) → image (F.PoolBucket byte) ≡ files (F.PoolBucket byte)) → TellsIn in_one_file index files → TellsIn in_one_file index image
+    → ((byte : ℕ) → image (F.PoolBucket byte) ≡ files (F.PoolBucket byte)) → TellsIn in_one_file index files
+    → TellsIn in_one_file index image
 tells_same true index files image one each tells = record {
   items = tells.items;
   are = tells.are;
@@ -106,7 +108,8 @@ module _ {D N S : Type 0} {d : DiskGhosts D} {n : NamerGhosts N S} where
       tells : TellsIn found.pool.in_one_file (index_of slots) all
       tells =
           let at = at_file raw all same in
-          tells_same found.pool.in_one_file (index_of slots) raw all (sym (at F.PoolIndex)) (λ byte. sym (at (F.PoolBucket byte))) opens.tells
+          tells_same found.pool.in_one_file (index_of slots) raw all (sym (at F.PoolIndex)) (λ byte. sym (at
+          (F.PoolBucket byte))) opens.tells
 
       index_is : s.index ≡ index_of slots
       index_is = λ i id. one_listing s.index (index_of slots) all s.stands.index_told

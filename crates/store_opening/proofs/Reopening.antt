@@ -31,7 +31,8 @@ seen_tells (Some raw) e = refl
 
 -- a crash of an opening leaves what could be found before
 pub left_has : {D : Type 0} {moment : D → ℕ} {left_since : D → ℕ → Files → Type 0} (P : Files → Type 0) (told : Option Files) (u : FileSet)
-    (old new : D) → FindsAll told u P → Leaves moment left_since old new (Finds (CanFind told u)) → Leaves moment left_since old new (Finds P)
+    (old new : D) → FindsAll told u P → Leaves moment left_since old new (Finds (CanFind told u))
+    → Leaves moment left_since old new (Finds P)
 left_has P told u old new start crash =
     leaves_wider crash (λ image finds. finds_wider (CanFind told u) P image
     (λ found may. finds_each P may.image found (start may.image may.left) may.in_image) finds)
@@ -50,7 +51,8 @@ module _ {D : Type 0} (d : DiskGhosts D) (digest_of : List ℕ → List ℕ) (ol
     again_holds = record { all = opened.found; told_is = opened.told_is; either = opened.has; certain = opened.certain }
 
     pub again_crash : Leaves d.moment d.left_since old new.disk (Finds (MayLeave digest_of a b))
-    again_crash = leaves_wider opened.crash (λ image finds. finds_wider (IsEither digest_of a b) (MayLeave digest_of a b) image (λ found is. inl is) finds)
+    again_crash = leaves_wider opened.crash (λ image finds. finds_wider (IsEither digest_of a b) (MayLeave digest_of a b) image
+        (λ found is. inl is) finds)
 
   module _ (new : D) (failed : (all : Files) → d.files old ≡ Some all → IsOpenable (d.files old) (d.uncertain old)
       → Leaves d.moment d.left_since old new (Finds (CanFind (d.files old) (d.uncertain old)))
@@ -87,7 +89,8 @@ pub plain_not : (refusal : OpenRefusal) → IsPlain refusal → refusal ≡ Disk
 plain_not refusal plain e = subst IsPlain e plain
 
 -- what a journal leaves of two offices, its disk leaves
-may_disk : {D : Type 0} {d : DiskGhosts D} (digest_of : List ℕ → List ℕ) (journal : Journal D d) (a b : Office) → MayBe digest_of journal a b
+may_disk : {D : Type 0} {d : DiskGhosts D} (digest_of : List ℕ → List ℕ) (journal : Journal D d) (a b : Office)
+    → MayBe digest_of journal a b
     → IsOf digest_of (d.files journal.disk) (d.uncertain journal.disk) a b
 may_disk {d = d} digest_of journal a b may = record { each = may.each; tells = seen_some (d.files journal.disk) may.tells }
 
@@ -121,6 +124,7 @@ crash_at {moment = moment} {left_since = left_since} P old disk other same crash
     subst (λ (x : _). Leaves moment left_since old x P) (sym same) crash
 
 pub left_at : {D : Type 0} (d : DiskGhosts D) (digest_of : List ℕ → List ℕ) (a b : Office) (refusal : OpenRefusal) (disk other : D)
-    → other ≡ disk → Left digest_of (d.files disk) (d.uncertain disk) a b refusal → Left digest_of (d.files other) (d.uncertain other) a b refusal
+    → other ≡ disk → Left digest_of (d.files disk) (d.uncertain disk) a b refusal
+    → Left digest_of (d.files other) (d.uncertain other) a b refusal
 left_at d digest_of a b refusal disk other same left =
     subst (λ (x : _). Left digest_of (d.files x) (d.uncertain x) a b refusal) (sym same) left

@@ -170,8 +170,10 @@ module _ {D N S : Type 0} {d : DiskGhosts D} {n : NamerGhosts N S} where
     stays = λ refusal e. absurd cc;
     halted_same = λ plain. absurd plain;
     quiet = λ plain. absurd plain;
-    counted = subst (λ (j : Journal D d). Counted (d.fault_count old.journal.disk) (d.fault_count j.disk) (answered (ReopenedAnswer epoch) ≡ Err DiskFault)) (sym same)
-        (counted_as _ _ (IsErrOf (Ok found) O.DiskFault) (answered (ReopenedAnswer epoch) ≡ Err DiskFault) (λ p. absurd cc) (λ q. absurd cc) counted);
+    counted = subst (λ (j : Journal D d). Counted (d.fault_count old.journal.disk) (d.fault_count j.disk) (answered
+        (ReopenedAnswer epoch) ≡ Err DiskFault)) (sym same)
+        (counted_as _ _ (IsErrOf (Ok found) O.DiskFault) (answered (ReopenedAnswer epoch) ≡ Err DiskFault) (λ p. absurd cc)
+        (λ q. absurd cc) counted);
   }
 
   pub reopens_refused : (old new : StoreParts D N S d n) (refusal : OpenRefusal) (reply : Refusal) → reply ≡ reply_of refusal
@@ -247,8 +249,10 @@ module _ {D N S : Type 0} {d : DiskGhosts D} {n : NamerGhosts N S} where
       → new ≡ with_journal old new.journal old.halted
   same_parts old new stays halted = stays ∙ ap (λ (h : Bool). with_journal old new.journal h) halted
 
-  may_of : (parts : StoreParts D N S d n) (state : State) → InState parts state → MayBe n.digest_of parts.journal (first_of state) (second_of state)
-  may_of parts (Running office names) at = stored_may parts.journal parts.pool parts.catalog (durable office) names at.stored (durable office)
+  may_of : (parts : StoreParts D N S d n) (state : State) → InState parts state
+      → MayBe n.digest_of parts.journal (first_of state) (second_of state)
+  may_of parts (Running office names) at = stored_may parts.journal parts.pool parts.catalog (durable office) names at.stored
+      (durable office)
   may_of parts (Halted a b names) at = at.may_be
 
   -- refused without a fault of the disk, the parts are in the state that they were in
@@ -303,7 +307,8 @@ module _ {D N S : Type 0} {d : DiskGhosts D} {n : NamerGhosts N S} where
       record {
         next = Running office names;
         step = ((spent_at office last ∙ ap (λ (r : BrokenRule). Err r) (sym goes.0), refl), refl, refl);
-        in_state = still_in old new (Running office names) at (reopens.stays (Broken rule) refl) (reopens.halted_same tt) (reopens.quiet tt) goes.1.now;
+        in_state = still_in old new (Running office names) at (reopens.stays (Broken rule) refl) (reopens.halted_same tt)
+            (reopens.quiet tt) goes.1.now;
       }
   steps_running old new (Err HaltedReply) office names reopens at goes = absurd goes
   steps_running old new (Err (Damaged file found)) office names reopens at goes = absurd goes
@@ -322,7 +327,8 @@ module _ {D N S : Type 0} {d : DiskGhosts D} {n : NamerGhosts N S} where
     | inr w ↦ record {
       next = Halted w.0 (reopened w.0) names;
       step = ((one_of (durable office) w.0 w.1, inr (ap reopened (one_of (durable office) w.0 w.1))), refl, refl);
-      in_state = halted_in old new (Running office names) names w.0 (reopened w.0) at at.used at.digest (reopens.stays DiskFault refl) goes.0 w.2;
+      in_state = halted_in old new (Running office names) names w.0 (reopened w.0) at at.used at.digest
+          (reopens.stays DiskFault refl) goes.0 w.2;
     }
   ]
 
@@ -345,7 +351,8 @@ module _ {D N S : Type 0} {d : DiskGhosts D} {n : NamerGhosts N S} where
       refl,
       refl,
     );
-    in_state = still_in old new (Halted a b names) at (reopens.stays (Broken rule) refl) (reopens.halted_same tt) (reopens.quiet tt) goes.1.now;
+    in_state = still_in old new (Halted a b names) at (reopens.stays (Broken rule) refl) (reopens.halted_same tt)
+        (reopens.quiet tt) goes.1.now;
   }
   steps_halted old new (Err HaltedReply) a b names reopens at goes = absurd goes
   steps_halted old new (Err (Damaged file found)) a b names reopens at goes = absurd goes
@@ -363,7 +370,8 @@ module _ {D N S : Type 0} {d : DiskGhosts D} {n : NamerGhosts N S} where
     | inr w ↦ record {
       next = Halted w.0 (reopened w.0) names;
       step = (inr (w.1, refl), refl, refl);
-      in_state = halted_in old new (Halted a b names) names w.0 (reopened w.0) at at.used at.digest (reopens.stays DiskFault refl) goes.0 w.2;
+      in_state = halted_in old new (Halted a b names) names w.0 (reopened w.0) at at.used at.digest
+          (reopens.stays DiskFault refl) goes.0 w.2;
     }
   ]
 

@@ -33,8 +33,11 @@ first_listed hosts headed [] file e = absurd cc
 first_listed hosts headed (other ∷ files) file e = elim (either (is_stray hosts headed other)) [
   | inl stray ↦
       let same : Some other ≡ Some file = sym (rw stray refl) ∙ e in
-      let one : other ≡ file = cc same in
-      (rw (subst (λ (f : FileId). is_same_file file f ≡ true) (sym one) (is_same_file-itself file)) refl, subst (λ (f : FileId). is_stray hosts headed f ≡ true) one stray)
+      let one : other ≡ file = cc same in (
+        rw (subst (λ (f : FileId). is_same_file file f ≡ true) (sym one) (is_same_file-itself file)) refl,
+        subst (λ
+            (f : FileId). is_stray hosts headed f ≡ true) one stray,
+      )
   | inr not_one ↦
       let rest : first_stray hosts headed files ≡ Some file = sym (rw not_one refl) ∙ e in
       let found = first_listed hosts headed files file rest in
@@ -123,7 +126,8 @@ index_there first [] i = refl
 index_there first (host ∷ hosts) zero = refl
 index_there first (host ∷ hosts) (suc i) = index_there (suc first) hosts i
 
-line_there : (first : ℕ) (hosts : List Host) (i number : ℕ) → has_line (slice_get (indices_from first hosts) i) number ≡ has_backup (slice_get hosts i) number
+line_there : (first : ℕ) (hosts : List Host) (i number : ℕ)
+    → has_line (slice_get (indices_from first hosts) i) number ≡ has_backup (slice_get hosts i) number
 line_there first [] i number = refl
 line_there first (host ∷ hosts) zero number = ap is_some (lines_same number 0 host.backups)
 line_there first (host ∷ hosts) (suc i) number = line_there (suc first) hosts i number

@@ -14,7 +14,8 @@ index_seen : (byte : Option ℕ) → is_seen (index_id byte) ≡ true
 index_seen None = refl
 index_seen (Some byte) = refl
 
-why_seen : (told : Option Files) (file : FileId) (found : Option (List ℕ)) → IsBroken file found ⊎ (IsBeside told file found ⊎ IsAbsent told file found)
+why_seen : (told : Option Files) (file : FileId) (found : Option (List ℕ))
+    → IsBroken file found ⊎ (IsBeside told file found ⊎ IsAbsent told file found)
     → is_seen file ≡ true
 why_seen told file found (inl broken) = ap is_seen broken.file_is ∙ index_seen broken.byte
 why_seen told file found (inr (inl beside)) = ap is_seen beside.file_is
@@ -40,7 +41,8 @@ module _ (raw all : Files) (same : seen raw ≡ all) where
       → (byte : ℕ) × (byte < 256) × (is_some (all (F.PoolBucket byte)) ≡ true)
   bucket_seen w = (w.0, w.1, ap is_some (sym (at (F.PoolBucket w.0) refl)) ∙ w.2)
 
-why_told : (raw : Files) (file : FileId) (found : Option (List ℕ)) → IsBroken file found ⊎ (IsBeside (Some raw) file found ⊎ IsAbsent (Some raw) file found)
+why_told : (raw : Files) (file : FileId) (found : Option (List ℕ))
+    → IsBroken file found ⊎ (IsBeside (Some raw) file found ⊎ IsAbsent (Some raw) file found)
     → IsBroken file found ⊎ (IsBeside (Some (seen raw)) file found ⊎ IsAbsent (Some (seen raw)) file found)
 why_told raw file found (inl broken) = inl broken
 why_told raw file found (inr (inl beside)) = inr (inl (record {
@@ -60,7 +62,8 @@ why_untold : (file : FileId) (found : Option (List ℕ)) → IsBroken file found
     → IsBroken file found ⊎ (IsBeside (option_map seen None) file found ⊎ IsAbsent (option_map seen None) file found)
 why_untold file found why = why
 
-pub pool_told : (raw : Option Files) (file : FileId) (found : Option (List ℕ)) → IsForeign raw file found → IsForeign (option_map seen raw) file found
+pub pool_told : (raw : Option Files) (file : FileId) (found : Option (List ℕ)) → IsForeign raw file found
+    → IsForeign (option_map seen raw) file found
 pool_told None file found foreign = record { there = λ all is. absurd cc; why = why_untold file found foreign.why }
 pool_told (Some raw) file found foreign = record {
   there = λ all is.

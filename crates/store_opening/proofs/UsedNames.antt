@@ -23,7 +23,8 @@ used_in : List (PoolId × Slot) → List PoolId
 used_in [] = []
 used_in (entry ∷ entries) = if is_in entries entry.0 then used_in entries else entry.0 ∷ used_in entries
 
-again_is : (entry : PoolId × Slot) (entries : List (PoolId × Slot)) → is_in entries entry.0 ≡ true → used_in (entry ∷ entries) ≡ used_in entries
+again_is : (entry : PoolId × Slot) (entries : List (PoolId × Slot)) → is_in entries entry.0 ≡ true
+    → used_in (entry ∷ entries) ≡ used_in entries
 unfolding used_in
 again_is entry entries again = rw again refl
 
@@ -35,7 +36,8 @@ last_is entry entries last = rw last refl
 one_name : (a b : PoolId) → is_eq (id_cmp a b) ≡ true → a ≡ b
 one_name a b e = same_id a b (equal_of (id_cmp a b) e)
 
-in_more : (entry : PoolId × Slot) (entries : List (PoolId × Slot)) (id : PoolId) → is_in entries id ≡ true → is_in (entry ∷ entries) id ≡ true
+in_more : (entry : PoolId × Slot) (entries : List (PoolId × Slot)) (id : PoolId) → is_in entries id ≡ true
+    → is_in (entry ∷ entries) id ≡ true
 in_more entry entries id there = elim (either (is_eq (id_cmp id entry.0))) [
   | inl same ↦ rw same refl
   | inr other ↦ rw other there
@@ -53,7 +55,8 @@ used_there : (entries : List (PoolId × Slot)) (id : PoolId) → Among (used_in 
 unfolding used_in
 used_there [] id w = absurd cc
 used_there (entry ∷ entries) id w = elim (either (is_in entries entry.0)) [
-  | inl again ↦ in_more entry entries id (used_there entries id (subst (λ (ids : List PoolId). Among ids id) (again_is entry entries again) w))
+  | inl again ↦ in_more entry entries id (used_there entries id (subst (λ (ids : List PoolId). Among ids id)
+      (again_is entry entries again) w))
   | inr last ↦
       step_there entry entries id (used_there entries id) w.0
       (subst (λ (ids : List PoolId). slice_get ids w.0 ≡ Some id) (last_is entry entries last) w.1)
@@ -78,8 +81,10 @@ unfolding used_in
 there_used [] id there = absurd (false≢true there)
 there_used (entry ∷ entries) id there = elim (either (is_in entries entry.0)) [
   | inl again ↦
-      subst (λ (ids : List PoolId). Among ids id) (sym (again_is entry entries again)) (there_used entries id (later entry entries id there again))
-  | inr last ↦ subst (λ (ids : List PoolId). Among ids id) (sym (last_is entry entries last)) (here entry entries id (there_used entries id) there)
+      subst (λ (ids : List PoolId). Among ids id) (sym (again_is entry entries again)) (there_used entries id
+      (later entry entries id there again))
+  | inr last ↦ subst (λ (ids : List PoolId). Among ids id) (sym (last_is entry entries last)) (here entry entries id
+      (there_used entries id) there)
 ]
 
 apart : (entry : PoolId × Slot) (entries : List (PoolId × Slot)) → is_in entries entry.0 ≡ false → (i : ℕ) (a : PoolId)

@@ -99,12 +99,10 @@ const STRAYS: [(FileId, &[u8]); 5] = [
     (FileId::PoolBucket(7), b"abc"),
 ];
 
-// Opens a store whose disk has one file more or another one, which is to be found.
-fn expect_foreign(alloc: Global, file: FileId, bytes: &[u8]) -> Result<(), Fail> {
-    let mut disk = first_disk(alloc)?;
-    expect(disk.write(file, bytes).is_ok(), "not written")?;
-    match open(alloc, disk, Md5Namer) {
-        Err((_disk, OpenRefusal::Foreign { file: other, found })) => match found {
+// The refusal says that this was found of the file.
+fn expect_found(refusal: OpenRefusal, file: FileId, bytes: &[u8]) -> Result<(), Fail> {
+    match refusal {
+        OpenRefusal::Foreign { file: other, found } => match found {
             Some(found) => expect(
                 other.is_same(file) && found.as_slice() == bytes,
                 "another file",
@@ -112,6 +110,16 @@ fn expect_foreign(alloc: Global, file: FileId, bytes: &[u8]) -> Result<(), Fail>
             None => Err(Fail::new("nothing found")),
         },
         _ => Err(Fail::new("not foreign")),
+    }
+}
+
+// Opens a store whose disk has one file more or another one, which is to be found.
+fn expect_foreign(alloc: Global, file: FileId, bytes: &[u8]) -> Result<(), Fail> {
+    let mut disk = first_disk(alloc)?;
+    expect(disk.write(file, bytes).is_ok(), "not written")?;
+    match open(alloc, disk, Md5Namer) {
+        Err((_disk, refusal)) => expect_found(refusal, file, bytes),
+        Ok(_) => Err(Fail::new("opened")),
     }
 }
 
@@ -124,8 +132,11 @@ fn a_file_that_no_store_leaves_is_foreign(rt: HostRuntime) -> Result<(), Fail> {
 }
 
 // A call of an opening failed: the disk counted it, and opens again.
-fn expect_opened(alloc: Global, disk: MemoryDisk) -> Result<(), Fail> {
-    expect(disk.faults() == 1, "no fault is counted")?;
+fn expect_opened(alloc: Global, disk: MemoryDisk, refusal: OpenRefusal) -> Result<(), Fail> {
+    match refusal {
+        OpenRefusal::DiskFault => expect(disk.faults() == 1, "no fault is counted")?,
+        _ => return Err(Fail::new("another refusal")),
+    }
     let epoch = store_of(alloc, disk)?.catalog.epoch();
     expect(epoch == 1 || epoch == 2, "another epoch")
 }
@@ -150,9 +161,8 @@ fn expect_reopened(
 
 fn expect_fault(alloc: Global, call: u64) -> Result<(), Fail> {
     match open(alloc, disk_failing(alloc, call)?, Md5Namer) {
-        Err((disk, OpenRefusal::DiskFault)) => expect_opened(alloc, disk),
+        Err((disk, refusal)) => expect_opened(alloc, disk, refusal),
         Ok(mut parts) => expect_reopened(alloc, &mut parts),
-        _ => Err(Fail::new("another refusal")),
     }
 }
 

@@ -4,7 +4,8 @@ use Rattle.store_opening.proofs.again.reopen_parts.Goals as goal
 
 pub returns-in-Ok : goal.returns-in-Ok
 returns-in-Ok g c =
-    reopens_raised c.args.parts.now c.take_over.new.parts c.begin_again.new.journal c.in-Ok.found c.epoch-epoch.result c.in-Ok.ensures.begins
+    reopens_raised c.args.parts.now c.take_over.new.parts c.begin_again.new.journal c.in-Ok.found c.epoch-epoch.result
+    c.in-Ok.ensures.begins
     c.in-Ok.ensures.crash c.in-Ok.ensures.counted c.take_over.ensures.is c.take_over.ensures.journal c.epoch-epoch.ensures
 
 pub returns-in-Err : goal.returns-in-Err

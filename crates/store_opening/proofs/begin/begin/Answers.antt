@@ -33,7 +33,8 @@ returns-in-Ok-raise-clause-crash g c = λ a b holds.
 
 pub returns-in-Err-raise-clause-begins : goal.returns-in-Err-raise-clause-begins
 returns-in-Err-raise-clause-begins g c = λ a b holds.
-    begins_between g.N.Namer c.args.journal.now a b holds c.requires c.recover.new.journal c.in-Ok.found (c.in-Ok.ensures.recovers a b holds)
+    begins_between g.N.Namer c.args.journal.now a b holds c.requires c.recover.new.journal c.in-Ok.found
+    (c.in-Ok.ensures.recovers a b holds)
     c.in-Ok.ensures.quiet c.raise.new.journal c.raise.ensures.looks c.refusal_of.result c.refusal_of.ensures.kind
     (λ e. c.raise.ensures.memory (c.in-Err-raise.is ∙ ap (λ (f : JournalFault). Err f) (c.refusal_of.ensures.memory.0 e)))
 

@@ -8,7 +8,8 @@ returns-in-Err-clause-looks g c = λ office names at. looks_still c.args.journal
 pub returns-in-Ok-commit-clause-ok : goal.returns-in-Ok-commit-clause-ok
 returns-in-Ok-commit-clause-ok g c = λ office names at.
     stored_raised c.args.journal.now c.args.found.now.pool c.args.found.now.catalog office names at c.in-Ok.change c.changes.result.now
-    c.commit.new.journal c.in-Ok.ensures.proposes c.changes.ensures c.accept.new.self c.accept.ensures c.in-Ok-commit.ensures.ready c.in-Ok-commit.ensures.done c.in-Ok-commit.ensures.certain
+    c.commit.new.journal c.in-Ok.ensures.proposes c.changes.ensures c.accept.new.self c.accept.ensures c.in-Ok-commit.ensures.ready
+    c.in-Ok-commit.ensures.done c.in-Ok-commit.ensures.certain
 
 pub returns-in-Ok-commit-clause-looks : goal.returns-in-Ok-commit-clause-looks
 returns-in-Ok-commit-clause-looks g c = λ office names at.

@@ -16,7 +16,8 @@ pub returns-in-Ok-read_catalog-clause-catalog : goal.returns-in-Ok-read_catalog-
 returns-in-Ok-read_catalog-clause-catalog g c = λ all is. c.in-Ok-read_catalog.ensures.opened all (c.in-Ok.ensures.quiet.told_same ∙ is)
 
 pub returns-in-Ok-read_catalog-clause-quiet : goal.returns-in-Ok-read_catalog-clause-quiet
-returns-in-Ok-read_catalog-clause-quiet g c = Quiet-then c.args.journal.now c.read_pool.new.journal _ c.in-Ok.ensures.quiet c.in-Ok-read_catalog.ensures.quiet
+returns-in-Ok-read_catalog-clause-quiet g c = Quiet-then c.args.journal.now c.read_pool.new.journal _ c.in-Ok.ensures.quiet
+    c.in-Ok-read_catalog.ensures.quiet
 
 pub returns-in-Err-read_catalog-clause-foreign : goal.returns-in-Err-read_catalog-clause-foreign
 returns-in-Err-read_catalog-clause-foreign g c = λ file found e.
@@ -29,4 +30,5 @@ returns-in-Err-read_catalog-clause-known g c = λ a b holds file found e.
     c.in-Err-read_catalog.ensures.complete all known (c.in-Ok.ensures.quiet.told_same ∙ is) held file found e)
 
 pub returns-in-Err-read_catalog-clause-quiet : goal.returns-in-Err-read_catalog-clause-quiet
-returns-in-Err-read_catalog-clause-quiet g c = Quiet-then c.args.journal.now c.read_pool.new.journal _ c.in-Ok.ensures.quiet c.in-Err-read_catalog.ensures.quiet
+returns-in-Err-read_catalog-clause-quiet g c = Quiet-then c.args.journal.now c.read_pool.new.journal _ c.in-Ok.ensures.quiet
+    c.in-Err-read_catalog.ensures.quiet

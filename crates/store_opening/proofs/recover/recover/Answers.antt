@@ -14,14 +14,17 @@ returns-in-Ok-refuse_strays-clause-whole g c = λ all is.
     (c.in-Ok.ensures.catalog all is, c.in-Ok-refuse_strays.ensures.none all (c.in-Ok.ensures.quiet.told_same ∙ is))
 
 pub returns-in-Ok-refuse_strays-clause-quiet : goal.returns-in-Ok-refuse_strays-clause-quiet
-returns-in-Ok-refuse_strays-clause-quiet g c = Quiet-then c.args.journal.now c.read_parts.new.journal _ c.in-Ok.ensures.quiet c.in-Ok-refuse_strays.ensures.quiet
+returns-in-Ok-refuse_strays-clause-quiet g c = Quiet-then c.args.journal.now c.read_parts.new.journal _ c.in-Ok.ensures.quiet
+    c.in-Ok-refuse_strays.ensures.quiet
 
 pub returns-in-Err-refuse_strays-clause-quiet : goal.returns-in-Err-refuse_strays-clause-quiet
-returns-in-Err-refuse_strays-clause-quiet g c = Quiet-then c.args.journal.now c.read_parts.new.journal _ c.in-Ok.ensures.quiet c.in-Err-refuse_strays.ensures.quiet
+returns-in-Err-refuse_strays-clause-quiet g c = Quiet-then c.args.journal.now c.read_parts.new.journal _ c.in-Ok.ensures.quiet
+    c.in-Err-refuse_strays.ensures.quiet
 
 pub returns-in-Err-refuse_strays-clause-foreign : goal.returns-in-Err-refuse_strays-clause-foreign
 returns-in-Err-refuse_strays-clause-foreign g c = λ file found e.
-    inr (inr (λ all is. c.in-Err-refuse_strays.ensures.stray file found e all (c.in-Ok.ensures.quiet.told_same ∙ is) (c.in-Ok.ensures.catalog all is)))
+    inr (inr (λ all is. c.in-Err-refuse_strays.ensures.stray file found e all (c.in-Ok.ensures.quiet.told_same
+    ∙ is) (c.in-Ok.ensures.catalog all is)))
 
 pub returns-in-Err-refuse_strays-clause-known : goal.returns-in-Err-refuse_strays-clause-known
 returns-in-Err-refuse_strays-clause-known g c = λ a b holds file found e.

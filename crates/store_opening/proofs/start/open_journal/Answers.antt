@@ -13,7 +13,8 @@ pub returns-in-Err-clause-failed : goal.returns-in-Err-clause-failed
 returns-in-Err-clause-failed g c = λ all is opens.
     let old = c.args.disk in
     let start = openable (g.D.Disk.files old) (g.D.Disk.uncertain old) opens in
-    let crash = refused_of (CanFind (g.D.Disk.files old) (g.D.Disk.uncertain old)) old c.in-Err.disk c.in-Err.fault all is start c.in-Err.ensures.refused in (
+    let crash = refused_of (CanFind (g.D.Disk.files old)
+    (g.D.Disk.uncertain old)) old c.in-Err.disk c.in-Err.fault all is start c.in-Err.ensures.refused in (
       crash,
       now_of g.D.Disk.files g.D.Disk.uncertain g.D.Disk.moment g.D.Disk.left_since g.met.D.Disk.counts_now g.met.D.Disk.only_now
           (CanFind (g.D.Disk.files old) (g.D.Disk.uncertain old)) old c.in-Err.disk start crash,
@@ -21,7 +22,8 @@ returns-in-Err-clause-failed g c = λ all is opens.
 
 pub returns-in-Err-clause-known : goal.returns-in-Err-clause-known
 returns-in-Err-clause-known g c = λ all file found foreign is opens.
-    refused_known c.args.disk c.in-Err.disk c.in-Err.fault all file found (c.open_refusal.ensures.foreign file found foreign) is opens c.in-Err.ensures.refused
+    refused_known c.args.disk c.in-Err.disk c.in-Err.fault all file found
+    (c.open_refusal.ensures.foreign file found foreign) is opens c.in-Err.ensures.refused
 
 pub returns-in-Err-clause-foreign : goal.returns-in-Err-clause-foreign
 returns-in-Err-clause-foreign g c = λ file found foreign.

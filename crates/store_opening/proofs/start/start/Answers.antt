@@ -7,7 +7,8 @@ use Rattle.store_opening.proofs.start.start.Goals as goal
 
 pub returns-in-Ok-clause-opened : goal.returns-in-Ok-clause-opened
 returns-in-Ok-clause-opened g c = λ a b holds.
-    opened_of c.parts_of.result c.begin.new.journal c.in-Ok.found a b (c.in-Ok.ensures.begins a b holds) c.parts_of.ensures.is c.parts_of.ensures.journal
+    opened_of c.parts_of.result c.begin.new.journal c.in-Ok.found a b
+    (c.in-Ok.ensures.begins a b holds) c.parts_of.ensures.is c.parts_of.ensures.journal
 
 pub returns-in-Ok-clause-crash : goal.returns-in-Ok-clause-crash
 returns-in-Ok-clause-crash g c = λ a b holds.

@@ -4,7 +4,8 @@ use Rattle.store_opening.proofs.stray.refuse_strays.Goals as goal
 
 pub returns-in-None-clause-none : goal.returns-in-None-clause-none
 returns-in-None-clause-none g c = λ all is.
-    no_stray all c.in-Ok.files c.args.catalog.now c.has.result c.as_slice.result.now (c.in-Ok.ensures.found all is) c.has.ensures c.as_slice.ensures (sym c.first_stray.ensures ∙ c.in-None.is)
+    no_stray all c.in-Ok.files c.args.catalog.now c.has.result c.as_slice.result.now
+    (c.in-Ok.ensures.found all is) c.has.ensures c.as_slice.ensures (sym c.first_stray.ensures ∙ c.in-None.is)
 
 pub refusal_with-requires-clause-seen : goal.refusal_with-requires-clause-seen
 refusal_with-requires-clause-seen g c =
