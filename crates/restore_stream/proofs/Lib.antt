@@ -1,0 +1,12 @@
+pub mod FrameLaws
+pub mod TreeLaws
+pub mod WritingLaws
+pub mod ReadingLaws
+pub mod FieldLaws
+pub mod EntryLaws
+pub mod SequenceLaws
+pub mod PieceReading
+pub mod RowReading
+pub mod StreamLaws
+pub mod PrintLaws
+pub mod FitLaws

@@ -1,0 +1,20 @@
+use Rattle.std.proofs.Common.{ℕ, List, subst, sym, ap, ◌∙◌}
+use Rattle.attr_records.specs.Names.{is_link_target}
+use Rattle.restore_stream.specs.Streams.{text_field16, IsTarget}
+use Rattle.restore_stream.specs.Reading.{Finds}
+use Rattle.restore_stream.proofs.ReadingLaws.{reads_again, limited_refuses, misfit_refuses, limited_finds}
+use Rattle.restore_stream.proofs.entries.read_target.Goals as goal
+
+pub returns-in_err-text-clause-read : goal.returns-in_err-text-clause-read
+returns-in_err-text-clause-read g c =
+    reads_again (text_field16 IsTarget) c.args.start _ _ (λ target. target) _ _ c.from_residual.ensures.1 (limited_refuses _ _ _ _ c.in_err-text.ensures.read)
+
+pub returns-then-not-is_link_target-clause-read : goal.returns-then-not-is_link_target-clause-read
+returns-then-not-is_link_target-clause-read g c = misfit_refuses _ _ _ IsTarget c.in_ok-text.ensures.read (λ h.
+    absurd (let e = c.if-not-is_link_target.ensures ∙ ap is_link_target c.as_slice.ensures.value ∙ h in cc))
+
+pub returns-in-Ok-clause-read : goal.returns-in-Ok-clause-read
+returns-in-Ok-clause-read g c =
+    subst (λ (text : List ℕ). Finds (text_field16 IsTarget) (g.S.Faults.left c.args.source.now) text (g.S.Faults.left c.read_text16.new.source))
+    (sym (c.in-Ok.ensures ∙ c.as_slice-2.ensures.value)) (limited_finds _ _ _ IsTarget c.in_ok-text.ensures.read
+    (ap is_link_target (sym c.as_slice.ensures.value) ∙ sym c.if-not-is_link_target.ensures))

@@ -1,0 +1,6 @@
+use Rattle.restore_stream.specs.Streams.{stream_layout}
+use Rattle.restore_stream.proofs.StreamLaws.{read_exactly_from}
+use Rattle.restore_stream.proofs.reading.read_stream.Goals as goal
+
+pub returns-clause-exact : goal.returns-clause-exact
+returns-clause-exact g c = read_exactly_from stream_layout (λ tree. tree) _ _ c.read_parts.result c.read_parts.ensures.read

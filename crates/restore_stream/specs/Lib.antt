@@ -1,0 +1,9 @@
+pub mod Cuts
+pub mod Frames
+pub mod Layouts
+pub mod PieceLaws
+pub mod Reading
+pub mod Sequences
+pub mod Streams
+pub mod Trees
+pub mod Writing
