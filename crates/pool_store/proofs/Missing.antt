@@ -15,11 +15,11 @@ not_full fault (inl disk) full = cc
 not_full fault (inr memory) full = cc
 
 pub missed : (digest_of : List ℕ → List ℕ) (old new : Slots) (told mid told' : Option Files) (digest : List ℕ) (met : Met) (extension : ℕ)
-    (content : List ℕ) (fault : PoolFault) → digest ≡ digest_of content → mid ≡ told → met ≡ Free extension → IsMet old digest told content met
+    (content : List ℕ) (fault : PoolFault) → extension < 65536 → digest ≡ digest_of content → mid ≡ told → met ≡ Free extension → IsMet old digest told content met
     → IsUnstaged old new mid told' (id_of digest extension) → (fault ≡ Disk) ⊎ (fault ≡ Memory)
     → (fault ≡ Memory → IsSame old new × (told' ≡ mid)) → Misses digest_of old new told told' content fault
-missed digest_of old new told mid told' digest met extension content fault same quiet is found unstaged kind memory = record {
-  either = inr (extension,
+missed digest_of old new told mid told' digest met extension content fault near same quiet is found unstaged kind memory = record {
+  either = inr (extension, near,
     subst (λ (d : List ℕ). IsFree old d extension) same free.0,
     subst (λ (d : List ℕ). (all : Files) → told ≡ Some all → AreOthers old d all content 65536) same free.1,
     subst (λ (d : List ℕ). IsUnstaged old new told told' (id_of d extension)) same
