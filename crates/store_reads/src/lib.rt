@@ -1,9 +1,12 @@
 //! The reads of a store at work: what is at a path of a backup, the bytes of a file, the names in a directory. The crate
 //! knows the catalog, the tables of backups and the contents of the pool, and changes no file.
 //!
-//! Its main clause: each event is answered as the model says (`Runs` of `store_parts`), whatever the journal's files hold
-//! of the tables, filled or not. The law file `specs/CatalogLaws` says for other events, too, that the catalog finds the
-//! host and the backup that the model finds; `specs/TreeLaws`, that the tables of backups show their trees.
+//! Its main clause: each event is answered as the model says (`Runs` of `store_parts`), whether the tables of backups are
+//! whole trees or only say what differs from the next newer one. Two law files stand for other events, too:
+//! `specs/CatalogLaws` says that the catalog finds the host and the backup that the model finds, and `specs/TreeLaws`
+//! that the tables of a host's backups show their trees.
+//!
+//! A call at a store at work: `let answer = read_file(&mut parts, alloc, &host, 5, &path)?;`
 //!
 //! | Function | What it answers |
 //! |---|---|

@@ -26,7 +26,7 @@ fn directory_rule(found: Option<&Record>) -> Option<BrokenRule>
 {
     match found {
         Some(Record::Dir(_)) => None,
-        Some(Record::File(_)) | Some(Record::Link(_)) => Some(BrokenRule::NotADirectory),
+        Some(Record::File(_) | Record::Link(_)) => Some(BrokenRule::NotADirectory),
         Some(Record::Deleted) | None => Some(BrokenRule::NoPath),
     }
 }

@@ -22,7 +22,7 @@ fn content_of(found: Option<&Record>) -> Result<Option<PoolId>, BrokenRule>
 {
     match found {
         Some(Record::File(file)) => Ok(file.content),
-        Some(Record::Dir(_)) | Some(Record::Link(_)) => Err(BrokenRule::NotAFile),
+        Some(Record::Dir(_) | Record::Link(_)) => Err(BrokenRule::NotAFile),
         Some(Record::Deleted) | None => Err(BrokenRule::NoPath),
     }
 }
