@@ -18,28 +18,34 @@ pub same_start : (start : ℕ) → start ≡ start + 0
 same_start start = omega arith
 
 module _ (start : ℕ) (fault : ReadStreamFault) where
-  pub mode_refuses : {old : Option (List ℕ)} → Refuses (u32_field (λ mode. mode ≤ 4095)) start old fault → Refuses attr_layout start old fault
+  pub mode_refuses : {old : Option (List ℕ)} → Refuses (u32_field (λ mode. mode ≤ 4095)) start old fault
+      → Refuses attr_layout start old fault
   unfolding attr_layout
   mode_refuses r = seen_refuses _ _ _ (first_refuses _ _ r)
 
-  pub uid_refuses : {old a : Option (List ℕ)} {mode : ℕ} → Finds (u32_field (λ mode. mode ≤ 4095)) old mode a → Refuses (u32_field (λ _. ⊤)) 0 a fault → Refuses attr_layout start old fault
+  pub uid_refuses : {old a : Option (List ℕ)} {mode : ℕ} → Finds (u32_field (λ mode. mode ≤ 4095)) old mode a
+      → Refuses (u32_field (λ _. ⊤)) 0 a fault → Refuses attr_layout start old fault
   unfolding attr_layout
   uid_refuses m r = seen_refuses _ _ _ (then_refuses _ _ m (same_start start) (first_refuses _ _ (limited_refuses _ _ _ _ r)))
 
-  pub gid_refuses : {old a b : Option (List ℕ)} {mode uid : ℕ} → Finds (u32_field (λ mode. mode ≤ 4095)) old mode a → Finds (u32_field (λ _. ⊤)) a uid b
+  pub gid_refuses : {old a b : Option (List ℕ)} {mode uid : ℕ} → Finds (u32_field (λ mode. mode ≤ 4095)) old mode a
+      → Finds (u32_field (λ _. ⊤)) a uid b
       → Refuses (u32_field (λ _. ⊤)) 0 b fault → Refuses attr_layout start old fault
   unfolding attr_layout
   gid_refuses m u r = seen_refuses _ _ _
       (then_refuses _ _ m (same_start start) (then_refuses _ _ u (same_start start) (first_refuses _ _ (limited_refuses _ _ _ _ r))))
 
-  pub mtime_refuses : {old a b c : Option (List ℕ)} {mode uid gid : ℕ} → Finds (u32_field (λ mode. mode ≤ 4095)) old mode a → Finds (u32_field (λ _. ⊤)) a uid b → Finds (u32_field (λ _. ⊤)) b gid c
+  pub mtime_refuses : {old a b c : Option (List ℕ)} {mode uid gid : ℕ} → Finds (u32_field (λ mode. mode ≤ 4095)) old mode a
+      → Finds (u32_field (λ _. ⊤)) a uid b → Finds (u32_field (λ _. ⊤)) b gid c
       → Refuses (i64_field (λ _. ⊤)) 0 c fault → Refuses attr_layout start old fault
   unfolding attr_layout
   mtime_refuses m u g r = seen_refuses _ _ _ (then_refuses _ _ m (same_start start) (then_refuses _ _ u (same_start start)
       (then_refuses _ _ g (same_start start) (first_refuses _ _ (limited_refuses _ _ _ _ r)))))
 
-  pub nanos_refuses : {old a b c d : Option (List ℕ)} {mode uid gid : ℕ} {mtime : ℤ} → Finds (u32_field (λ mode. mode ≤ 4095)) old mode a → Finds (u32_field (λ _. ⊤)) a uid b → Finds (u32_field (λ _. ⊤)) b gid c
-      → Finds (i64_field (λ _. ⊤)) c mtime d → Refuses (u32_field (λ nanos. nanos ≤ 999999999)) start d fault → Refuses attr_layout start old fault
+  pub nanos_refuses : {old a b c d : Option (List ℕ)} {mode uid gid : ℕ} {mtime : ℤ} → Finds (u32_field (λ mode. mode ≤ 4095)) old mode a
+      → Finds (u32_field (λ _. ⊤)) a uid b → Finds (u32_field (λ _. ⊤)) b gid c
+      → Finds (i64_field (λ _. ⊤)) c mtime d → Refuses (u32_field (λ nanos. nanos ≤ 999999999)) start d fault
+      → Refuses attr_layout start old fault
   unfolding attr_layout
   nanos_refuses m u g t r = seen_refuses _ _ _ (then_refuses _ _ m (same_start start) (then_refuses _ _ u (same_start start)
       (then_refuses _ _ g (same_start start) (then_refuses _ _ t (same_start start) r))))
@@ -65,10 +71,12 @@ module _ (start : ℕ) (fault : ReadStreamFault) where
   pub file_attr_refuses : {old : Option (List ℕ)} → Refuses attr_layout start old fault → Refuses file_layout start old fault
   file_attr_refuses r = seen_refuses _ _ _ (first_refuses _ _ r)
 
-  pub group_refuses : {old a : Option (List ℕ)} {attr : Attributes} → Finds attr_layout old attr a → Refuses (u32_field (λ _. ⊤)) 0 a fault → Refuses file_layout start old fault
+  pub group_refuses : {old a : Option (List ℕ)} {attr : Attributes} → Finds attr_layout old attr a
+      → Refuses (u32_field (λ _. ⊤)) 0 a fault → Refuses file_layout start old fault
   group_refuses f r = seen_refuses _ _ _ (then_refuses _ _ f (same_start start) (first_refuses _ _ (limited_refuses _ _ _ _ r)))
 
-  pub size_refuses : {old a b : Option (List ℕ)} {attr : Attributes} {group : ℕ} → Finds attr_layout old attr a → Finds (u32_field (λ _. ⊤)) a group b → Refuses (u64_field (λ _. ⊤)) 0 b fault
+  pub size_refuses : {old a b : Option (List ℕ)} {attr : Attributes} {group : ℕ} → Finds attr_layout old attr a
+      → Finds (u32_field (λ _. ⊤)) a group b → Refuses (u64_field (λ _. ⊤)) 0 b fault
       → Refuses file_layout start old fault
   size_refuses f g r =
       seen_refuses _ _ _ (then_refuses _ _ f (same_start start) (then_refuses _ _ g (same_start start) (limited_refuses _ _ _ _ r)))
@@ -79,11 +87,13 @@ module _ (start : ℕ) (fault : ReadStreamFault) where
   pub link_attr_refuses : {old : Option (List ℕ)} → Refuses attr_layout start old fault → Refuses link_layout start old fault
   link_attr_refuses r = seen_refuses _ _ _ (first_refuses _ _ r)
 
-  pub target_refuses : {old a : Option (List ℕ)} {attr : Attributes} → Finds attr_layout old attr a → Refuses (text_field16 IsTarget) start a fault → Refuses link_layout start old fault
+  pub target_refuses : {old a : Option (List ℕ)} {attr : Attributes} → Finds attr_layout old attr a
+      → Refuses (text_field16 IsTarget) start a fault → Refuses link_layout start old fault
   target_refuses f r = seen_refuses _ _ _ (then_refuses _ _ f (same_start start) r)
 
 pub file_came : {old a b new : Option (List ℕ)} {attr : Attributes} {group size : ℕ} → Finds attr_layout old attr a
-    → Finds (u32_field (λ _. ⊤)) a group b → Finds (u64_field (λ _. ⊤)) b size new → Finds file_layout old (file_made (attr, (group, size))) new
+    → Finds (u32_field (λ _. ⊤)) a group b → Finds (u64_field (λ _. ⊤)) b size new
+    → Finds file_layout old (file_made (attr, (group, size))) new
 file_came f g s = seen_finds _ _ _ _ refl (then_finds _ _ f (then_finds _ _ g s))
 
 pub dir_came : {old new : Option (List ℕ)} {attr : Attributes} → Finds attr_layout old attr new → Finds dir_layout old (dir_made attr) new
@@ -114,12 +124,14 @@ module _ (start : ℕ) (fault : ReadStreamFault) (tree : Tree) where
   unfolding entry_layout
   kind_refuses r = seen_refuses _ _ _ (first_refuses _ _ r)
 
-  pub path_refuses : {old a : Option (List ℕ)} {kind : ℕ} → Finds (u8_field IsKind) old kind a → Refuses (text_field16 (IsNextPath tree)) start a fault
+  pub path_refuses : {old a : Option (List ℕ)} {kind : ℕ} → Finds (u8_field IsKind) old kind a
+      → Refuses (text_field16 (IsNextPath tree)) start a fault
       → Refuses (entry_layout tree) start old fault
   unfolding entry_layout
   path_refuses k r = seen_refuses _ _ _ (then_refuses _ _ k (same_start start) (first_refuses _ _ r))
 
-  pub node_refuses : {old a b : Option (List ℕ)} {kind : ℕ} {path : List ℕ} → Finds (u8_field IsKind) old kind a → Finds (text_field16 (IsNextPath tree)) a path b → Refuses (node_layout kind) start b fault
+  pub node_refuses : {old a b : Option (List ℕ)} {kind : ℕ} {path : List ℕ} → Finds (u8_field IsKind) old kind a
+      → Finds (text_field16 (IsNextPath tree)) a path b → Refuses (node_layout kind) start b fault
       → Refuses (entry_layout tree) start old fault
   unfolding entry_layout
   node_refuses k p r = seen_refuses _ _ _ (then_refuses _ _ k (same_start start) (then_refuses _ _ p (same_start start) r))
@@ -127,16 +139,19 @@ module _ (start : ℕ) (fault : ReadStreamFault) (tree : Tree) where
 -- ---- pieces
 
 module _ (start : ℕ) (fault : ReadStreamFault) (count : ℕ) where
-  pub tag_refuses : {old : Option (List ℕ)} → Refuses (u8_field (λ tag. tag ≡ 68)) start old fault → Refuses (piece_layout count) start old fault
+  pub tag_refuses : {old : Option (List ℕ)} → Refuses (u8_field (λ tag. tag ≡ 68)) start old fault
+      → Refuses (piece_layout count) start old fault
   unfolding piece_layout
   tag_refuses r = seen_refuses _ _ _ (first_refuses _ _ r)
 
-  pub count_refuses : {old a : Option (List ℕ)} {tag : ℕ} → Finds (u8_field (λ tag. tag ≡ 68)) old tag a → Refuses (u32_field (λ n. n ≡ count)) start a fault
+  pub count_refuses : {old a : Option (List ℕ)} {tag : ℕ} → Finds (u8_field (λ tag. tag ≡ 68)) old tag a
+      → Refuses (u32_field (λ n. n ≡ count)) start a fault
       → Refuses (piece_layout count) start old fault
   unfolding piece_layout
   count_refuses t r = seen_refuses _ _ _ (then_refuses _ _ t (same_start start) (first_refuses _ _ r))
 
-  pub piece_refuses : {old a b : Option (List ℕ)} {tag n : ℕ} → n ≡ count → Finds (u8_field (λ tag. tag ≡ 68)) old tag a → Finds (u32_field (λ n. n ≡ count)) a n b
+  pub piece_refuses : {old a b : Option (List ℕ)} {tag n : ℕ} → n ≡ count → Finds (u8_field (λ tag. tag ≡ 68)) old tag a
+      → Finds (u32_field (λ n. n ≡ count)) a n b
       → Refuses (bytes_field_of count (λ _. ⊤)) 0 b fault → Refuses (piece_layout count) start old fault
   unfolding piece_layout
   piece_refuses {b = b} {n = n} is t c r =
@@ -145,8 +160,10 @@ module _ (start : ℕ) (fault : ReadStreamFault) (count : ℕ) where
       seen_refuses _ _ _ (then_refuses _ _ t (same_start start) (then_refuses _ _ c (same_start start) r'))
 
 -- a piece that came
-pub piece_came : {old a b new : Option (List ℕ)} {tag n : ℕ} {bytes : List ℕ} (count : ℕ) → n ≡ count → Finds (u8_field (λ tag. tag ≡ 68)) old tag a
-    → Finds (u32_field (λ n. n ≡ count)) a n b → Finds (bytes_field_of count (λ _. ⊤)) b bytes new → Finds (piece_layout count) old bytes new
+pub piece_came : {old a b new : Option (List ℕ)} {tag n : ℕ} {bytes : List ℕ} (count : ℕ) → n ≡ count
+    → Finds (u8_field (λ tag. tag ≡ 68)) old tag a
+    → Finds (u32_field (λ n. n ≡ count)) a n b → Finds (bytes_field_of count (λ _. ⊤)) b bytes new
+    → Finds (piece_layout count) old bytes new
 unfolding piece_layout
 piece_came {old} {a} {b} {new} {tag} {n} {bytes} count is t c f =
     let is_tag : tag ≡ 68 = (limited_fits _ _ _ _ t).1 in

@@ -23,7 +23,8 @@ use Rattle.restore_stream.specs.Reading.{IfTold, Finds, IsTold, Refuses, IsNoBre
 use Rattle.restore_stream.proofs.ReadingLaws.{taken, told}
 
 -- so few bytes are left that no print of a longer one stands there
-pub none_short : {V : Type 0} (Is : V → Type 0) (print : V → List ℕ) (count : ℕ) (old : Option (List ℕ)) → ((value : V) → Is value → count ≤ length (print value))
+pub none_short : {V : Type 0} (Is : V → Type 0) (print : V → List ℕ) (count : ℕ) (old : Option (List ℕ))
+    → ((value : V) → Is value → count ≤ length (print value))
     → IsShort old count → IfTold old (NoneStands Is print)
 none_short Is print count None long short = tt
 none_short Is print count (Some bytes) long short = record {
@@ -52,12 +53,14 @@ module _ (w : Width) (is : IsFieldWidth w) where
     took = took ∙ ap (λ (bytes : List ℕ). before bytes new) (sym (ap (number_bytes w) n_is ∙ (wide w is).back room len are));
   }
 
-  pub number_short : (start : ℕ) (old : Option (List ℕ)) (fault : ReadStreamFault) → IsNoBreak fault → (fault ≡ F.Ended → IsShort old (byte_len w))
+  pub number_short : (start : ℕ) (old : Option (List ℕ)) (fault : ReadStreamFault) → IsNoBreak fault
+      → (fault ≡ F.Ended → IsShort old (byte_len w))
       → Refuses (limited (IsNumber w) (number_bytes w) (number_once w is) (λ _. ⊤)) start old fault
   unfolding limited field
   number_short start old fault none short =
       no_break (limited (IsNumber w) (number_bytes w) (number_once w is) (λ _. ⊤)) start old fault none
-      (λ e. none_short (IsNumber w) (number_bytes w) (byte_len w) old (λ value fits. let n = (wide w is).len value in omega (arith, n)) (short e))
+      (λ e. none_short (IsNumber w) (number_bytes w) (byte_len w) old (λ value fits. let n = (wide w is).len value in omega (arith, n))
+      (short e))
 
 -- ---- signed numbers
 
@@ -78,7 +81,8 @@ none_signed bytes none = record {
 }
 
 none_told : {V W : Type 0} (Is : V → Type 0) (print : V → List ℕ) (Is' : W → Type 0) (print' : W → List ℕ)
-    → ((bytes : List ℕ) → NoneStands Is print bytes → NoneStands Is' print' bytes) → (old : Option (List ℕ)) → IfTold old (NoneStands Is print)
+    → ((bytes : List ℕ) → NoneStands Is print bytes → NoneStands Is' print' bytes) → (old : Option (List ℕ))
+    → IfTold old (NoneStands Is print)
     → IfTold old (NoneStands Is' print')
 none_told Is print Is' print' f None none = tt
 none_told Is print Is' print' f (Some bytes) none = f bytes none
@@ -89,7 +93,8 @@ signed_told : (start : ℕ) (old : Option (List ℕ)) (fault : ReadStreamFault)
 unfolding limited field
 signed_told start None (F.BadStream offset) refused = tt
 signed_told start (Some bytes) (F.BadStream offset) refused = absurd (refused.why.1.misfit (refused.why.1.is, tt))
-signed_told start old F.Ended refused = none_told (IsNumber w64) (number_bytes w64) (FitsSigned w64) (signed_bytes w64) none_signed old refused
+signed_told start old F.Ended refused = none_told (IsNumber w64) (number_bytes w64) (FitsSigned w64)
+    (signed_bytes w64) none_signed old refused
 signed_told start old F.ReadFault refused = tt
 signed_told start old F.Memory refused = tt
 
@@ -145,7 +150,8 @@ none_text bytes none = record {
   none = λ text rest fits e. none.none (length text) (text ++ rest) fits (e ∙ append_assoc (number_bytes w16 (length text)) text rest);
 }
 
-length_told : (start : ℕ) (old : Option (List ℕ)) (fault : ReadStreamFault) → IsTold number16 start old fault → IsTold text16 start old fault
+length_told : (start : ℕ) (old : Option (List ℕ)) (fault : ReadStreamFault) → IsTold number16 start old fault
+    → IsTold text16 start old fault
 unfolding limited field
 length_told start None (F.BadStream offset) refused = tt
 length_told start (Some bytes) (F.BadStream offset) refused = absurd (refused.why.1.misfit (refused.why.1.is, tt))
@@ -153,7 +159,8 @@ length_told start old F.Ended refused = none_told (IsNumber w16) (number_bytes w
 length_told start old F.ReadFault refused = tt
 length_told start old F.Memory refused = tt
 
-pub length_refuses : (start : ℕ) (old : Option (List ℕ)) (fault : ReadStreamFault) → Refuses number16 start old fault → Refuses text16 start old fault
+pub length_refuses : (start : ℕ) (old : Option (List ℕ)) (fault : ReadStreamFault) → Refuses number16 start old fault
+    → Refuses text16 start old fault
 length_refuses start old fault refused = record { why = length_told start old fault refused.why }
 
 text_told : (start : ℕ) (old middle : Option (List ℕ)) (count : ℕ) (fault : ReadStreamFault) → Finds number16 old count middle
@@ -161,8 +168,10 @@ text_told : (start : ℕ) (old middle : Option (List ℕ)) (count : ℕ) (fault 
 unfolding limited field
 text_told start None middle count (F.BadStream offset) f refused = tt
 text_told start (Some bytes) middle count (F.BadStream offset) f refused =
-    taken (λ (all : List ℕ). IsTold text16 start (Some all) (F.BadStream offset)) (Some bytes) middle (number_bytes w16 count) f.took (λ rest e.
-    let b = told (λ (all : List ℕ). IsTold (bytes_of_length count) start (Some all) (F.BadStream offset)) middle rest e (again middle refused) in
+    taken (λ (all : List ℕ). IsTold text16 start (Some all) (F.BadStream offset)) (Some bytes) middle (number_bytes w16 count) f.took
+    (λ rest e.
+    let b = told (λ (all : List ℕ). IsTold (bytes_of_length count) start (Some all) (F.BadStream offset)) middle rest e
+    (again middle refused) in
     absurd (b.why.1.misfit (b.why.1.is, tt)))
   where
     again : (o : Option (List ℕ)) → IsTold (bytes_of_length count) start o (F.BadStream offset)
@@ -181,7 +190,8 @@ text_told start old middle count F.Ended f refused =
 text_told start old middle count F.ReadFault f refused = tt
 text_told start old middle count F.Memory f refused = tt
 
-pub text_refuses : (start : ℕ) (old middle : Option (List ℕ)) (count n : ℕ) (fault : ReadStreamFault) → n ≡ count → Finds number16 old count middle
+pub text_refuses : (start : ℕ) (old middle : Option (List ℕ)) (count n : ℕ) (fault : ReadStreamFault) → n ≡ count
+    → Finds number16 old count middle
     → Refuses (bytes_of_length n) start middle fault → Refuses text16 start old fault
 text_refuses start old middle count n fault same f refused =
     let r = subst (λ (m : ℕ). Refuses (bytes_of_length m) start middle fault) same refused in
@@ -194,7 +204,8 @@ pub filled_len : (done : ℕ) (room piece : List ℕ) → done ≤ length room �
 filled_len done room piece within len =
     let a : length (take done room) ≡ min done (length room) = length-take done room in
     let a' : length (drop done room) ≡ length room - done = length-drop done room in
-    let b : length (post_of done (length room - done) room) ≡ length (drop done room) - (length room - done) = length-drop (length room - done) (drop done room) in
+    let b : length (post_of done (length room - done) room) ≡ length (drop done room) - (length room - done) = length-drop
+    (length room - done) (drop done room) in
     let c = length-append piece (post_of done (length room - done) room) in
     let d = length-append (take done room) (piece ++ post_of done (length room - done) room) in
     omega (arith, a, a', b, c, d, within, len)
@@ -214,7 +225,8 @@ filled_more done count room piece old now new within len fits so_far more =
         ∙ take-append-add (take done room) (piece ++ post_of done (length room - done) room) count
         ∙ ap (λ (bytes : List ℕ). take done room ++ bytes) (take-append-le count piece (post_of done (length room - done) room) fits)
 
-pub front_short : (count start : ℕ) (old : Option (List ℕ)) (fault : ReadStreamFault) → IsNoBreak fault → (fault ≡ F.Ended → IsShort old count)
+pub front_short : (count start : ℕ) (old : Option (List ℕ)) (fault : ReadStreamFault) → IsNoBreak fault
+    → (fault ≡ F.Ended → IsShort old count)
     → Refuses (bytes_of_length count) start old fault
 unfolding limited field
 front_short count start old fault none short =

@@ -42,7 +42,8 @@ module _ {X : Type 0} where
   order_behind [] tail h = h
   order_behind (e ∷ front) tail h = order_behind front tail h.1
 
-  below_row : (k : List ℕ) (front : List (List ℕ × X)) (row : List ℕ × X) (more : List (List ℕ × X)) → IsBelowAll path_cmp k (front ++ row ∷ more)
+  below_row : (k : List ℕ) (front : List (List ℕ × X)) (row : List ℕ × X) (more : List (List ℕ × X))
+      → IsBelowAll path_cmp k (front ++ row ∷ more)
       → path_cmp k row.0 ≡ Less
   below_row k [] row more h = h.0
   below_row k (e ∷ front) row more h = below_row k front row more h.1
@@ -55,11 +56,13 @@ module _ {X : Type 0} where
       path_cmp_total.antisymm row.0 e.0 ∙ ap ordering_reverse (below_row e.0 front row more h.0) in
       ap (λ r. cond (is_eq r) (Some e.1) (find path_cmp row.0 (front ++ row ∷ more))) greater ∙ found_here front row more h.1
 
-  found_in_front : (q : List ℕ) (front tail : List (List ℕ × X)) → IsBelowAll path_cmp q tail → find path_cmp q (front ++ tail) ≡ find path_cmp q front
+  found_in_front : (q : List ℕ) (front tail : List (List ℕ × X)) → IsBelowAll path_cmp q tail
+      → find path_cmp q (front ++ tail) ≡ find path_cmp q front
   found_in_front q [] tail below = find_below path_cmp path_cmp_total q tail below
   found_in_front q (e ∷ front) tail below = ap (λ o. cond (is_eq (path_cmp q e.0)) (Some e.1) o) (found_in_front q front tail below)
 
-parent_there : (front : Tree) (row : List ℕ × Item) (more : Tree) → IsTree is_dir (front ++ row ∷ more) → (o : Option (List ℕ)) → parent row.0 ≡ o
+parent_there : (front : Tree) (row : List ℕ × Item) (more : Tree) → IsTree is_dir (front ++ row ∷ more) → (o : Option (List ℕ))
+    → parent row.0 ≡ o
     → is_parent_in is_dir front o ≡ true
 parent_there front row more is None e = refl
 parent_there front row more is (Some directory) e =
@@ -69,10 +72,12 @@ parent_there front row more is (Some directory) e =
     let whole : is_dir_at is_dir (front ++ row ∷ more) directory ≡ true = is.parents directory parts.0 (ap is_some here) in
     let less : path_cmp directory row.0 ≡ Less = ap (path_cmp directory) parts.1 ∙ before_below directory parts.0 in
     let behind = order_behind front (row ∷ more) is.in_order in
-    let below : IsBelowAll path_cmp directory (row ∷ more) = (less, below_through path_cmp path_cmp_total directory row.0 more less behind.0) in
+    let below : IsBelowAll path_cmp directory (row ∷ more) =
+    (less, below_through path_cmp path_cmp_total directory row.0 more less behind.0) in
     ap (is_dir_found is_dir) (sym (found_in_front directory front (row ∷ more) below)) ∙ whole
 
-after_there : (front : Tree) (row : List ℕ × Item) (more : Tree) → IsInOrder path_cmp (front ++ row ∷ more) → is_after path_cmp front row.0 ≡ true
+after_there : (front : Tree) (row : List ℕ × Item) (more : Tree) → IsInOrder path_cmp (front ++ row ∷ more)
+    → is_after path_cmp front row.0 ≡ true
 after_there front row more order = step (is_after path_cmp front row.0) refl
   where
     step : (b : Bool) → is_after path_cmp front row.0 ≡ b → is_after path_cmp front row.0 ≡ true
@@ -106,7 +111,8 @@ node_fits (I.Dir dir) is = attr_fits dir.attr is
 node_fits (I.Link link) is =
     let n : length link.target ≤ 4096 = short_target link.target is.1 in (attr_fits link.attr is.0, (omega (arith, n), is.1))
 
-entry_fits : (front : Tree) (row : List ℕ × Item) → IsInRange row → may_follow front row.0 ≡ true → (entry_layout front).Fits (row.0, node_of row.1)
+entry_fits : (front : Tree) (row : List ℕ × Item) → IsInRange row → may_follow front row.0 ≡ true
+    → (entry_layout front).Fits (row.0, node_of row.1)
 unfolding entry_layout seen_as followed_by limited field
 entry_fits front row is may =
     let n : length row.0 ≤ 4096 = short_path row.0 is.path in

@@ -47,7 +47,8 @@ pub take_piece : (bytes : List ℕ) → take (min (length bytes) 65536) bytes �
 take_piece bytes = either (nat_le (length bytes) 65536) refl
   where
     few : length bytes ≤ 65536 → take (min (length bytes) 65536) bytes ≡ take 65536 bytes
-    few h = ap (λ n. take n bytes) ((min_cases (length bytes)).0 h) ∙ take_all (length bytes) bytes (omega arith) ∙ sym (take_all 65536 bytes h)
+    few h = ap (λ n. take n bytes) ((min_cases (length bytes)).0 h) ∙ take_all (length bytes) bytes (omega arith)
+        ∙ sym (take_all 65536 bytes h)
 
     either : (b : Bool) → nat_le (length bytes) 65536 ≡ b → take (min (length bytes) 65536) bytes ≡ take 65536 bytes
     either true e = few (grind (arith, nat_tests))
@@ -87,7 +88,8 @@ pub row_left : (rest : List ℕ) (row : List ℕ × Item) (rows : Tree) (count :
 unfolding frames_left pieces_of
 row_left rest row rows count none =
     ap (λ r. frames_left r (row ∷ rows) count false) none
-    ∙ ap (λ fs. Entry row.0 (node_of row.1) ∷ fs) (append_assoc (map Piece (pieces (bytes_of row.1))) (flat_map row_frames rows) (End count ∷ []))
+    ∙ ap (λ fs. Entry row.0 (node_of row.1) ∷ fs)
+    (append_assoc (map Piece (pieces (bytes_of row.1))) (flat_map row_frames rows) (End count ∷ []))
 
 -- as long as bytes of a file are left, a piece of them comes next
 pub piece_left : (rest : List ℕ) (rows : Tree) (count : ℕ) → 0 < length rest
@@ -136,7 +138,8 @@ row_given rest (r ∷ rows) later row path node more count is_ended all e none s
 -- a piece of some bytes has some, and at most 65,536
 pub piece_fits : (rest front : List ℕ) → 0 < length rest → front ≡ take 65536 rest → (0 < length front) × (length front ≤ 65536)
 piece_fits rest front some is =
-    let n : length front ≡ min 65536 (length rest) = ap length is ∙ length-take 65536 rest in (omega (arith, n, some), omega (arith, n, some))
+    let n : length front ≡ min 65536 (length rest) = ap length is
+    ∙ length-take 65536 rest in (omega (arith, n, some), omega (arith, n, some))
 
 pub no_bytes : (bytes : List ℕ) → length bytes ≤ 0 → bytes ≡ []
 no_bytes [] h = refl

@@ -87,7 +87,8 @@ unfolding pieces_of
 all_pieces size done [] within are = let all = none_fits size done are in (refl, omega (arith, within, all))
 all_pieces size done (p ∷ ps) within are =
     let f = some_fits size done p are.0 in
-    let n : length (concat (done ++ p ∷ [])) ≡ length (concat done) + length p = ap length (concat-snoc done p) ∙ length-append (concat done) p in
+    let n : length (concat (done ++ p ∷ [])) ≡ length (concat done) + length p = ap length (concat-snoc done p)
+    ∙ length-append (concat done) p in
     let rest = all_pieces size (done ++ p ∷ []) ps (omega (arith, n, f.1, f.0)) are.1 in
     let sum : length (concat done) + length p + length (concat ps) ≡ size = omega (arith, n, rest.1) in
     let m = length-append p (concat ps) in
@@ -165,7 +166,8 @@ one_piece {size} {start} {offset} {old} {now} {new} {got} count offset' piece go
     one_print : (n : ℕ) (bytes : List ℕ) → (one_more (piece_layout n)).print (Some bytes) ≡ (piece_layout n).print bytes
     one_print n bytes = refl
 
-    step_print : {layout : Layout (Option (List ℕ))} → layout ≡ one_more (piece_layout count) → layout.print (Some piece) ≡ (piece_layout count).print piece
+    step_print : {layout : Layout (Option (List ℕ))} → layout ≡ one_more (piece_layout count)
+        → layout.print (Some piece) ≡ (piece_layout count).print piece
     step_print e = ap (λ (l : Layout (Option (List ℕ))). l.print (Some piece)) e ∙ one_print count piece
 
 pub piece_stops : {size start offset : ℕ} {old now : Option (List ℕ)} {got : List ℕ} (count : ℕ) (fault : ReadStreamFault)
@@ -180,8 +182,10 @@ piece_stops {size} {start} {offset} {old} {now} {got} count fault read some is r
     (subst (λ (layout : Layout (Option (List ℕ))). Refuses layout offset now fault) (sym step) (seen_refuses _ _ _ refused))
 
 -- all pieces were read: those of their bytes
-pub pieces_read : {size start offset : ℕ} {old now : Option (List ℕ)} {got : List ℕ} → PiecesRead size start offset old now got → size ≤ length got
-    → Finds (pieces_layout size) old (pieces got) now × (offset ≡ start + length ((pieces_layout size).print (pieces got))) × (length got ≡ size)
+pub pieces_read : {size start offset : ℕ} {old now : Option (List ℕ)} {got : List ℕ} → PiecesRead size start offset old now got
+    → size ≤ length got
+    → Finds (pieces_layout size) old (pieces got) now × (offset ≡ start + length ((pieces_layout size).print (pieces got))) ×
+    (length got ≡ size)
 unfolding pieces_layout sequence nothing
 pieces_read {size} {start} {offset} {old} {now} {got} read all =
     let l : length (concat read.items) ≡ length got = ap length read.got_is in
@@ -191,7 +195,8 @@ pieces_read {size} {start} {offset} {old} {now} {got} read all =
     let found : Finds (pieces_layout size) old read.items now = all_read (piece_step size) read.items read.so_far end in
     let are = all_pieces size [] read.items (omega arith) found.fits in
     let is : read.items ≡ pieces got = sym are.0 ∙ ap pieces read.got_is in
-    let no_end : (piece_step size read.items).print None ≡ [] = ap (λ (layout : Layout (Option (List ℕ))). layout.print None) step ∙ nothing_print in
+    let no_end : (piece_step size read.items).print None ≡ [] = ap (λ (layout : Layout (Option (List ℕ))). layout.print None) step
+    ∙ nothing_print in
     let whole = all_print-from (piece_step size) [] read.items ∙ ap (λ bytes. items_print (piece_step size) [] read.items ++ bytes) no_end
     ∙ append-nil (items_print (piece_step size) [] read.items) in (
       subst (λ items. Finds (pieces_layout size) old items now) is found,
@@ -203,7 +208,8 @@ pieces_read {size} {start} {offset} {old} {now} {got} read all =
     nothing_print = refl
 
 -- a piece makes the bytes longer
-pub piece_longer : {now new : Option (List ℕ)} (size count : ℕ) (got piece got' : List ℕ) → length got < size → count ≡ min 65536 (size - length got)
+pub piece_longer : {now new : Option (List ℕ)} (size count : ℕ) (got piece got' : List ℕ) → length got < size
+    → count ≡ min 65536 (size - length got)
     → Finds (piece_layout count) now piece new → got' ≡ got ++ piece → size - length got' < size - length got
 piece_longer size count got piece got' some is f got'_is =
     let p : length piece ≡ count = piece_len count piece f.fits in

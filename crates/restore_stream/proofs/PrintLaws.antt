@@ -26,7 +26,8 @@ piece_bytes : (size : ℕ) (done : List (List ℕ)) (piece : List ℕ) → lengt
     → (piece_step size done).print (Some piece) ≡ frame_bytes (Piece piece)
 unfolding piece_layout seen_as followed_by limited field
 piece_bytes size done piece some =
-    ap (λ (l : Layout (Option (List ℕ))). l.print (Some piece)) (step_more size (min 65536 (size - length (concat done))) done (omega (arith, some)) refl)
+    ap (λ (l : Layout (Option (List ℕ))). l.print (Some piece))
+    (step_more size (min 65536 (size - length (concat done))) done (omega (arith, some)) refl)
 
 pub fewer : (m n l : ℕ) → m ≡ suc l - 65536 → suc l ≤ suc n → m ≤ n
 fewer m n l e h = omega (arith, e, h)
@@ -47,7 +48,8 @@ pieces_bytes_of (suc n) size done (b ∷ bs) h sum =
     let c : length (concat (done ++ take 65536 (b ∷ bs) ∷ [])) ≡ length (concat done) + length (take 65536 (b ∷ bs)) =
     ap length (concat-snoc done (take 65536 (b ∷ bs))) ∙ length-append (concat done) (take 65536 (b ∷ bs)) in
     (λ i. piece_bytes size done (take 65536 (b ∷ bs)) (some (length (concat done)) (length bs) size sum) i
-    ++ pieces_bytes_of n size (done ++ take 65536 (b ∷ bs) ∷ []) (drop 65536 (b ∷ bs)) (fewer _ n (length bs) (length-drop 65536 (b ∷ bs)) h)
+    ++ pieces_bytes_of n size (done ++ take 65536 (b ∷ bs) ∷ []) (drop 65536 (b ∷ bs))
+    (fewer _ n (length bs) (length-drop 65536 (b ∷ bs)) h)
     (sums _ _ _ _ (length bs) size c (length-take 65536 (b ∷ bs)) (length-drop 65536 (b ∷ bs)) sum) i)
 
 pieces_bytes : (bytes : List ℕ) → (pieces_layout (length bytes)).print (pieces bytes) ≡ frames_bytes (map Piece (pieces bytes))
@@ -72,11 +74,13 @@ end_bytes : (front : Tree) → (row_step front).print None ≡ frames_bytes (End
 unfolding row_step end_layout seen_as followed_by limited field
 end_bytes front = sym (append-nil (number_bytes w8 90 ++ number_bytes w32 (length front)))
 
-rows_bytes : (front rows : Tree) → all_print row_step front rows ≡ frames_bytes (flat_map row_frames rows ++ End (length (front ++ rows)) ∷ [])
+rows_bytes : (front rows : Tree)
+    → all_print row_step front rows ≡ frames_bytes (flat_map row_frames rows ++ End (length (front ++ rows)) ∷ [])
 rows_bytes front [] = end_bytes front ∙ ap (λ (t : Tree). frames_bytes (End (length t) ∷ [])) (sym (append-nil front))
 rows_bytes front (row ∷ rows) =
     (λ i. row_bytes front row i ++ rows_bytes (front ++ row ∷ []) rows i)
-    ∙ ap (λ (t : Tree). frames_bytes (row_frames row) ++ frames_bytes (flat_map row_frames rows ++ End (length t) ∷ [])) (append_assoc front (row ∷ []) rows)
+    ∙ ap (λ (t : Tree). frames_bytes (row_frames row) ++ frames_bytes (flat_map row_frames rows ++ End (length t) ∷ []))
+    (append_assoc front (row ∷ []) rows)
     ∙ sym (flat_map-append frame_bytes (row_frames row) (flat_map row_frames rows ++ End (length (front ++ row ∷ rows)) ∷ []))
     ∙ ap frames_bytes (sym (append_assoc (row_frames row) (flat_map row_frames rows) (End (length (front ++ row ∷ rows)) ∷ [])))
 

@@ -33,7 +33,8 @@ module _ {V : Type 0} (Is : V → Type 0) (print : V → List ℕ) (one : IsRead
   limited_finds found p = record { fits = (found.fits.0, p); took = found.took }
 
   -- one that doesn't fit
-  pub misfit_refuses : {start : ℕ} {old new : Option (List ℕ)} {value : V} → Finds (limited Is print one (λ _. ⊤)) old value new → (P value → ⊥)
+  pub misfit_refuses : {start : ℕ} {old new : Option (List ℕ)} {value : V} → Finds (limited Is print one (λ _. ⊤)) old value new
+      → (P value → ⊥)
       → Refuses (limited Is print one P) start old (BadStream start)
   unfolding limited field
   misfit_refuses {start} {old} {new} {value} found misfit = record {
@@ -70,9 +71,11 @@ module _ {V : Type 0} (Is : V → Type 0) (print : V → List ℕ) (one : IsRead
 -- ---- the exits of `?`
 
 pub reads_again : {X V : Type 0} (layout : Layout V) (start : ℕ) (old new : Option (List ℕ)) (view : X → V) (fault : ReadStreamFault)
-    (result : Result X ReadStreamFault) → IsErrAnd result (λ e. e ≡ fault) → Refuses layout start old fault → Reads layout start view old result new
+    (result : Result X ReadStreamFault) → IsErrAnd result (λ e. e ≡ fault) → Refuses layout start old fault
+    → Reads layout start view old result new
 reads_again layout start old new view fault (Ok x) is refused = absurd is
-reads_again layout start old new view fault (Err e) is refused = subst (λ (f : ReadStreamFault). Refuses layout start old f) (sym is) refused
+reads_again layout start old new view fault (Err e) is refused = subst (λ (f : ReadStreamFault). Refuses layout start old f)
+    (sym is) refused
 
 -- a fault that tells nothing of the layout
 pub other_refuses : {V : Type 0} (layout : Layout V) (start : ℕ) (old : Option (List ℕ)) → Refuses layout start old Memory
@@ -85,7 +88,8 @@ module _ {A B : Type 0} (shift : A → ℕ) (first : Layout A) (next : A → Lay
       → IsTold (followed_by shift first next) start old fault
   unfolding followed_by
   first_refused start None (BadStream offset) refused = tt
-  first_refused start (Some bytes) (BadStream offset) refused = record { behind = refused.behind; here = refused.here; why = inl refused.why }
+  first_refused start (Some bytes)
+      (BadStream offset) refused = record { behind = refused.behind; here = refused.here; why = inl refused.why }
   first_refused start None Ended refused = tt
   first_refused start (Some bytes) Ended refused = inl refused
   first_refused start old ReadFault refused = tt
@@ -128,7 +132,8 @@ module _ {A B : Type 0} (shift : A → ℕ) (next : A → Layout B) {first : Lay
 
 -- ---- values of another type
 
-module _ {A W : Type 0} (layout : Layout A) (part : W → Option A) (make : A → W) (made : (w : W) (a : A) → part w ≡ Some a → w ≡ make a) where
+module _ {A W : Type 0} (layout : Layout A) (part : W → Option A) (make : A → W)
+    (made : (w : W) (a : A) → part w ≡ Some a → w ≡ make a) where
   seen_refused : (start : ℕ) (old : Option (List ℕ)) (fault : ReadStreamFault) → IsTold layout start old fault
       → IsTold (seen_as layout part make made) start old fault
   unfolding seen_as
@@ -138,7 +143,8 @@ module _ {A W : Type 0} (layout : Layout A) (part : W → Option A) (make : A �
   seen_refused start old ReadFault refused = tt
   seen_refused start old Memory refused = tt
 
-module _ {A W : Type 0} (part : W → Option A) (make : A → W) (made : (w : W) (a : A) → part w ≡ Some a → w ≡ make a) {layout : Layout A} where
+module _ {A W : Type 0} (part : W → Option A) (make : A → W)
+    (made : (w : W) (a : A) → part w ≡ Some a → w ≡ make a) {layout : Layout A} where
   pub seen_finds : {old new : Option (List ℕ)} {a : A} (w : W) → part w ≡ Some a → Finds layout old a new
       → Finds (seen_as layout part make made) old w new
   unfolding seen_as

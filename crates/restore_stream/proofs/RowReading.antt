@@ -100,7 +100,8 @@ bytes_back (N.File file) bytes len = refl
 bytes_back (N.Dir dir) bytes len = sym (no_bytes bytes len)
 bytes_back (N.Link link) bytes len = sym (no_bytes bytes len)
 
-pub row_came : {old a new : Option (List ℕ)} {path : List ℕ} {node : Node} (bytes : List ℕ) (tree : Tree) (row : List ℕ × Item) (item : Item)
+pub row_came : {old a new : Option (List ℕ)} {path : List ℕ} {node : Node} (bytes : List ℕ) (tree : Tree) (row : List ℕ × Item)
+    (item : Item)
     → row ≡ (path, item) → item ≡ item_of node bytes → length bytes ≡ size_of node → Finds (entry_layout tree) old (path, node) a
     → Finds (pieces_layout (size_of node)) a (pieces bytes) new → Finds (row_layout tree) old row new
 unfolding row_layout
@@ -110,7 +111,8 @@ row_came {old} {a} {new} {path} {node} bytes tree row item row_is item_is len f 
     subst (λ (r : List ℕ × Item). Finds (row_layout tree) old r new) (sym row_is)
     (seen_finds _ _ _ (path, item) (λ i. Some ((path, is_node i), pieces (are_bytes i))) (then_finds _ _ f p))
 
-pub entry_refuses : {start : ℕ} {old : Option (List ℕ)} {fault : ReadStreamFault} (tree : Tree) → Refuses (entry_layout tree) start old fault
+pub entry_refuses : {start : ℕ} {old : Option (List ℕ)} {fault : ReadStreamFault} (tree : Tree)
+    → Refuses (entry_layout tree) start old fault
     → Refuses (row_layout tree) start old fault
 unfolding row_layout
 entry_refuses tree r = seen_refuses _ _ _ (first_refuses _ _ r)
@@ -123,15 +125,18 @@ pieces_refuse tree f here r = seen_refuses _ _ _ (then_refuses _ _ f here r)
 
 pub row_behind : {path : List ℕ} (node : Node) (bytes : List ℕ) (tree : Tree) (row : List ℕ × Item) (item : Item) (start first behind : ℕ)
     → row ≡ (path, item) → item ≡ item_of node bytes → length bytes ≡ size_of node → first ≡ start + (length (entry_bytes (path, node)) + 1)
-    → behind ≡ first + length ((pieces_layout (size_of node)).print (pieces bytes)) → behind ≡ start + (length ((row_layout tree).print row) + 1)
+    → behind ≡ first + length ((pieces_layout (size_of node)).print (pieces bytes))
+    → behind ≡ start + (length ((row_layout tree).print row) + 1)
 unfolding row_layout seen_as followed_by
 row_behind {path} node bytes tree row item start first behind row_is item_is len first_is behind_is =
     let is_node : node_of item ≡ node = ap node_of item_is ∙ node_back node bytes len in
     let are_bytes : bytes_of item ≡ bytes = ap bytes_of item_is ∙ bytes_back node bytes len in
-    let print : (row_layout tree).print row ≡ (entry_layout tree).print (path, node) ++ (pieces_layout (size_of node)).print (pieces bytes) =
+    let print : (row_layout tree).print row ≡ (entry_layout tree).print (path, node) ++ (pieces_layout (size_of node)).print
+    (pieces bytes) =
     ap (row_layout tree).print row_is
     ∙ (λ i. (entry_layout tree).print (path, is_node i) ++ (pieces_layout (size_of (is_node i))).print (pieces (are_bytes i))) in
-    let n = ap length print ∙ length-append ((entry_layout tree).print (path, node)) ((pieces_layout (size_of node)).print (pieces bytes)) in
+    let n = ap length print
+    ∙ length-append ((entry_layout tree).print (path, node)) ((pieces_layout (size_of node)).print (pieces bytes)) in
     let m : length ((entry_layout tree).print (path, node)) ≡ length (entry_bytes (path, node)) = ap length (entry_print tree path node) in
     omega (arith, n, m, first_is, behind_is)
 
@@ -161,7 +166,8 @@ the_end : (tag : ℕ) → IsTag tag → tag ≢ 69 → tag ≡ 90
 the_end tag (inl e) other = absurd (other e)
 the_end tag (inr e) other = e
 
-pub first_tag_refuses : {start : ℕ} {old : Option (List ℕ)} {fault : ReadStreamFault} (tree : Tree) → Refuses (u8_field IsTag) start old fault
+pub first_tag_refuses : {start : ℕ} {old : Option (List ℕ)} {fault : ReadStreamFault} (tree : Tree)
+    → Refuses (u8_field IsTag) start old fault
     → Refuses (row_step tree) start old fault
 unfolding row_step
 first_tag_refuses tree r = seen_refuses _ _ _ (first_refuses _ _ r)
@@ -171,7 +177,8 @@ pub row_next : {old a new : Option (List ℕ)} {tag : ℕ} (tree : Tree) (row : 
 unfolding row_step
 row_next {old} {a} {new} {tag} tree row is t r =
     seen_finds _ _ _ (Some row) (λ i. Some (sym is i, Some row)) (then_finds _ (behind_tag tree) t
-    (subst (λ (l : Layout (Option (List ℕ × Item))). Finds l a (Some row) new) (sym (is_row tree tag is)) (seen_finds _ _ _ (Some row) refl r)))
+    (subst (λ (l : Layout (Option (List ℕ × Item))). Finds l a (Some row) new) (sym (is_row tree tag is))
+    (seen_finds _ _ _ (Some row) refl r)))
 
 pub row_refuses : {start : ℕ} {old a : Option (List ℕ)} {tag : ℕ} {fault : ReadStreamFault} (tree : Tree) → tag ≡ 69
     → Finds (u8_field IsTag) old tag a → Refuses (row_layout tree) start a fault → Refuses (row_step tree) start old fault
@@ -191,11 +198,13 @@ end_next {old} {a} {new} {tag} {n} tree count count_is other t c =
     (seen_finds _ _ _ None (λ i. Some (sym (limited_fits _ _ _ _ c').1 i)) c')))
 
 pub end_refuses : {start : ℕ} {old a : Option (List ℕ)} {tag : ℕ} {fault : ReadStreamFault} (tree : Tree) (count : ℕ) → count ≡ length tree
-    → tag ≢ 69 → Finds (u8_field IsTag) old tag a → Refuses (u32_field (λ m. m ≡ count)) start a fault → Refuses (row_step tree) start old fault
+    → tag ≢ 69 → Finds (u8_field IsTag) old tag a → Refuses (u32_field (λ m. m ≡ count)) start a fault
+    → Refuses (row_step tree) start old fault
 unfolding row_step end_layout
 end_refuses {start} {old} {a} {tag} {fault} tree count count_is other t r =
     let is = the_end tag (limited_fits _ _ _ _ t).1 other in
-    let r' : Refuses (u32_field (λ m. m ≡ length tree)) start a fault = subst (λ k. Refuses (u32_field (λ m. m ≡ k)) start a fault) count_is r in
+    let r' : Refuses (u32_field (λ m. m ≡ length tree)) start a fault = subst
+    (λ k. Refuses (u32_field (λ m. m ≡ k)) start a fault) count_is r in
     seen_refuses _ _ _ (then_refuses _ (behind_tag tree) t (same_start start)
     (subst (λ (l : Layout (Option (List ℕ × Item))). Refuses l start a fault) (sym (is_end tree tag is)) (seen_refuses _ _ _ r')))
 
@@ -237,7 +246,8 @@ unfolding rows_layout
 rows_read {tree = tree} read f = all_read row_step tree read.so_far f
 
 module _ (next : Option ((List ℕ × Item) × ℕ)) (row : List ℕ × Item) (behind : ℕ) (is : next ≡ Some (row, behind)) where
-  pub the_row : {old new : Option (List ℕ)} (tree : Tree) → Finds (row_step tree) old (option_map (λ (m : (List ℕ × Item) × ℕ). m.0) next) new
+  pub the_row : {old new : Option (List ℕ)} (tree : Tree)
+      → Finds (row_step tree) old (option_map (λ (m : (List ℕ × Item) × ℕ). m.0) next) new
       → Finds (row_step tree) old (Some row) new
   the_row {old} {new} tree f = subst (λ n. Finds (row_step tree) old (option_map (λ (m : (List ℕ × Item) × ℕ). m.0) n) new) is f
 

@@ -15,8 +15,11 @@ module _ {A : Type 0} (step : List A → Layout (Option A)) where
   AreItems-snoc : (front items : List A) (x : A) → AreItems step front items → (step (front ++ items)).Fits (Some x)
       → AreItems step front (items ++ x ∷ [])
   AreItems-snoc front [] x are fits = (subst (λ (l : List A). (step l).Fits (Some x)) (append-nil front) fits, tt)
-  AreItems-snoc front (i ∷ is) x are fits =
-      (are.0, AreItems-snoc (front ++ i ∷ []) is x are.1 (subst (λ (l : List A). (step l).Fits (Some x)) (sym (append_assoc front (i ∷ []) is)) fits))
+  AreItems-snoc front (i ∷ is) x are fits = (
+    are.0,
+    AreItems-snoc (front ++ i ∷ []) is x are.1
+        (subst (λ (l : List A). (step l).Fits (Some x)) (sym (append_assoc front (i ∷ []) is)) fits),
+  )
 
   pub print-snoc : (front items : List A) (x : A)
       → items_print step front (items ++ x ∷ []) ≡ items_print step front items ++ (step (front ++ items)).print (Some x)
@@ -24,29 +27,37 @@ module _ {A : Type 0} (step : List A → Layout (Option A)) where
   print-snoc front (i ∷ is) x =
       ap (λ bytes. (step front).print (Some i) ++ bytes) (print-snoc (front ++ i ∷ []) is x)
       ∙ sym (append_assoc ((step front).print (Some i)) (items_print step (front ++ i ∷ []) is) _)
-      ∙ ap (λ l. ((step front).print (Some i) ++ items_print step (front ++ i ∷ []) is) ++ (step l).print (Some x)) (append_assoc front (i ∷ []) is)
+      ∙ ap (λ l. ((step front).print (Some i) ++ items_print step (front ++ i ∷ []) is) ++ (step l).print (Some x))
+      (append_assoc front (i ∷ []) is)
 
   AreAll-from : (front items : List A) → AreItems step front items → (step (front ++ items)).Fits None → AreAll step front items
   AreAll-from front [] are fits = subst (λ (l : List A). (step l).Fits None) (append-nil front) fits
-  AreAll-from front (i ∷ is) are fits =
-      (are.0, AreAll-from (front ++ i ∷ []) is are.1 (subst (λ (l : List A). (step l).Fits None) (sym (append_assoc front (i ∷ []) is)) fits))
+  AreAll-from front (i ∷ is) are fits = (
+    are.0,
+    AreAll-from (front ++ i ∷ []) is are.1
+        (subst (λ (l : List A). (step l).Fits None) (sym (append_assoc front (i ∷ []) is)) fits),
+  )
 
-  pub all_print-from : (front items : List A) → all_print step front items ≡ items_print step front items ++ (step (front ++ items)).print None
+  pub all_print-from : (front items : List A)
+      → all_print step front items ≡ items_print step front items ++ (step (front ++ items)).print None
   all_print-from front [] = ap (λ l. (step l).print None) (sym (append-nil front))
   all_print-from front (i ∷ is) =
       ap (λ bytes. (step front).print (Some i) ++ bytes) (all_print-from (front ++ i ∷ []) is)
       ∙ sym (append_assoc ((step front).print (Some i)) (items_print step (front ++ i ∷ []) is) _)
-      ∙ ap (λ l. ((step front).print (Some i) ++ items_print step (front ++ i ∷ []) is) ++ (step l).print None) (append_assoc front (i ∷ []) is)
+      ∙ ap (λ l. ((step front).print (Some i) ++ items_print step (front ++ i ∷ []) is) ++ (step l).print None)
+      (append_assoc front (i ∷ []) is)
 
   pub none_read : (told_left : Option (List ℕ)) → ReadSoFar step told_left told_left []
   none_read told_left = record { are = tt; took = sym (before_nil told_left) }
 
   -- one more item was read
-  pub more_read : {old now new : Option (List ℕ)} (items : List A) (x : A) → ReadSoFar step old now items → Finds (step items) now (Some x) new
+  pub more_read : {old now new : Option (List ℕ)} (items : List A) (x : A) → ReadSoFar step old now items
+      → Finds (step items) now (Some x) new
       → ReadSoFar step old new (items ++ x ∷ [])
   more_read {old} {now} {new} items x so_far f = record {
     are = AreItems-snoc [] items x so_far.are f.fits;
-    took = so_far.took ∙ ap (before (items_print step [] items)) f.took ∙ sym (before_append (items_print step [] items) ((step items).print (Some x)) new)
+    took = so_far.took ∙ ap (before (items_print step [] items)) f.took
+        ∙ sym (before_append (items_print step [] items) ((step items).print (Some x)) new)
         ∙ ap (λ bytes. before bytes new) (sym (print-snoc [] items x));
   }
 
@@ -56,7 +67,8 @@ module _ {A : Type 0} (step : List A → Layout (Option A)) where
   unfolding sequence
   all_read {old} {now} {new} items so_far f = record {
     fits = AreAll-from [] items so_far.are f.fits;
-    took = so_far.took ∙ ap (before (items_print step [] items)) f.took ∙ sym (before_append (items_print step [] items) ((step items).print None) new)
+    took = so_far.took ∙ ap (before (items_print step [] items)) f.took
+        ∙ sym (before_append (items_print step [] items) ((step items).print None) new)
         ∙ ap (λ bytes. before bytes new) (sym (all_print-from [] items));
   }
 

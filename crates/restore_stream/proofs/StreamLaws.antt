@@ -14,7 +14,8 @@ use Rattle.restore_stream.specs.Streams.{stream_layout}
 use Rattle.restore_stream.proofs.PrintLaws.{stream_print}
 
 module _ {X V : Type 0} (layout : Layout V) (view : X → V) where
-  split : (bytes print : List ℕ) (new : Option (List ℕ)) → Some bytes ≡ before print new → (rest : List ℕ) × (new ≡ Some rest) × (bytes ≡ print ++ rest)
+  split : (bytes print : List ℕ) (new : Option (List ℕ)) → Some bytes ≡ before print new
+      → (rest : List ℕ) × (new ≡ Some rest) × (bytes ≡ print ++ rest)
   split bytes print None e = absurd (let never : Some bytes ≡ None = e in cc)
   split bytes print (Some rest) e = (rest, refl, (let same : Some bytes ≡ Some (print ++ rest) = e in cc))
 
@@ -37,8 +38,10 @@ module _ {X V : Type 0} (layout : Layout V) (view : X → V) where
       let why = read.why.why in
       let here : offset ≡ read.why.behind = omega (arith, read.why.here) in
       record {
-        back = λ value rest fits e. layout.not_broken value rest read.why.behind fits (subst (λ (r : List ℕ). layout.Broken r read.why.behind) (inside e) why);
-        broken = λ other place e b. here ∙ layout.one_offset bytes read.why.behind place why (subst (λ (r : List ℕ). layout.Broken r place) (sym (inside e)) b);
+        back = λ value rest fits e. layout.not_broken value rest read.why.behind fits
+            (subst (λ (r : List ℕ). layout.Broken r read.why.behind) (inside e) why);
+        broken = λ other place e b. here
+            ∙ layout.one_offset bytes read.why.behind place why (subst (λ (r : List ℕ). layout.Broken r place) (sym (inside e)) b);
         cut = λ other e c. layout.not_both bytes read.why.behind why (subst layout.Cut (sym (inside e)) c);
       }
     where
@@ -69,7 +72,8 @@ module _ {X V : Type 0} (layout : Layout V) (view : X → V) where
 
 pub streams_one_way : IsReadOneWay stream_layout.Fits stream_bytes
 streams_one_way = λ a b x y fits_a fits_b e.
-    stream_layout.one_way a b x y fits_a fits_b (ap (λ bytes. bytes ++ x) (stream_print a) ∙ e ∙ ap (λ bytes. bytes ++ y) (sym (stream_print b)))
+    stream_layout.one_way a b x y fits_a fits_b
+    (ap (λ bytes. bytes ++ x) (stream_print a) ∙ e ∙ ap (λ bytes. bytes ++ y) (sym (stream_print b)))
 
 -- a stream that ends before its end is none
 pub no_cut_stream : (tree other : Tree) (front back rest : List ℕ) → stream_layout.Fits tree → stream_layout.Fits other → 0 < length back

@@ -41,9 +41,15 @@ unfolding stream_bytes
 stream_is tree left is = ap (λ fs. magic ++ frames_bytes fs) (sym is)
 
 -- before the first frame the magic was written
-pub written_first : (old now : Option (List ℕ)) (tree rows : Tree) (left : List Frame) → now ≡ behind old magic → left ≡ frames rows → rows ≡ tree
+pub written_first : (old now : Option (List ℕ)) (tree rows : Tree) (left : List Frame) → now ≡ behind old magic → left ≡ frames rows
+    → rows ≡ tree
     → IsWrittenUpTo old now left (stream_bytes tree)
-written_first old now tree rows left wrote is same = record { bytes = magic; wrote = wrote; parts = stream_is tree left (is ∙ ap frames same) }
+written_first old now tree rows left wrote is same = record {
+  bytes = magic;
+  wrote = wrote;
+  parts = stream_is tree left
+      (is ∙ ap frames same);
+}
 
 -- more frames were written
 pub written_more : (old now new : Option (List ℕ)) (left left' : List Frame) (all : List ℕ) → IsWrittenUpTo old now left all
@@ -70,7 +76,8 @@ front_of_all old now new left all so_far went =
 -- a front of the magic was
 pub front_of_magic : (old new : Option (List ℕ)) (tree : Tree) → WroteFront old new magic → WroteFront old new (stream_bytes tree)
 front_of_magic old new tree went =
-    subst (λ bs. WroteFront old new bs) (sym (stream_is tree (frames tree) refl)) (WroteFront-before old new magic (frames_bytes (frames tree)) went)
+    subst (λ bs. WroteFront old new bs) (sym (stream_is tree (frames tree) refl))
+    (WroteFront-before old new magic (frames_bytes (frames tree)) went)
 
 pub nothing_written : (told : Option (List ℕ)) (bytes : List ℕ) → WroteFront told told bytes
 nothing_written told bytes = WroteFront-none told bytes

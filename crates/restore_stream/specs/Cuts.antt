@@ -175,7 +175,8 @@ abbrev pub print_as : {A : Type 0} → (A → List ℕ) → Option A → List �
 print_as print None = []
 print_as print (Some a) = print a
 
-module _ {A W : Type 0} (layout : Layout A) (part : W → Option A) (make : A → W) (made : (w : W) (a : A) → part w ≡ Some a → w ≡ make a) where
+module _ {A W : Type 0} (layout : Layout A) (part : W → Option A) (make : A → W)
+    (made : (w : W) (a : A) → part w ≡ Some a → w ≡ make a) where
   pub seen_one_way : (w v : W) (x y : List ℕ) (m n : Option A) → part w ≡ m → part v ≡ n → FitsAs layout.Fits m → FitsAs layout.Fits n
       → print_as layout.print m ++ x ≡ print_as layout.print n ++ y → (w ≡ v) × (x ≡ y)
   seen_one_way w v x y None n p q fits_w fits_v e = absurd fits_w
@@ -183,7 +184,8 @@ module _ {A W : Type 0} (layout : Layout A) (part : W → Option A) (make : A �
   seen_one_way w v x y (Some a) (Some b) p q fits_w fits_v e =
       let h = layout.one_way a b x y fits_w fits_v e in (made w a p ∙ ap make h.0 ∙ sym (made v b q), h.1)
 
-  pub seen_not_broken : (m : Option A) (rest : List ℕ) (offset : ℕ) → FitsAs layout.Fits m → layout.Broken (print_as layout.print m ++ rest) offset → ⊥
+  pub seen_not_broken : (m : Option A) (rest : List ℕ) (offset : ℕ) → FitsAs layout.Fits m
+      → layout.Broken (print_as layout.print m ++ rest) offset → ⊥
   seen_not_broken None rest offset fits why = fits
   seen_not_broken (Some a) rest offset fits why = layout.not_broken a rest offset fits why
 

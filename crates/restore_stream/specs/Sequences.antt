@@ -66,12 +66,14 @@ module _ {A : Type 0} (step : List A → Layout (Option A)) where
           → (a ≡ b) × (x ≡ y)
       go before [] [] x y fits_a fits_b e = (refl, ((step before).one_way None None x y fits_a fits_b e).1)
       go before [] (b ∷ bs) x y fits_a fits_b e =
-          absurd (not_none b ((step before).one_way None (Some b) x _ fits_a fits_b.0 (e ∙ append_assoc ((step before).print (Some b)) _ y)).0)
+          absurd (not_none b ((step before).one_way None (Some b) x _ fits_a fits_b.0
+          (e ∙ append_assoc ((step before).print (Some b)) _ y)).0)
       go before (a ∷ cs) [] x y fits_a fits_b e =
           absurd (not_none a ((step before).one_way None (Some a) y _ fits_b fits_a.0
           (sym e ∙ append_assoc ((step before).print (Some a)) _ x)).0)
       go before (a ∷ cs) (b ∷ bs) x y fits_a fits_b e =
-          let h = (step before).one_way (Some a) (Some b) (all_print (before ++ a ∷ []) cs ++ x) (all_print (before ++ b ∷ []) bs ++ y) fits_a.0 fits_b.0
+          let h = (step before).one_way (Some a) (Some b) (all_print (before ++ a ∷ []) cs ++ x)
+          (all_print (before ++ b ∷ []) bs ++ y) fits_a.0 fits_b.0
           (sym (append_assoc ((step before).print (Some a)) _ x) ∙ e ∙ append_assoc ((step before).print (Some b)) _ y) in
           let same = same_item a b h.0 in
           let fits' = subst (λ (c : A). AreAll (before ++ c ∷ []) bs) (sym same) fits_b.1 in
@@ -92,7 +94,8 @@ module _ {A : Type 0} (step : List A → Layout (Option A)) where
   not_printed Q none before [] (i ∷ is) more rest fits are e why =
       not_none i ((step before).one_way None (Some i) more _ fits are.0 (e ∙ append_assoc ((step before).print (Some i)) _ rest)).0
   not_printed Q none before (a ∷ cs) (i ∷ is) more rest fits are e why =
-      let h = (step before).one_way (Some a) (Some i) (all_print (before ++ a ∷ []) cs ++ more) (items_print (before ++ i ∷ []) is ++ rest) fits.0 are.0
+      let h = (step before).one_way (Some a) (Some i) (all_print (before ++ a ∷ []) cs ++ more)
+      (items_print (before ++ i ∷ []) is ++ rest) fits.0 are.0
       (sym (append_assoc ((step before).print (Some a)) _ more) ∙ e ∙ append_assoc ((step before).print (Some i)) _ rest) in
       let same = same_item a i h.0 in
       let are' = subst (λ (c : A). AreItems (before ++ c ∷ []) is) (sym same) are.1 in
@@ -114,7 +117,8 @@ module _ {A : Type 0} (step : List A → Layout (Option A)) where
       absurd (no_r before (Some i) (items_print (before ++ i ∷ []) is ++ x) fits_i.0
       (subst (R before) (sym e ∙ append_assoc ((step before).print (Some i)) _ x) here))
   same_stop Q R no_q no_r before (i ∷ is) (j ∷ js) x y fits_i fits_j e q r =
-      let h = (step before).one_way (Some i) (Some j) (items_print (before ++ i ∷ []) is ++ x) (items_print (before ++ j ∷ []) js ++ y) fits_i.0 fits_j.0
+      let h = (step before).one_way (Some i) (Some j) (items_print (before ++ i ∷ []) is ++ x)
+      (items_print (before ++ j ∷ []) js ++ y) fits_i.0 fits_j.0
       (sym (append_assoc ((step before).print (Some i)) _ x) ∙ e ∙ append_assoc ((step before).print (Some j)) _ y) in
       let same = same_item i j h.0 in
       let fits' = subst (λ (c : A). AreItems (before ++ c ∷ []) js) (sym same) fits_j.1 in
@@ -132,19 +136,23 @@ module _ {A : Type 0} (step : List A → Layout (Option A)) where
 
   pub broken_or_cut : (before : List A) (bytes : List ℕ) (offset : ℕ) → BrokenAt before bytes offset → CutAt before bytes → ⊥
   broken_or_cut before bytes offset b c =
-      let h = same_stop (λ done rest. (step done).Broken rest b.behind) (λ done rest. (step done).Cut rest) (no_broken b.behind) no_cut before b.stop.items c.items b.stop.rest c.rest b.stop.are c.are
+      let h = same_stop (λ done rest. (step done).Broken rest b.behind) (λ done rest. (step done).Cut rest)
+      (no_broken b.behind) no_cut before b.stop.items c.items b.stop.rest c.rest b.stop.are c.are
       (sym b.stop.parts ∙ c.parts) b.stop.why c.why in
       (step (before ++ b.stop.items)).not_both b.stop.rest b.behind b.stop.why
-      (subst (λ (is : List A). (step (before ++ is)).Cut b.stop.rest) (sym h.0) (subst (λ (r : List ℕ). (step (before ++ c.items)).Cut r) (sym h.1) c.why))
+      (subst (λ (is : List A). (step (before ++ is)).Cut b.stop.rest) (sym h.0)
+      (subst (λ (r : List ℕ). (step (before ++ c.items)).Cut r) (sym h.1) c.why))
 
   pub broken_once : (before : List A) (bytes : List ℕ) (m n : ℕ) → BrokenAt before bytes m → BrokenAt before bytes n → m ≡ n
   broken_once before bytes m n a b =
-      let h = same_stop (λ done rest. (step done).Broken rest a.behind) (λ done rest. (step done).Broken rest b.behind) (no_broken a.behind) (no_broken b.behind) before a.stop.items b.stop.items a.stop.rest b.stop.rest a.stop.are b.stop.are
+      let h = same_stop (λ done rest. (step done).Broken rest a.behind) (λ done rest. (step done).Broken rest b.behind)
+      (no_broken a.behind) (no_broken b.behind) before a.stop.items b.stop.items a.stop.rest b.stop.rest a.stop.are b.stop.are
       (sym a.stop.parts ∙ b.stop.parts) a.stop.why b.stop.why in
       let why = subst (λ (is : List A). (step (before ++ is)).Broken a.stop.rest b.behind) (sym h.0)
       (subst (λ (r : List ℕ). (step (before ++ b.stop.items)).Broken r b.behind) (sym h.1) b.stop.why) in
       let k = (step (before ++ a.stop.items)).one_offset a.stop.rest a.behind b.behind a.stop.why why in
-      a.here ∙ ap (λ (is : List A). length (items_print before is) + a.behind) h.0 ∙ ap (λ (j : ℕ). length (items_print before b.stop.items) + j) k ∙ sym b.here
+      a.here ∙ ap (λ (is : List A). length (items_print before is) + a.behind) h.0
+      ∙ ap (λ (j : ℕ). length (items_print before b.stop.items) + j) k ∙ sym b.here
 
 -- items up to the one that ends them
 unfoldable pub sequence : {A : Type 0} → (List A → Layout (Option A)) → Layout (List A)
@@ -155,7 +163,8 @@ sequence {A} step = record {
   Cut = CutAt step [];
   one_way = all_one_way step [];
   not_broken = λ all rest offset fits b.
-      not_printed step (λ done r. (step done).Broken r b.behind) (no_broken step b.behind) [] all b.stop.items rest b.stop.rest fits b.stop.are b.stop.parts b.stop.why;
+      not_printed step (λ done r. (step done).Broken r b.behind)
+      (no_broken step b.behind) [] all b.stop.items rest b.stop.rest fits b.stop.are b.stop.parts b.stop.why;
   not_cut = λ all rest fits c.
       not_printed step (λ done r. (step done).Cut r) (no_cut step) [] all c.items rest c.rest fits c.are c.parts c.why;
   not_both = broken_or_cut step [];

@@ -89,7 +89,8 @@ attr_fields =
 -- mode, uid, gid, mtime, nanos
 unfoldable pub attr_layout : Layout Attributes
 attr_layout =
-    seen_as attr_fields (λ attr. Some (attr.mode, (attr.uid, (attr.gid, (attr.mtime, attr.nanos))))) attr_of (λ attr p e. ap attr_of (inside _ _ e))
+    seen_as attr_fields (λ attr. Some (attr.mode, (attr.uid, (attr.gid, (attr.mtime, attr.nanos))))) attr_of
+    (λ attr p e. ap attr_of (inside _ _ e))
 
 abbrev pub file_part : Node → Option (Attributes × (ℕ × ℕ))
 file_part (N.File file) = Some (file.attr, (file.group, file.size))
@@ -199,7 +200,8 @@ row_of p = (p.0.0, item_of p.0.1 (concat p.1))
 
 -- an item is its node and its bytes
 pub item_is : (item : Item) → item ≡ item_of (node_of item) (concat (pieces (bytes_of item)))
-item_is (I.File file) = ap (λ (bytes : List ℕ). I.File (record { attr = file.attr; group = file.group; bytes = bytes })) (sym (concat-pieces file.bytes))
+item_is (I.File file) = ap (λ (bytes : List ℕ). I.File (record { attr = file.attr; group = file.group; bytes = bytes }))
+    (sym (concat-pieces file.bytes))
 item_is (I.Dir dir) = refl
 item_is (I.Link link) = refl
 
@@ -248,5 +250,6 @@ rows_layout = sequence row_step
 -- RST2, the paths, and the end
 unfoldable pub stream_layout : Layout Tree
 stream_layout =
-    seen_as (followed_by (λ (front : List ℕ). 4) (bytes_field_of 4 (λ front. front ≡ magic)) (λ _. rows_layout)) (λ tree. Some (magic, tree)) (λ p. p.1)
+    seen_as (followed_by (λ (front : List ℕ). 4) (bytes_field_of 4 (λ front. front ≡ magic)) (λ _. rows_layout))
+    (λ tree. Some (magic, tree)) (λ p. p.1)
     (λ tree p e. ap (λ q. q.1) (inside _ _ e))

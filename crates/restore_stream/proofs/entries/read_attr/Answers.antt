@@ -35,7 +35,13 @@ returns-in_err-nanos-clause-read g c =
 pub returns-clause-read : goal.returns-clause-read
 returns-clause-read g c =
     attr_came _
-    (c.new.ensures ∙ ap (λ z. record { mode = c.in_ok-mode.mode; uid = c.in_ok-uid.uid; gid = c.in_ok-gid.gid; mtime = z; nanos = c.in_ok-nanos.nanos })
+    (c.new.ensures ∙ ap (λ z. record {
+      mode = c.in_ok-mode.mode;
+      uid = c.in_ok-uid.uid;
+      gid = c.in_ok-gid.gid;
+      mtime = z;
+      nanos = c.in_ok-nanos.nanos;
+    })
     (to_z-of_z w64 c.in_ok-mtime.mtime (limited_fits _ _ _ _ c.in_ok-mtime.ensures.read).0))
     c.in_ok-mode.ensures.read c.in_ok-uid.ensures.read c.in_ok-gid.ensures.read c.in_ok-mtime.ensures.read
     c.in_ok-nanos.ensures.read

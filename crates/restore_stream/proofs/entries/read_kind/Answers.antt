@@ -6,7 +6,8 @@ use Rattle.restore_stream.proofs.entries.read_kind.Goals as goal
 
 pub returns-in_err-kind-clause-read : goal.returns-in_err-kind-clause-read
 returns-in_err-kind-clause-read g c =
-    reads_again (u8_field IsKind) c.args.start _ _ (λ kind. kind) _ _ c.from_residual.ensures.1 (limited_refuses _ _ _ _ c.in_err-kind.ensures.read)
+    reads_again (u8_field IsKind) c.args.start _ _ (λ kind. kind) _ _ c.from_residual.ensures.1
+    (limited_refuses _ _ _ _ c.in_err-kind.ensures.read)
 
 pub returns-then-kind-eq0-clause-read : goal.returns-then-kind-eq0-clause-read
 returns-then-kind-eq0-clause-read g c = misfit_refuses _ _ _ IsKind c.in_ok-kind.ensures.read (λ h. omega (arith, h.0, c.if-kind-eq0.true))

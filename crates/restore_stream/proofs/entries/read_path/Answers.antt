@@ -6,7 +6,8 @@ use Rattle.restore_stream.proofs.entries.read_path.Goals as goal
 
 pub returns-in_err-text-clause-read : goal.returns-in_err-text-clause-read
 returns-in_err-text-clause-read g c =
-    reads_again (text_field16 (IsNextPath c.args.tree.now)) c.args.start _ _ (λ path. path) _ _ c.from_residual.ensures.1 (limited_refuses _ _ _ _ c.in_err-text.ensures.read)
+    reads_again (text_field16 (IsNextPath c.args.tree.now)) c.args.start _ _ (λ path. path) _ _ c.from_residual.ensures.1
+    (limited_refuses _ _ _ _ c.in_err-text.ensures.read)
 
 pub returns-then-not-is_next_path-clause-read : goal.returns-then-not-is_next_path-clause-read
 returns-then-not-is_next_path-clause-read g c = misfit_refuses _ _ _ (IsNextPath c.args.tree.now) c.in_ok-text.ensures.read (λ h.
@@ -14,6 +15,7 @@ returns-then-not-is_next_path-clause-read g c = misfit_refuses _ _ _ (IsNextPath
 
 pub returns-in-Ok-clause-read : goal.returns-in-Ok-clause-read
 returns-in-Ok-clause-read g c =
-    subst (λ (text : List ℕ). Finds (text_field16 (IsNextPath c.args.tree.now)) (g.S.Faults.left c.args.source.now) text (g.S.Faults.left c.read_text16.new.source))
+    subst (λ (text : List ℕ). Finds (text_field16 (IsNextPath c.args.tree.now)) (g.S.Faults.left c.args.source.now) text
+    (g.S.Faults.left c.read_text16.new.source))
     (sym (c.in-Ok.ensures ∙ c.as_slice-2.ensures.value)) (limited_finds _ _ _ (IsNextPath c.args.tree.now) c.in_ok-text.ensures.read
     (subst (IsNextPath c.args.tree.now) c.as_slice.ensures.value (c.if-not-is_next_path.ensures.0 refl)))

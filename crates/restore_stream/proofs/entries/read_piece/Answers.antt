@@ -15,9 +15,11 @@ returns-in_err-read_this_u32-clause-read g c =
 
 pub returns-in-Ok-clause-read : goal.returns-in-Ok-clause-read
 returns-in-Ok-clause-read g c =
-    piece_came _ (limited_fits _ _ _ _ c.in_ok-read_this_u32.ensures.read).1 c.in_ok-read_this_u8.ensures.read c.in_ok-read_this_u32.ensures.read c.in-Ok.ensures.read
+    piece_came _ (limited_fits _ _ _ _ c.in_ok-read_this_u32.ensures.read).1
+    c.in_ok-read_this_u8.ensures.read c.in_ok-read_this_u32.ensures.read c.in-Ok.ensures.read
 
 pub returns-in-Err-clause-read : goal.returns-in-Err-clause-read
 returns-in-Err-clause-read g c =
-    piece_refuses _ _ _ (limited_fits _ _ _ _ c.in_ok-read_this_u32.ensures.read).1 c.in_ok-read_this_u8.ensures.read c.in_ok-read_this_u32.ensures.read
+    piece_refuses _ _ _ (limited_fits _ _ _ _ c.in_ok-read_this_u32.ensures.read).1
+    c.in_ok-read_this_u8.ensures.read c.in_ok-read_this_u32.ensures.read
     c.in-Err.ensures.read

@@ -7,7 +7,8 @@ use Rattle.restore_stream.proofs.entries.read_target.Goals as goal
 
 pub returns-in_err-text-clause-read : goal.returns-in_err-text-clause-read
 returns-in_err-text-clause-read g c =
-    reads_again (text_field16 IsTarget) c.args.start _ _ (λ target. target) _ _ c.from_residual.ensures.1 (limited_refuses _ _ _ _ c.in_err-text.ensures.read)
+    reads_again (text_field16 IsTarget) c.args.start _ _ (λ target. target) _ _ c.from_residual.ensures.1
+    (limited_refuses _ _ _ _ c.in_err-text.ensures.read)
 
 pub returns-then-not-is_link_target-clause-read : goal.returns-then-not-is_link_target-clause-read
 returns-then-not-is_link_target-clause-read g c = misfit_refuses _ _ _ IsTarget c.in_ok-text.ensures.read (λ h.
@@ -15,6 +16,7 @@ returns-then-not-is_link_target-clause-read g c = misfit_refuses _ _ _ IsTarget 
 
 pub returns-in-Ok-clause-read : goal.returns-in-Ok-clause-read
 returns-in-Ok-clause-read g c =
-    subst (λ (text : List ℕ). Finds (text_field16 IsTarget) (g.S.Faults.left c.args.source.now) text (g.S.Faults.left c.read_text16.new.source))
+    subst (λ (text : List ℕ). Finds (text_field16 IsTarget) (g.S.Faults.left c.args.source.now) text
+    (g.S.Faults.left c.read_text16.new.source))
     (sym (c.in-Ok.ensures ∙ c.as_slice-2.ensures.value)) (limited_finds _ _ _ IsTarget c.in_ok-text.ensures.read
     (ap is_link_target (sym c.as_slice.ensures.value) ∙ sym c.if-not-is_link_target.ensures))

@@ -6,10 +6,12 @@ use Rattle.restore_stream.proofs.entries.read_u32_up_to.Goals as goal
 
 pub returns-in_err-n-clause-read : goal.returns-in_err-n-clause-read
 returns-in_err-n-clause-read g c =
-    reads_again (u32_field (λ n. n ≤ c.args.most)) c.args.start _ _ (λ n. n) _ _ c.from_residual.ensures.1 (limited_refuses _ _ _ _ c.in_err-n.ensures.read)
+    reads_again (u32_field (λ n. n ≤ c.args.most)) c.args.start _ _ (λ n. n) _ _ c.from_residual.ensures.1
+    (limited_refuses _ _ _ _ c.in_err-n.ensures.read)
 
 pub returns-then-n-most-clause-read : goal.returns-then-n-most-clause-read
-returns-then-n-most-clause-read g c = misfit_refuses _ _ _ (λ n. n ≤ c.args.most) c.in_ok-n.ensures.read (λ h. omega (arith, h, c.if-n-most.true))
+returns-then-n-most-clause-read g c = misfit_refuses _ _ _ (λ n. n ≤ c.args.most) c.in_ok-n.ensures.read
+    (λ h. omega (arith, h, c.if-n-most.true))
 
 pub returns-clause-read : goal.returns-clause-read
 returns-clause-read g c = limited_finds _ _ _ (λ n. n ≤ c.args.most) c.in_ok-n.ensures.read c.if-n-most.false

@@ -10,7 +10,8 @@ loop-done-preserved g c =
     record {
       in_range = search rules;
       len = len ∙ before.len;
-      told = filled_more c.loop-done.done c.in-Ok.count c.loop-done.room c.read.new.room _ _ _ before.in_range (search rules) c.in-Ok.ensures.fits before.told c.in-Ok.ensures.told;
+      told = filled_more c.loop-done.done c.in-Ok.count c.loop-done.room c.read.new.room _ _ _ before.in_range
+          (search rules) c.in-Ok.ensures.fits before.told c.in-Ok.ensures.told;
       written = c.read.ensures.written ∙ before.written;
       sent = c.read.ensures.sent ∙ before.sent;
       same = search rules;

@@ -6,7 +6,8 @@ use Rattle.restore_stream.proofs.fields.read_text16.Goals as goal
 
 pub returns-in_err-count-clause-read : goal.returns-in_err-count-clause-read
 returns-in_err-count-clause-read g c =
-    reads_again (text_field16 (λ _. ⊤)) 0 _ _ (λ text. text.items) _ _ c.from_residual.ensures.1 (length_refuses 0 _ _ c.in_err-count.ensures.read)
+    reads_again (text_field16 (λ _. ⊤)) 0 _ _ (λ text. text.items) _ _ c.from_residual.ensures.1
+    (length_refuses 0 _ _ c.in_err-count.ensures.read)
 
 pub returns-in_err-text-clause-read : goal.returns-in_err-text-clause-read
 returns-in_err-text-clause-read g c =

@@ -20,5 +20,6 @@ returns-then-not-is_magic-clause-read g c =
 pub returns-clause-read : goal.returns-clause-read
 returns-clause-read g c =
     let is = c.if-not-is_magic.ensures.0 refl in
-    subst (λ (front : List ℕ). Finds (bytes_field_of 4 (λ front. front ≡ magic)) (g.S.Faults.left c.args.source.now) front (g.S.Faults.left c.fill.new.source)) is
+    subst (λ (front : List ℕ). Finds (bytes_field_of 4 (λ front. front ≡ magic)) (g.S.Faults.left c.args.source.now) front
+    (g.S.Faults.left c.fill.new.source)) is
     (limited_finds _ _ _ (λ front. front ≡ magic) (bytes_came 4 _ _ c.fill.new.room (search rules) c.in_ok-fill.ensures.told) is)

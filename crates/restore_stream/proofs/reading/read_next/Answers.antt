@@ -23,7 +23,8 @@ returns-then-tag-eq69-clause-behind g c = next_behind _ _ c.args.start _ c.in_ok
 
 pub returns-in_err-read_this_u32-clause-read : goal.returns-in_err-read_this_u32-clause-read
 returns-in_err-read_this_u32-clause-read g c =
-    reads_again (row_step c.args.tree.now) c.args.start _ _ (λ next. option_map (λ m. m.0) next) _ _ c.from_residual-in_err-read_this_u32.ensures.1
+    reads_again (row_step c.args.tree.now) c.args.start _ _
+    (λ next. option_map (λ m. m.0) next) _ _ c.from_residual-in_err-read_this_u32.ensures.1
     (end_refuses _ c.len.result c.len.ensures.value c.if-tag-eq69.false c.in_ok-tag.ensures.read c.in_err-read_this_u32.ensures.read)
 
 pub returns-clause-read : goal.returns-clause-read

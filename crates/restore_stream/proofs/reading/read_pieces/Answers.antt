@@ -14,11 +14,13 @@ returns-in_err-piece-clause-read g c =
 
 pub loop-alloc-smaller : goal.loop-alloc-smaller
 loop-alloc-smaller g c =
-    piece_longer c.args.size c.piece_len-count.result c.loop-alloc.bytes.items _ _ (search rules) (search rules) c.in_ok-piece.ensures.read (search rules)
+    piece_longer c.args.size c.piece_len-count.result c.loop-alloc.bytes.items _ _ (search rules)
+    (search rules) c.in_ok-piece.ensures.read (search rules)
 
 pub loop-alloc-preserved : goal.loop-alloc-preserved
 loop-alloc-preserved g c = record {
-  read = one_piece c.piece_len-count.result _ _ _ c.loop-alloc.invariant.read (search rules) (search rules) c.in_ok-piece.ensures.read (search rules) (search rules);
+  read = one_piece c.piece_len-count.result _ _ _ c.loop-alloc.invariant.read (search rules) (search rules) c.in_ok-piece.ensures.read
+      (search rules) (search rules);
   written = c.read_piece.ensures.written ∙ c.loop-alloc.invariant.written;
   sent = c.read_piece.ensures.sent ∙ c.loop-alloc.invariant.sent;
   same = search rules;
@@ -26,7 +28,8 @@ loop-alloc-preserved g c = record {
 
 pub returns-clause-read : goal.returns-clause-read
 returns-clause-read g c =
-    subst (λ bytes. Finds (pieces_layout c.args.size) (g.S.Faults.left c.args.source.now) (pieces bytes) (g.S.Faults.left c.loop-alloc.source))
+    subst (λ bytes. Finds (pieces_layout c.args.size) (g.S.Faults.left c.args.source.now) (pieces bytes)
+    (g.S.Faults.left c.loop-alloc.source))
     (sym c.from_vec.ensures) (pieces_read c.loop-alloc.invariant.read (search rules)).0
 
 pub returns-clause-behind : goal.returns-clause-behind

@@ -25,6 +25,8 @@ returns-clause-read g c =
 
 pub returns-clause-behind : goal.returns-clause-behind
 returns-clause-behind g c =
-    row_behind c.in_ok-path.node c.in_ok-bytes.bytes _ c.new.result _ c.args.start c.in_ok-first_piece.first_piece _ c.new.ensures c.item_of.ensures
+    row_behind c.in_ok-path.node c.in_ok-bytes.bytes _ c.new.result _ c.args.start
+    c.in_ok-first_piece.first_piece _ c.new.ensures c.item_of.ensures
     (c.in_ok-bytes.ensures.len ∙ c.size_of.ensures) (first_at _ _ _ c.in_ok-first_piece.ensures.sum c.entry_len.ensures)
-    (c.in_ok-bytes.ensures.behind ∙ ap (λ n. c.in_ok-first_piece.first_piece + length ((pieces_layout n).print (pieces c.in_ok-bytes.bytes))) c.size_of.ensures)
+    (c.in_ok-bytes.ensures.behind
+    ∙ ap (λ n. c.in_ok-first_piece.first_piece + length ((pieces_layout n).print (pieces c.in_ok-bytes.bytes))) c.size_of.ensures)

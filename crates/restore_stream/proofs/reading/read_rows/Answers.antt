@@ -7,7 +7,8 @@ use Rattle.restore_stream.proofs.reading.read_rows.Goals as goal
 
 pub returns-in_err-made-clause-read : goal.returns-in_err-made-clause-read
 returns-in_err-made-clause-read g c =
-    reads_again rows_layout c.args.start _ _ (λ tree. tree) _ _ c.from_residual.ensures.1 (rows_stop c.loop-tree.invariant.read c.in_err-made.ensures.read)
+    reads_again rows_layout c.args.start _ _ (λ tree. tree) _ _ c.from_residual.ensures.1
+    (rows_stop c.loop-tree.invariant.read c.in_err-made.ensures.read)
 
 pub loop-tree-preserved : goal.loop-tree-preserved
 loop-tree-preserved g c = record {

@@ -11,10 +11,12 @@ returns-in_err-tag-clause-read g c =
     (limited_refuses _ _ _ _ c.in_err-tag.ensures.read)
 
 pub returns-then-tag-eq69-clause-read : goal.returns-then-tag-eq69-clause-read
-returns-then-tag-eq69-clause-read g c = limited_finds _ _ _ (λ tag. (tag ≡ 69) ⊎ (tag ≡ 90)) c.in_ok-tag.ensures.read (inl c.if-tag-eq69.true)
+returns-then-tag-eq69-clause-read g c = limited_finds _ _ _ (λ tag. (tag ≡ 69) ⊎ (tag ≡ 90)) c.in_ok-tag.ensures.read
+    (inl c.if-tag-eq69.true)
 
 pub returns-then-tag-eq90-clause-read : goal.returns-then-tag-eq90-clause-read
-returns-then-tag-eq90-clause-read g c = limited_finds _ _ _ (λ tag. (tag ≡ 69) ⊎ (tag ≡ 90)) c.in_ok-tag.ensures.read (inr c.if-tag-eq90.true)
+returns-then-tag-eq90-clause-read g c = limited_finds _ _ _ (λ tag. (tag ≡ 69) ⊎ (tag ≡ 90)) c.in_ok-tag.ensures.read
+    (inr c.if-tag-eq90.true)
 
 pub returns-clause-read : goal.returns-clause-read
 returns-clause-read g c =

@@ -8,10 +8,12 @@ returns-then-self-clause-none c none = ended _ _ _ _ _ c.if-self.true c.self.vie
 
 pub returns-then-self-gt0-clause-next : goal.returns-then-self-gt0-clause-next
 returns-then-self-gt0-clause-next c =
-    piece_given c.self.inside.rest.now _ _ _ _ _ _ c.if-self.false c.if-self-gt0.true (c.in_ok-piece.ensures ∙ c.split_piece.ensures.front) c.split_piece.ensures.behind c.self.view_is
+    piece_given c.self.inside.rest.now _ _ _ _ _ _ c.if-self.false c.if-self-gt0.true
+    (c.in_ok-piece.ensures ∙ c.split_piece.ensures.front) c.split_piece.ensures.behind c.self.view_is
 
 pub returns-in-empty-clause-next : goal.returns-in-empty-clause-next
-returns-in-empty-clause-next c = end_given c.self.inside.rest.now _ _ _ _ c.if-self.false (no_bytes _ c.if-self-gt0.false) (search rules) c.self.view_is
+returns-in-empty-clause-next c = end_given c.self.inside.rest.now _ _ _ _ c.if-self.false (no_bytes _ c.if-self-gt0.false)
+    (search rules) c.self.view_is
 
 pub returns-in_ok-node-in-len1-up-clause-next : goal.returns-in_ok-node-in-len1-up-clause-next
 returns-in_ok-node-in-len1-up-clause-next c =
