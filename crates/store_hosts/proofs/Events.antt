@@ -44,7 +44,7 @@ pub index_here : (hosts items : List Index) (i : ℕ) (index : Index) → items 
 index_here hosts items i index same within is =
     slice_get_read hosts (length hosts) i index refl within (is ∙ ap (λ (l : List Index). get_or l i index) same)
 
--- there is one
+-- there is an index at each place within
 pub some_index : (hosts : List Index) (i : ℕ) → i < length hosts → (index : Index) × (slice_get hosts i ≡ Some index)
 some_index [] i within = absurd (omega (arith, within))
 some_index (index ∷ hosts) zero within = (index, refl)

@@ -112,7 +112,7 @@ backups_counted k [] = refl
 backups_counted k (host ∷ hosts) =
     let here = length-lines host.backups in let rest = backups_counted (suc k) hosts in λ i. here i + rest i
 
--- a host has few lines
+-- a host has at most 2^32 lines
 lines_from : (low next : ℕ) (lines : List Line) → LinesFrom low next lines → low ≤ next → low + length lines ≤ next
 lines_from low next [] are within = omega (arith, within)
 lines_from low next (line ∷ lines) are within =

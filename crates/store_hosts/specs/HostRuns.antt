@@ -1,7 +1,7 @@
--- Events of a store at work that commit a change of hosts alone.
+-- Events of a store at work that commit a change of hosts alone, or no change.
 --     ChangesHosts      the event breaks no rule, and its changes lead to files that stand for the hosts after it
 --     runs_hosts, runs_hosts_refused      the commit was made, or refused
---     runs_no_memory      want of memory
+--     runs_broken, runs_no_memory, runs_known      a rule was broken, memory was wanting, or what is in memory was read
 use Rattle.std.specs.Prelude.{◌≡◌, ℕ, List, Option, Ok, Err}
 use Rattle.std.specs.Result.{IsErrAnd}
 use Rattle.std.proofs.Common.{refl, sym, ◌∙◌, subst}
