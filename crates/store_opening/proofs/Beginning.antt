@@ -1,23 +1,24 @@
 -- How an opening goes, of files that stand for one of two offices.
 use Rattle.std.specs.Prelude.{is_some, ◌⊎◌}
-use Rattle.std.proofs.Common.{◌≡◌, ℕ, ◌+◌, ◌<◌, ◌≤◌, false, List, Option, Some, Result, Ok, Err, refl, sym, ap, ◌∙◌, subst, inl, inr, ⊎_elim, arith}
+use Rattle.std.proofs.Common.{◌≡◌, ℕ, ◌<◌, ◌≤◌, false, List, Option, Err, refl, sym, ap, ◌∙◌, subst, inl, inr}
 use Rattle.disk_trait.specs.declared.ids.FileId.{FileId}
 use Rattle.disk_trait.specs.declared.ids.FileId.TheVariants as F
 use Rattle.disk_trait.specs.declared.disk.Disk.{Ghosts as DiskGhosts}
 use Rattle.disk_trait.specs.Files.{Files}
+use Rattle.disk_trait.specs.Images.{FileSet}
 use Rattle.pool_name.specs.declared.namer.Namer.{Ghosts as NamerGhosts}
 use Rattle.intent_journal.specs.declared.journal.Journal.{Journal}
 use Rattle.journal_view.specs.Found.{IsAlikeBut}
-use Rattle.journal_view.specs.View.{told, uncertain, Quiet, FindsOnly}
+use Rattle.journal_view.specs.View.{uncertain, Quiet, FindsOnly}
 use Rattle.journal_view.specs.ViewLaws.{FindsOnly-each, FindsOnly-then, FindsNow-each, working_finds, Quiet-then}
 use Rattle.pool_changes.specs.Kept.{slots_of}
 use Rattle.pool_store.specs.Opening.{AreFresh}
 use Rattle.office_model.specs.Office.{Office, Names, reopened, last_sequence}
 use Rattle.office_model.specs.Step.{IsPicked}
-use Rattle.office_files.specs.KeptLaws.{stands_kept}
 use Rattle.office_files.specs.Stands.{StandsFor}
 use Rattle.office_catalog.specs.Known.{Known}
 use Rattle.store_parts.specs.Held.{IsEither, IsStored, MayBe}
+use Rattle.store_parts.specs.StoredLaws.{alike_stands}
 use Rattle.store_opening.specs.declared.found.Found.{Found}
 use Rattle.store_opening.specs.declared.fault.OpenRefusal.{OpenRefusal}
 use Rattle.store_opening.specs.declared.fault.OpenRefusal.TheVariants.{Foreign, EpochsSpent, DiskFault, Memory}
@@ -35,39 +36,27 @@ either_of digest_of a b office (inr e) found (inr s) = inr (inr (subst (λ (o : 
 module _ {D : Type 0} {d : DiskGhosts D} (digest_of : List ℕ → List ℕ) (old : Journal D d) (a b : Office)
     (holds : Holds digest_of old a b) where
   -- all is durable, so what is found stands for one of the two
-  alike_either : (new : Journal D d) → Quiet old new → (found : Files) → IsAlikeBut holds.all (uncertain new) found
+  alike_either : (out : FileSet) → ((file : FileId) → out file ≡ false) → (found : Files) → IsAlikeBut holds.all out found
       → IsEither digest_of a b found
-  alike_either new quiet found alike = elim holds.either [ inl s ↦ inl (kept a s) | inr s ↦ inr (kept b s) ]
-    where
-      kept : (office : Office) → StandsFor digest_of holds.all office → StandsFor digest_of found office
-      kept office s = record {
-        index = s.index;
-        backups = s.backups;
-        stands = stands_kept digest_of s.index s.backups holds.all found office alike.metadata
-            (λ id listed. alike.contents (F.Pool id) refl (quiet.certain.each (F.Pool id) (holds.certain.each (F.Pool id) refl))) s.stands;
-      }
+  alike_either out certain found alike = elim holds.either [
+    | inl s ↦ inl (alike_stands digest_of s.index s.backups holds.all found a out (λ id listed. certain (F.Pool id)) s.stands alike)
+    | inr s ↦ inr (alike_stands digest_of s.index s.backups holds.all found b out (λ id listed. certain (F.Pool id)) s.stands alike)
+  ]
 
-  alike_before : (found : Files) → IsAlikeBut holds.all (uncertain old) found → IsEither digest_of a b found
-  alike_before found alike = elim holds.either [ inl s ↦ inl (kept a s) | inr s ↦ inr (kept b s) ]
-    where
-      kept : (office : Office) → StandsFor digest_of holds.all office → StandsFor digest_of found office
-      kept office s = record {
-        index = s.index;
-        backups = s.backups;
-        stands = stands_kept digest_of s.index s.backups holds.all found office alike.metadata
-            (λ id listed. alike.contents (F.Pool id) refl (holds.certain.each (F.Pool id) refl)) s.stands;
-      }
+  certain_before : (file : FileId) → uncertain old file ≡ false
+  certain_before file = holds.certain.each file refl
 
   pub may_still : (new : Journal D d) → old.halted ≡ false → Quiet old new → MayBe digest_of new a b
   may_still new ready quiet = record {
-    each = FindsNow-each (IsAlikeBut holds.all (uncertain new)) (IsEither digest_of a b) new (alike_either new quiet)
+    each = FindsNow-each (IsAlikeBut holds.all (uncertain new)) (IsEither digest_of a b) new
+        (alike_either (uncertain new) (λ file. quiet.certain.each file (certain_before file)))
         (working_finds new holds.all (quiet.halted_same ∙ ready) (quiet.told_same ∙ holds.told_is));
     tells = ap is_some (quiet.told_same ∙ holds.told_is);
   }
 
   pub crash_still : (new : Journal D d) → Quiet old new → FindsOnly old new (MayLeave digest_of a b)
   crash_still new quiet =
-      FindsOnly-each (IsAlikeBut holds.all (uncertain old)) (MayLeave digest_of a b) old new (λ found alike. inl (alike_before found alike))
+      FindsOnly-each (IsAlikeBut holds.all (uncertain old)) (MayLeave digest_of a b) old new (λ found alike. inl (alike_either (uncertain old) certain_before found alike))
       (quiet.crash holds.all holds.told_is)
 
 module _ {D N S : Type 0} {d : DiskGhosts D} (n : NamerGhosts N S) (old : Journal D d) (a b : Office) (holds : Holds n.digest_of old a b)

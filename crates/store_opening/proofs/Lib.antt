@@ -6,3 +6,4 @@ pub mod Beginning
 pub mod Reopening
 pub mod Running
 pub mod Telling
+pub mod Blank

@@ -1,7 +1,6 @@
 -- The office that was found, in its next epoch.
-use Rattle.std.specs.Prelude.{is_some, option_map, map, ◌⊎◌}
-use Rattle.std.proofs.Common.{◌≡◌, ℕ, ◌+◌, ◌<◌, Bool, false, true, List, [], ◌∷◌, suc, Option, None, Some, Result, refl, sym, ap, ◌∙◌, subst, inl, inr, arith}
-use Rattle.std.proofs.lemmas.Bool.{false≢true}
+use Rattle.std.specs.Prelude.{is_some, option_map, map}
+use Rattle.std.proofs.Common.{◌≡◌, ℕ, ◌+◌, false, true, List, [], ◌∷◌, suc, Option, None, Some, Result, refl, sym, ap, ◌∙◌, subst, inl, arith}
 use Rattle.disk_trait.specs.declared.ids.PoolId.{PoolId}
 use Rattle.disk_trait.specs.declared.ids.FileId.{FileId}
 use Rattle.disk_trait.specs.declared.ids.FileId.TheVariants as F
@@ -19,19 +18,15 @@ use Rattle.journal_view.specs.Found.{IsAlikeBut}
 use Rattle.journal_view.specs.View.{told, uncertain, Committed, IsOldOrNew}
 use Rattle.journal_view.specs.ViewLaws.{FindsOnly-each, FindsOnly-still, FindsNow-each, working_finds}
 use Rattle.pool_index.specs.Index.{Index}
-use Rattle.pool_changes.specs.declared.slot.Slot.{Slot}
-use Rattle.pool_changes.specs.declared.slot.Slot.TheVariants.{Live, Staged, Doomed}
-use Rattle.pool_changes.specs.Slots.{is_live}
 use Rattle.pool_changes.specs.Kept.{slots_of}
-use Rattle.pool_changes.specs.Listed.{item_of, index_of}
+use Rattle.pool_changes.specs.Listed.{index_of}
 use Rattle.pool_store.specs.declared.pool.Pool.{Pool}
 use Rattle.pool_store.specs.Fits.{fits_less}
 use Rattle.ref_counts.specs.Stored.{Backup as StoredBackup}
 use Rattle.office_model.specs.Office.{Office, Host, Names, reopened}
 use Rattle.office_model.specs.laws.SoundLaws.{IsSound-closed}
-use Rattle.office_files.specs.KeptLaws.{stands_kept}
 use Rattle.office_files.specs.Layouts.{IsHeadFile}
-use Rattle.office_files.specs.Stands.{names_of, Stands, StandsFor}
+use Rattle.office_files.specs.Stands.{names_of, Stands}
 use Rattle.office_changes.specs.ChangeLaws.{epoch_raised}
 use Rattle.office_catalog.specs.declared.edits.CatalogChange.{CatalogChange}
 use Rattle.office_catalog.specs.Known.{Known, with_epoch}
@@ -39,14 +34,9 @@ use Rattle.office_catalog.specs.Known as K
 use Rattle.office_catalog.specs.Changed.{after, Leads, Proposes}
 use Rattle.office_known.specs.KnownLaws.{indices_from, known_of_office, stands_catalog, head_of_catalog}
 use Rattle.store_parts.specs.Held.{IsEither, IsStored, MayBe}
+use Rattle.store_parts.specs.StoredLaws.{stored_found, either_left}
+use Rattle.store_parts.specs.WriteLaws.{tells_in_kept}
 use Rattle.store_opening.specs.Recovers.{Looks}
-use Rattle.store_opening.proofs.Recovering.{tells_same}
-
-listed_live : (id : PoolId) (slot : Option Slot) → is_some (item_of id slot) ≡ true → is_live slot ≡ true
-listed_live id None e = absurd (false≢true e)
-listed_live id (Some (Live size mark claims)) e = refl
-listed_live id (Some (Staged size claims)) e = absurd (false≢true e)
-listed_live id (Some Doomed) e = absurd (false≢true e)
 
 -- ---- Head alone is changed
 
@@ -101,20 +91,11 @@ module _ (digest_of : List ℕ → List ℕ) (index : Index) (backups : List (Li
 
 module _ {D N S : Type 0} {d : DiskGhosts D} {n : NamerGhosts N S} (journal : Journal D d) (pool : Pool N S n) (catalog : Known)
     (office : Office) (names : Names) (at : IsStored journal pool catalog office names) where
-  -- what is found alike stands for the office
-  pub stored_alike : (found : Files) → IsAlikeBut at.all (uncertain journal) found → StandsFor n.digest_of found office
-  stored_alike found alike = record {
-    index = index_of (slots_of pool.names);
-    backups = at.backups;
-    stands = stands_kept n.digest_of (index_of (slots_of pool.names)) at.backups at.all found office alike.metadata
-        (λ id listed. alike.contents (F.Pool id) refl (at.fits.certain id (listed_live id (slots_of pool.names id) listed))) at.stands;
-  }
-
-  -- and so whatever a crash leaves now
+  -- whatever a crash leaves now stands for the office
   pub stored_may : (other : Office) → MayBe n.digest_of journal office other
   stored_may other = record {
     each = FindsNow-each (IsAlikeBut at.all (uncertain journal)) (IsEither n.digest_of office other) journal
-        (λ found alike. inl (stored_alike found alike)) (working_finds journal at.all at.journal_ready at.told_is);
+        (λ found alike. inl (stored_found journal pool catalog office names at found alike)) (working_finds journal at.all at.journal_ready at.told_is);
     tells = ap is_some at.told_is;
   }
 
@@ -144,7 +125,7 @@ module _ {D N S : Type 0} {d : DiskGhosts D} {n : NamerGhosts N S} (journal : Jo
       backups = at.backups;
       told_is = done ∙ ap (option_map (applied changes)) at.told_is;
       stands = next_stands;
-      tells = tells_same pool.in_one_file (index_of (slots_of pool.names)) at.all (applied changes at.all)
+      tells = tells_in_kept pool.in_one_file (index_of (slots_of pool.names)) at.all (applied changes at.all)
           (head_only changes at.all F.PoolIndex leads.named index_apart)
           (λ byte. head_only changes at.all (F.PoolBucket byte) leads.named (bucket_apart byte)) at.tells;
       fits = fits_less n.digest_of (slots_of pool.names) (slots_of pool.names) (uncertain journal) (uncertain new) at.all
@@ -157,16 +138,9 @@ module _ {D N S : Type 0} {d : DiskGhosts D} {n : NamerGhosts N S} (journal : Jo
       catalog_is = known_is ∙ proposes.after_is ∙ ap (λ (k : Known). with_epoch k (k.epoch + 1)) at.catalog_is;
     }
 
-    either_raised : (found : Files) → IsOldOrNew at.all (uncertain journal) changes found
-        → IsEither n.digest_of office (reopened office) found
-    either_raised found (inl alike) = inl (stored_alike found alike)
-    either_raised found (inr alike) = inr (record {
-      index = index_of (slots_of pool.names);
-      backups = at.backups;
-      stands = stands_kept n.digest_of (index_of (slots_of pool.names)) at.backups (applied changes at.all) found
-          (reopened office) alike.metadata
-          (λ id listed. alike.contents (F.Pool id) refl refl) next_stands;
-    })
+    either_raised : (found : Files) → IsOldOrNew at.all (uncertain journal) changes found → IsEither n.digest_of office (reopened office) found
+    either_raised = either_left journal pool catalog office names at changes (reopened office)
+        (record { index = index_of (slots_of pool.names); backups = at.backups; stands = next_stands })
 
     -- whatever the commit answers
     pub looks_raised : (result : Result (Unit {0}) JournalFault) → Committed journal changes result new

@@ -1,8 +1,7 @@
 -- What the files of a store are found to hold.
-use Rattle.std.specs.Prelude.{is_some, option_map, ◌⊎◌}
-use Rattle.std.proofs.Common.{◌≡◌, ℕ, ◌<◌, Bool, false, true, List, Option, None, Some, refl, sym, ap, ◌∙◌, subst, inl, inr}
+use Rattle.std.specs.Prelude.{is_some, option_map}
+use Rattle.std.proofs.Common.{◌≡◌, ℕ, Bool, false, true, List, Option, None, Some, refl, sym, ap, ◌∙◌, subst, inl, inr}
 use Rattle.std.proofs.lemmas.Bool.{false≢true}
-use Rattle.disk_trait.specs.declared.ids.PoolId.{PoolId}
 use Rattle.disk_trait.specs.declared.ids.FileId.{FileId}
 use Rattle.disk_trait.specs.declared.ids.FileId.TheVariants as F
 use Rattle.disk_trait.specs.declared.disk.Disk.{Ghosts as DiskGhosts}
@@ -12,7 +11,7 @@ use Rattle.intent_journal.specs.declared.journal.Journal.{Journal}
 use Rattle.journal_view.specs.Found.{seen}
 use Rattle.journal_view.specs.FoundLaws.{told_raw}
 use Rattle.journal_view.specs.View.{told, uncertain, Quiet}
-use Rattle.pool_index.specs.Index.{Index, TellsIn, TellsByte, TellsOne, TellsBuckets, TellsIndex}
+use Rattle.pool_index.specs.Index.{Index, TellsIn, TellsIndex}
 use Rattle.pool_changes.specs.declared.slot.Slot.{Slot}
 use Rattle.pool_changes.specs.declared.slot.Slot.TheVariants.{Live, Staged, Doomed}
 use Rattle.pool_changes.specs.Slots.{Slots, is_given, is_live}
@@ -21,7 +20,6 @@ use Rattle.pool_changes.specs.Listed.{index_of}
 use Rattle.pool_store.specs.Opened.{IsFresh, Opens}
 use Rattle.pool_store.specs.Opening.{AreFresh}
 use Rattle.pool_store.specs.Complete.{HaveFiles}
-use Rattle.ref_counts.specs.Stored.{Backup as StoredBackup}
 use Rattle.office_model.specs.Office.{Office}
 use Rattle.office_files.specs.KeptLaws.{tells_kept, listed_held}
 use Rattle.office_files.specs.OneLaws.{one_listing}
@@ -31,6 +29,7 @@ use Rattle.office_catalog.specs.Held.{HoldsCatalog}
 use Rattle.office_known.specs.KnownLaws.{known_of_office, stands_catalog, one_catalog}
 use Rattle.office_pool.specs.FitLaws.{fits_stands}
 use Rattle.store_parts.specs.Held.{IsEither, IsStored}
+use Rattle.store_parts.specs.WriteLaws.{tells_in_kept}
 use Rattle.store_opening.specs.declared.found.Found.{Found}
 use Rattle.store_opening.specs.Strays.{IsStray}
 use Rattle.store_opening.specs.Recovers.{Holds, Recovers}
@@ -52,23 +51,6 @@ pool_calm digest_of raw all office is stands never =
     never w.0 stands.index w.1
     (tells_kept all w.0 (at F.PoolIndex) (λ byte. at (F.PoolBucket byte)) stands.index stands.stands.index_told)
     (λ id listed. ap is_some (at (F.Pool id) ∙ listed_held stands.index all stands.stands.one id listed))
-
-pub tells_same : (in_one_file : Bool) (index : Index) (files image : Files) → image F.PoolIndex ≡ files F.PoolIndex
-    → ((byte : ℕ) → image (F.PoolBucket byte) ≡ files (F.PoolBucket byte)) → TellsIn in_one_file index files
-    → TellsIn in_one_file index image
-tells_same true index files image one each tells = record {
-  items = tells.items;
-  are = tells.are;
-  is = one ∙ tells.is;
-  each = tells.each;
-  none = λ byte within. each byte ∙ tells.none byte within;
-}
-tells_same false index files image one each tells = record {
-  none = one ∙ tells.none;
-  each = λ byte within.
-      let t = tells.each byte within in record { items = t.items; are = t.are; is = each byte ∙ t.is; each = t.each };
-  within = tells.within;
-}
 
 tells_any : (in_one_file : Bool) (index : Index) (files : Files) → TellsIn in_one_file index files → TellsIndex index files
 tells_any true index files tells = inl tells
@@ -108,7 +90,7 @@ module _ {D N S : Type 0} {d : DiskGhosts D} {n : NamerGhosts N S} where
       tells : TellsIn found.pool.in_one_file (index_of slots) all
       tells =
           let at = at_file raw all same in
-          tells_same found.pool.in_one_file (index_of slots) raw all (sym (at F.PoolIndex)) (λ byte. sym (at
+          tells_in_kept found.pool.in_one_file (index_of slots) raw all (sym (at F.PoolIndex)) (λ byte. sym (at
           (F.PoolBucket byte))) opens.tells
 
       index_is : s.index ≡ index_of slots

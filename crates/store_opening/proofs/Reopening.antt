@@ -1,6 +1,6 @@
 -- A journal that was opened again.
-use Rattle.std.specs.Prelude.{is_some, option_map, ⊤, ◌⊎◌}
-use Rattle.std.proofs.Common.{◌≡◌, false, true, ℕ, List, Option, None, Some, Result, Ok, Err, refl, sym, ap, ◌∙◌, subst, inl, inr}
+use Rattle.std.specs.Prelude.{is_some, option_map}
+use Rattle.std.proofs.Common.{◌≡◌, true, ℕ, List, Option, None, Some, Err, refl, sym, subst, inl, inr}
 use Rattle.std.proofs.lemmas.Bool.{false≢true}
 use Rattle.disk_trait.specs.declared.ids.FileId.{FileId}
 use Rattle.disk_trait.specs.declared.disk.Disk.{Ghosts as DiskGhosts}
@@ -11,7 +11,7 @@ use Rattle.intent_journal.specs.declared.journal.Journal.{Journal}
 use Rattle.journal_view.specs.Found.{seen, Finds, FindsAll, CanFind, IsOpenable, Reopened}
 use Rattle.journal_view.specs.FoundLaws.{finds_each, finds_wider}
 use Rattle.journal_view.specs.OpeningLaws.{reopened_has, opens_of, still_has}
-use Rattle.journal_view.specs.View.{told, uncertain, Quiet, FindsOnly}
+use Rattle.journal_view.specs.View.{told, uncertain}
 use Rattle.journal_view.specs.ViewLaws.{seen_some}
 use Rattle.office_model.specs.Office.{Office, reopened}
 use Rattle.store_parts.specs.Held.{IsEither, MayBe}

@@ -1,17 +1,16 @@
 -- A store that was opened again, and the step of the model that it took.
-use Rattle.std.specs.Prelude.{IsErrOf, is_some, nat_le, ◌||◌, ◌⊎◌}
-use Rattle.std.proofs.Common.{◌≡◌, ℕ, ◌+◌, ◌<◌, ◌≤◌, Bool, false, true, List, [], Option, None, Some, Result, Ok, Err, refl, sym, ap, ◌∙◌, subst, inl, inr, arith}
+use Rattle.std.specs.Prelude.{IsErrOf, is_some, nat_le, ◌||◌}
+use Rattle.std.proofs.Common.{◌≡◌, ℕ, ◌+◌, ◌<◌, ◌≤◌, Bool, false, true, List, [], Option, None, Some, Ok, Err, refl, sym, ap, ◌∙◌, subst, inl, inr, arith}
 use Rattle.std.proofs.lemmas.Bool.Decides.{nat_tests}
 use Rattle.fault_counts.specs.Counts.{Counted}
 use Rattle.disk_trait.specs.declared.ids.PoolId.{PoolId}
-use Rattle.disk_trait.specs.declared.ids.FileId.TheVariants as F
 use Rattle.disk_trait.specs.declared.disk.Disk.{Ghosts as DiskGhosts}
 use Rattle.pool_name.specs.declared.namer.Namer.{Ghosts as NamerGhosts}
 use Rattle.intent_journal.specs.declared.journal.Journal.{Journal}
-use Rattle.journal_view.specs.View.{told, uncertain, Quiet, FindsOnly}
+use Rattle.journal_view.specs.View.{told, Quiet, FindsOnly}
 use Rattle.pool_changes.specs.declared.slot.Slot.{Slot}
 use Rattle.pool_changes.specs.declared.slot.Slot.TheVariants.{Live, Staged, Doomed}
-use Rattle.pool_changes.specs.Slots.{Slots, claims_of}
+use Rattle.pool_changes.specs.Slots.{claims_of}
 use Rattle.pool_changes.specs.Kept.{slots_of}
 use Rattle.pool_store.specs.declared.pool.Pool.{Pool}
 use Rattle.pool_store.specs.Opened.{IsFresh}
@@ -19,7 +18,7 @@ use Rattle.pool_store.specs.Opening.{AreFresh}
 use Rattle.backup_views.specs.declared.kept.KeptView.{KeptView}
 use Rattle.ref_counts.specs.Stored.{Backup as StoredBackup}
 use Rattle.open_sessions.specs.declared.sessions.Sessions.{Sessions}
-use Rattle.open_sessions.specs.Opened.{AreSessions, IsDump, IsRestore, claims_in, claims_in_dumps, claims_in_restores}
+use Rattle.open_sessions.specs.Opened.{IsDump, IsRestore, claims_in, claims_in_dumps, claims_in_restores}
 use Rattle.office_catalog.specs.Known.{Known}
 use Rattle.office_files.specs.Pairs.{AtEachPair, no_pairs}
 use Rattle.office_files.specs.Pooled.{contents_of}
@@ -31,17 +30,18 @@ use Rattle.office_model.specs.declared.refusal.BrokenRule.TheVariants.{NumbersSp
 use Rattle.office_model.specs.declared.refusal.Refusal.{Refusal}
 use Rattle.office_model.specs.declared.refusal.Refusal.TheVariants.{Broken, Halted as HaltedReply, DiskFault, Damaged, Memory}
 use Rattle.office_model.specs.Office.{Office, Host, Names, durable, reopened, last_sequence}
-use Rattle.office_model.specs.Meaning.{Carried, Judged, Reply}
-use Rattle.office_model.specs.Step.{State, Running, Halted, IsPicked, IsLeft}
+use Rattle.office_model.specs.Meaning.{Reply}
+use Rattle.office_model.specs.Step.{State, Running, Halted, IsPicked}
 use Rattle.office_model.specs.events.Reopen.{carried}
 use Rattle.store_parts.specs.declared.parts.StoreParts.{StoreParts}
 use Rattle.store_parts.specs.Held.{AreUsed, given, IsStored, IsKeptView, MayBe}
 use Rattle.store_parts.specs.States.{slots, IsRunning, IsHalted, InState}
-use Rattle.store_parts.specs.Runs.{Steps}
+use Rattle.store_parts.specs.Runs.{Steps, Reads}
+use Rattle.store_parts.specs.RunLaws.{running_reads}
 use Rattle.store_opening.specs.declared.found.Found.{Found}
 use Rattle.store_opening.specs.declared.fault.OpenRefusal.{OpenRefusal}
 use Rattle.store_opening.specs.declared.fault.OpenRefusal.TheVariants as O
-use Rattle.store_opening.specs.Begins.{MayLeave, IsPlain, IsSpent, IsBetween, Raised, Begins}
+use Rattle.store_opening.specs.Begins.{MayLeave, IsPlain, Raised, Begins}
 use Rattle.store_opening.specs.Reopens.{reply_of, halts, IsPlainReply, first_of, second_of, with_journal, IsOfFound, Reopened, Goes, Reopens}
 use Rattle.store_opening.specs.Opens.{Opened}
 use Rattle.store_opening.proofs.Raising.{stored_may}
@@ -215,39 +215,17 @@ one_of x office (inr e) = e
 
 module _ {D N S : Type 0} {d : DiskGhosts D} {n : NamerGhosts N S} where
   -- files were read, or made durable
-  running_quiet : (old : StoreParts D N S d n) (journal : Journal D d) (office : Office) (names : Names) → Quiet old.journal journal
-      → IsRunning old office names → IsRunning (with_journal old journal old.halted) office names
-  running_quiet old journal office names quiet at = record {
-    working = record {
-      ready = at.ready;
-      stored = record {
-        journal_ready = quiet.halted_same ∙ at.journal_ready;
-        all = at.all;
-        backups = at.backups;
-        told_is = quiet.told_same ∙ at.told_is;
-        stands = at.stands;
-        tells = at.tells;
-        fits = record {
-          near = at.fits.near;
-          held = at.fits.held;
-          one = at.fits.one;
-          certain = λ id live. quiet.certain.each (F.Pool id) (at.fits.certain id live);
-        };
-        all_used = at.all_used;
-        used = at.used;
-        digest = at.digest;
-        catalog_is = at.catalog_is;
-      };
-      sessions = at.sessions;
-      view = at.view;
-      sound = at.sound;
-    };
-    claimed = at.claimed;
+  reads_of : (old new : StoreParts D N S d n) → new ≡ with_journal old new.journal new.halted → new.halted ≡ old.halted
+      → Quiet old.journal new.journal → Reads old new
+  reads_of old new stays halted quiet = record {
+    quiet = quiet;
+    pool_same = ap (λ (p : StoreParts D N S d n). p.pool) stays;
+    catalog_same = ap (λ (p : StoreParts D N S d n). p.catalog) stays;
+    sessions_same = ap (λ (p : StoreParts D N S d n). p.sessions) stays;
+    halted_same = halted;
+    view = λ office names at.
+        subst (λ (p : StoreParts D N S d n). IsKeptView p.views.kept office.hosts at.backups) (sym stays) at.view;
   }
-
-  same_parts : (old new : StoreParts D N S d n) → new ≡ with_journal old new.journal new.halted → new.halted ≡ old.halted
-      → new ≡ with_journal old new.journal old.halted
-  same_parts old new stays halted = stays ∙ ap (λ (h : Bool). with_journal old new.journal h) halted
 
   may_of : (parts : StoreParts D N S d n) (state : State) → InState parts state
       → MayBe n.digest_of parts.journal (first_of state) (second_of state)
@@ -260,12 +238,11 @@ module _ {D N S : Type 0} {d : DiskGhosts D} {n : NamerGhosts N S} where
       → new.halted ≡ old.halted → (old.journal.halted ≡ false → is_some (told old.journal) ≡ true → Quiet old.journal new.journal)
       → MayBe n.digest_of new.journal (first_of state) (second_of state) → InState new state
   still_in old new (Running office names) at stays halted quiet may =
-      subst (λ (p : StoreParts D N S d n). IsRunning p office names) (sym (same_parts old new stays halted))
-      (running_quiet old new.journal office names (quiet at.journal_ready (ap is_some at.told_is)) at)
+      running_reads old new office names at (reads_of old new stays halted (quiet at.journal_ready (ap is_some at.told_is)))
   still_in old new (Halted a b names) at stays halted quiet may = record {
     stuck = halted ∙ at.stuck;
     may_be = may;
-    used = subst (λ (p : StoreParts D N S d n). AreUsed (slots p) names.used) (sym (same_parts old new stays halted)) at.used;
+    used = subst (λ (p : StoreParts D N S d n). AreUsed (slots p) names.used) (sym stays) at.used;
     digest = at.digest;
   }
 

@@ -1,8 +1,8 @@
 -- Strays among the files that are there.
 use Rattle.std.specs.Prelude.{◌&&◌, ◌||◌, not, is_some, slice_get, if◌then◌else◌}
 use Rattle.std.specs.List.{position_from}
-use Rattle.std.proofs.Common.{◌≡◌, ℕ, ◌+◌, zero, suc, ◌==◌, Bool, true, false, List, [], ◌∷◌, map, Option, None, Some, refl, sym, ap, ◌∙◌, subst, inl, inr, arith}
-use Rattle.std.proofs.lemmas.Bool.{false≢true, true≢false}
+use Rattle.std.proofs.Common.{◌≡◌, ℕ, ◌+◌, zero, suc, ◌==◌, Bool, true, false, List, [], ◌∷◌, Option, None, Some, refl, sym, ap, ◌∙◌, subst, inl, inr}
+use Rattle.std.proofs.lemmas.Bool.{false≢true}
 use Rattle.disk_trait.specs.declared.ids.FileId.{FileId}
 use Rattle.disk_trait.specs.declared.ids.FileId.TheVariants as F
 use Rattle.disk_trait.specs.Names.{is_same_file, same_file, is_same_file-itself}
@@ -11,15 +11,14 @@ use Rattle.backup_index.specs.Index.{Index}
 use Rattle.backup_rules.specs.declared.lines.Line.{Line}
 use Rattle.intent_journal.specs.ChangesLaws.{either}
 use Rattle.journal_view.specs.Found.{ListsSeen, is_seen}
-use Rattle.office_model.specs.Office.{Office, Host, Backup, backup_index}
+use Rattle.office_model.specs.Office.{Office, Host, Backup}
 use Rattle.office_model.specs.Parts.{lines_of}
 use Rattle.office_files.specs.declared.owner.Owner.{Owner}
 use Rattle.office_files.specs.declared.owner.Owner.TheVariants as O
-use Rattle.office_files.specs.Hosts.{index_of_host}
 use Rattle.office_files.specs.Owners.{owner_of, has_backup, is_there, is_called_for}
 use Rattle.office_files.specs.Pooled.{HasNoIndex}
 use Rattle.office_changes.specs.ChangeLaws.{is_of_index}
-use Rattle.office_catalog.specs.Known.{Known, line_numbered}
+use Rattle.office_catalog.specs.Known.{Known}
 use Rattle.office_catalog.specs.Held.{HoldsCatalog}
 use Rattle.office_files.specs.Stands.{StandsFor}
 use Rattle.office_known.specs.KnownLaws.{indices_from, known_of_office, one_catalog}

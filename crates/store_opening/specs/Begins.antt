@@ -1,7 +1,7 @@
 -- What an opening comes to, of files that stand for one of two offices.
 --     MayLeave      what a crash meanwhile leaves: one of the two, or one of them in its next epoch
 --     Begins      how it went
-use Rattle.std.specs.Prelude.{◌≡◌, ◌⊎◌, ◌<◌, ◌≤◌, ℕ, List, Result, Ok, Err}
+use Rattle.std.specs.Prelude.{◌⊎◌, ◌<◌, ◌≤◌, ℕ, List, Result, Ok, Err}
 use Rattle.disk_trait.specs.declared.disk.Disk.{Ghosts as DiskGhosts}
 use Rattle.disk_trait.specs.Files.{Files}
 use Rattle.pool_name.specs.declared.namer.Namer.{Ghosts as NamerGhosts}

@@ -2,7 +2,7 @@
 --     IsOf      each image of the disk stands for one of two offices
 --     Opened      one of them is at work, in its next epoch;  Left      what a disk was left with that wasn't opened
 --     SaysWhy      what a refusal says of a disk
-use Rattle.std.specs.Prelude.{◌≡◌, ◌⊎◌, ◌<◌, ◌≤◌, ℕ, true, List, Option, Some, is_some, option_map}
+use Rattle.std.specs.Prelude.{◌≡◌, ◌⊎◌, ◌<◌, ◌≤◌, ℕ, true, List, Option, is_some, option_map}
 use Rattle.disk_trait.specs.declared.ids.FileId.{FileId}
 use Rattle.disk_trait.specs.declared.ids.FileId.TheVariants.{Intent}
 use Rattle.disk_trait.specs.declared.disk.Disk.{Ghosts as DiskGhosts}

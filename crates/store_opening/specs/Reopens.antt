@@ -3,7 +3,7 @@
 --     Goes      how it went, of a store that a crash would have left with one of two offices
 --     Reopens      it went so, and a refusal changed nothing but what is said here
 --     first_of, second_of      the two offices of a state, of which a crash leaves one
-use Rattle.std.specs.Prelude.{◌≡◌, ◌<◌, ◌+◌, ◌||◌, ℕ, Bool, true, false, List, [], Option, None, Result, Ok, Err, is_some}
+use Rattle.std.specs.Prelude.{◌≡◌, ◌<◌, ◌+◌, Bool, true, false, [], None, Ok, Err, is_some}
 use Rattle.fault_counts.specs.Counts.{Counted}
 use Rattle.disk_trait.specs.declared.disk.Disk.{Ghosts as DiskGhosts}
 use Rattle.pool_name.specs.declared.namer.Namer.{Ghosts as NamerGhosts}

@@ -84,11 +84,7 @@ fn take_over<D: Disk, N: Namer>(parts: &mut StoreParts<D, N>, alloc: Global, fou
 {
     parts.pool = found.pool;
     parts.catalog = found.catalog;
-    parts.sessions = Sessions {
-        dumps: Vec::new(alloc),
-        restores: Vec::new(alloc),
-        sequence: 0,
-    };
+    parts.sessions = Sessions::new(alloc);
     parts.views = Views::new();
     parts.halted = false;
 }

@@ -11,12 +11,14 @@ mod again;
 mod begin;
 mod fault;
 mod found;
+mod laws;
 mod recover;
 mod start;
 mod stray;
 
 pub use again::reopen;
 pub use fault::OpenRefusal;
+pub use laws::disk_without_files_is_blank;
 pub use start::open;
 
 #[cfg(test)]

@@ -60,11 +60,7 @@ fn parts_of<D: Disk, N: Namer>(
         journal,
         pool: found.pool,
         catalog: found.catalog,
-        sessions: Sessions {
-            dumps: Vec::new(alloc),
-            restores: Vec::new(alloc),
-            sequence: 0,
-        },
+        sessions: Sessions::new(alloc),
         views: Views::new(),
         halted: false,
     }

@@ -1,4 +1,3 @@
-use Rattle.std.proofs.Common.{◌∙◌}
 use Rattle.journal_view.specs.ViewLaws.{FindsOnly-then, Quiet-then, seen_some}
 use Rattle.store_opening.specs.Begins.{MayLeave}
 use Rattle.store_opening.proofs.Reopening.{again_holds, again_crash, failed_each, failed_crash, some_files, seen_tells, plain_not, unknown_never, begins_unopened, plain_memory}
