@@ -56,7 +56,8 @@ module _ {D : Type 0} {d : DiskGhosts D} (digest_of : List ℕ → List ℕ) (ol
 
   pub crash_still : (new : Journal D d) → Quiet old new → FindsOnly old new (MayLeave digest_of a b)
   crash_still new quiet =
-      FindsOnly-each (IsAlikeBut holds.all (uncertain old)) (MayLeave digest_of a b) old new (λ found alike. inl (alike_either (uncertain old) certain_before found alike))
+      FindsOnly-each (IsAlikeBut holds.all (uncertain old)) (MayLeave digest_of a b) old new
+      (λ found alike. inl (alike_either (uncertain old) certain_before found alike))
       (quiet.crash holds.all holds.told_is)
 
 module _ {D N S : Type 0} {d : DiskGhosts D} (n : NamerGhosts N S) (old : Journal D d) (a b : Office) (holds : Holds n.digest_of old a b)

@@ -63,11 +63,11 @@ fn epoch_after(
     moment: usize,
     choice: Choice,
 ) -> Result<u64, Fail> {
-    Ok(
-        store_of(alloc, disk.image(alloc, moment, choice)?)?
-            .catalog
-            .epoch(),
-    )
+    if moment > disk.moment() {
+        return Err(Fail::new("a moment to come"));
+    }
+    let parts = store_of(alloc, disk.image(alloc, moment, choice)?)?;
+    Ok(parts.catalog.epoch())
 }
 
 #[test]
