@@ -89,7 +89,7 @@ module _ {D N S : Type 0} {d : DiskGhosts D} {n : NamerGhosts N S} where
         record {
           next = next;
           judged = judged;
-          running = running_let_go old new office next names (λ id. claims_of_dump dump id) at journal catalog views halted
+          running = running_let_go old new office next names (λ id. claims_of_dump dump id) (claims_in old.sessions) at.working at.claimed journal catalog views halted
               (go (abort_enough index dump there office names at)) form
               (λ id. omega (
                 arith,

@@ -3,3 +3,9 @@ pub mod Aborts
 pub mod Hosts
 pub mod Opens
 pub mod Removes
+pub mod Counting
+pub mod Holding
+pub mod Seen
+pub mod Staging
+pub mod Staged
+pub mod Puts

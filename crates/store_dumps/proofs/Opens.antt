@@ -214,7 +214,7 @@ module _ {D N S : Type 0} {d : DiskGhosts D} {n : NamerGhosts N S} where
         record {
           next = next;
           judged = judged;
-          running = running_let_go old new office next names (λ id. 0) at journal catalog views halted
+          running = running_let_go old new office next names (λ id. 0) (claims_in old.sessions) at.working at.claimed journal catalog views halted
               (subst (λ p. LetsGo (λ id. 0) (slots old) (slots_of p.names)) (sym pool) (lets_go_none (slots old) (slots old) (λ id. 0) (λ id. refl)))
               (ap (λ p. p.in_one_file) pool)
               (λ id. omega (arith, claims_opened old.sessions new.sessions old.catalog.epoch place Full now [] session opened id))

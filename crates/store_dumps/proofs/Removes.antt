@@ -15,7 +15,7 @@ use Rattle.stored_trees.specs.ResolvedLaws.{without-resolved}
 use Rattle.stored_trees.specs.Occurrences.{occurrences}
 use Rattle.open_sessions.specs.declared.sessions.OpenDump.{OpenDump}
 use Rattle.open_sessions.specs.declared.sessions.OpenRestore.{OpenRestore}
-use Rattle.open_sessions.specs.Opened.{AreRowsOf, IsDump, IsRestore, claims_of_dump, claims_in_dumps, claims_in_restores}
+use Rattle.open_sessions.specs.Opened.{AreRowsOf, IsDump, IsRestore, claims_of_dump, claims_in, claims_in_dumps, claims_in_restores}
 use Rattle.open_sessions.specs.SessionLaws.{pairs_set, claims_in_dumps-set, claims_in_dumps-remove, occurrences-without, is_some-resolved}
 use Rattle.office_model.specs.declared.answer.Answer.TheVariants.{Done}
 use Rattle.office_model.specs.declared.event.Event.TheVariants.{Remove}
@@ -130,7 +130,7 @@ module _ {D N S : Type 0} {d : DiskGhosts D} {n : NamerGhosts N S} where
           record {
             next = next;
             judged = judged;
-            running = running_let_go old new office next names (λ id. occurrences id (within_rows path dump.tree)) at journal catalog views halted
+            running = running_let_go old new office next names (λ id. occurrences id (within_rows path dump.tree)) (claims_in old.sessions) at.working at.claimed journal catalog views halted
                 (go (enough office names at)) form
                 (λ id. omega (
                   arith,

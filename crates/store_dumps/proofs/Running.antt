@@ -43,7 +43,7 @@ use Rattle.office_files.specs.Stands.{Stands}
 use Rattle.office_known.specs.KnownLaws.{known_of_office}
 use Rattle.store_parts.specs.declared.parts.StoreParts.{StoreParts}
 use Rattle.store_parts.specs.Held.{given, IsKeptView, IsStored}
-use Rattle.store_parts.specs.States.{slots, IsRunning}
+use Rattle.store_parts.specs.States.{slots, IsWorking, IsRunning}
 use Rattle.store_parts.specs.Runs.{MayRecover, Runs, Reads}
 use Rattle.store_parts.specs.RunLaws.{counted_still}
 use Rattle.store_parts.specs.StepLaws.{step_memory, step_refused}
@@ -100,14 +100,15 @@ module _ {D N S : Type 0} {d : DiskGhosts D} {n : NamerGhosts N S} where
       }
 
   -- The new sessions are those of the office by what was given, and each name has lost what they don't claim.
-  pub running_let_go : (old new : StoreParts D N S d n) (office next : Office) (names : Names) (count : PoolId → ℕ) (at : IsRunning old office names)
+  pub running_let_go : (old new : StoreParts D N S d n) (office next : Office) (names : Names) (count total : PoolId → ℕ)
+      (at : IsWorking old office names) → ((id : PoolId) → claims_of (slots old id) ≡ total id)
       → new.journal ≡ old.journal → new.catalog ≡ old.catalog → new.views ≡ old.views → new.halted ≡ old.halted
       → LetsGo count (slots old) (slots new) → new.pool.in_one_file ≡ old.pool.in_one_file
-      → ((id : PoolId) → claims_in new.sessions id + count id ≡ claims_in old.sessions id)
+      → ((id : PoolId) → claims_in new.sessions id + count id ≡ total id)
       → AreSessions (given (slots old)) (contents_of at.all) next new.sessions
       → durable next ≡ durable office → next.hosts ≡ office.hosts → IsSound next → IsRunning new next names
   unfolding stored_let_go
-  running_let_go old new office next names count at journal catalog views halted go form claims sessions same hosts sound = record {
+  running_let_go old new office next names count total at claims_are journal catalog views halted go form claims sessions same hosts sound = record {
     working = record {
       ready = halted ∙ at.ready;
       stored = record {
@@ -136,7 +137,7 @@ module _ {D N S : Type 0} {d : DiskGhosts D} {n : NamerGhosts N S} where
       stored = stored_let_go old.journal old.pool new.pool old.catalog (durable office) names count at.stored go form
 
       claimed : (id : PoolId) → claims_of (slots new id) ≡ claims_in new.sessions id
-      claimed id = omega (arith, (go id).claims, at.claimed id, claims id)
+      claimed id = omega (arith, (go id).claims, claims_are id, claims id)
 
   -- nothing was done
   pub reads_same : (old new : StoreParts D N S d n) → new.journal ≡ old.journal → new.pool ≡ old.pool → new.catalog ≡ old.catalog
@@ -179,7 +180,7 @@ module _ {D N S : Type 0} {d : DiskGhosts D} {n : NamerGhosts N S} where
     steps = λ office names at. record {
       next = Running office names;
       step = step office names at;
-      in_state = running_let_go old new office office names (λ id. 0) at journal catalog views halted
+      in_state = running_let_go old new office office names (λ id. 0) (claims_in old.sessions) at.working at.claimed journal catalog views halted
           (subst (λ (p : Pool N S n). LetsGo (λ id. 0) (slots old) (slots_of p.names)) (sym pool)
           (lets_go_none (slots old) (slots old) (λ id. 0) (λ id. refl)))
           (ap (λ (p : Pool N S n). p.in_one_file) pool)

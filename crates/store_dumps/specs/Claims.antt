@@ -1,10 +1,12 @@
 -- Claims of open sessions on the names of a pool.
 --     LetsGo count old new      so many claims on each name are let go
-use Rattle.std.specs.Prelude.{◌≡◌, ℕ, ◌+◌, ◌<◌, true, Option, is_some}
+--     claims_of_content content id      1 for the content's name
+use Rattle.std.specs.Prelude.{◌≡◌, ℕ, ◌+◌, ◌<◌, true, Option, is_some, if◌then◌else◌}
 use Rattle.disk_trait.specs.declared.ids.PoolId.{PoolId}
 use Rattle.pool_changes.specs.declared.slot.Slot.{Slot}
 use Rattle.pool_changes.specs.Slots.{Slots, is_given, size_of, claims_of}
 use Rattle.pool_changes.specs.Listed.{item_of}
+use Rattle.stored_trees.specs.Occurrences.{is_content}
 
 -- So many claims on a name are let go: if it is live it stays so, if it is still claimed it stays given, and it stays used.
 pub record Loses (count : ℕ) (id : PoolId) (old new : Option Slot) : Type 0 where
@@ -18,3 +20,7 @@ pub record Loses (count : ℕ) (id : PoolId) (old new : Option Slot) : Type 0 wh
 -- so many claims on each name
 abbrev pub LetsGo : (PoolId → ℕ) → (old new : Slots) → Type 0
 LetsGo count old new = (id : PoolId) → Loses (count id) id (old id) (new id)
+
+-- 1 for the name of a content, if there is one
+abbrev pub claims_of_content : Option PoolId → PoolId → ℕ
+claims_of_content content id = if is_content id content then 1 else 0

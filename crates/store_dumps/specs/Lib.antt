@@ -2,3 +2,4 @@ pub mod Claims
 pub mod ClaimLaws
 pub mod Alike
 pub mod Opening
+pub mod Putting

@@ -8,7 +8,7 @@ ghost use Rattle.pool_changes.specs.Kept.{slots_of};
 ghost use Rattle.pool_changes.specs.Slots.{claims_of};
 ghost use Rattle.open_sessions.specs.Opened.{claims_of_dump};
 ghost use Rattle.open_sessions.specs.SessionLaws.{node_occurrences};
-ghost use Rattle.store_dumps.specs.Claims.{LetsGo};
+ghost use Rattle.store_dumps.specs.Claims.{LetsGo, claims_of_content};
 
 use attr_tables::{Record, Row};
 use disk_trait::PoolId;
@@ -30,7 +30,7 @@ fn claims<N: Namer>(pool: &Pool<N>, id: PoolId) -> u64
 }
 
 /// Lets go a claim on a content, if there is one.
-pub(crate) fn release_id<N: Namer>(pool: &mut Pool<N>, id: PoolId)
+fn release_id<N: Namer>(pool: &mut Pool<N>, id: PoolId)
     ensures go { 0 < claims_of (slots_of pool.old.names id)
         → LetsGo (λ other. if is_same_id id other then 1 else 0) (slots_of pool.old.names) (slots_of pool.new.names) }
     ensures form { pool.new.in_one_file ≡ pool.old.in_one_file }
@@ -40,17 +40,26 @@ pub(crate) fn release_id<N: Namer>(pool: &mut Pool<N>, id: PoolId)
     }
 }
 
+/// Lets go a claim on a content, if one is named.
+pub(crate) fn release<N: Namer>(pool: &mut Pool<N>, content: Option<PoolId>)
+    ensures go { ((id : PoolId) → claims_of_content content id ≤ claims_of (slots_of pool.old.names id))
+        → LetsGo (λ id. claims_of_content content id) (slots_of pool.old.names) (slots_of pool.new.names) }
+    ensures form { pool.new.in_one_file ≡ pool.old.in_one_file }
+{
+    match content {
+        Some(id) => release_id(pool, id),
+        None => {}
+    }
+}
+
 /// Lets go the claim on the content that a node names, if it names one.
-pub(crate) fn release_node<N: Namer>(pool: &mut Pool<N>, node: &Record)
+fn release_node<N: Namer>(pool: &mut Pool<N>, node: &Record)
     ensures go { ((id : PoolId) → node_occurrences id node.now ≤ claims_of (slots_of pool.old.names id))
         → LetsGo (λ id. node_occurrences id node.now) (slots_of pool.old.names) (slots_of pool.new.names) }
     ensures form { pool.new.in_one_file ≡ pool.old.in_one_file }
 {
     match node {
-        Record::File(file) => match file.content {
-            Some(id) => release_id(pool, id),
-            None => {}
-        },
+        Record::File(file) => release(pool, file.content),
         Record::Dir(_) => {}
         Record::Link(_) => {}
         Record::Deleted => {}

@@ -7,6 +7,7 @@
 //! | Function | What it does |
 //! |---|---|
 //! | [`open_dump_full`] | opens a full dump of a host |
+//! | [`put`] | puts a node at a path of its tree |
 //! | [`remove`] | takes a path and all below it out of its tree |
 //! | [`abort`] | drops an open dump, and lets go its claims |
 #![tactic(auto)]
@@ -14,8 +15,10 @@
 mod aborting;
 mod claims;
 mod opening;
+mod putting;
 mod removing;
 
 pub use aborting::abort;
 pub use opening::open_dump_full;
+pub use putting::put;
 pub use removing::remove;
