@@ -76,7 +76,8 @@ module _ {D N S : Type 0} {d : DiskGhosts D} {n : NamerGhosts N S} where
     pub runs_aborted : (new : StoreParts D N S d n) (index : ℕ) (dump : OpenDump) → Some index ≡ place_of old.sessions.dumps.items session
         → slice_get old.sessions.dumps.items index ≡ Some dump → new.journal ≡ old.journal → new.catalog ≡ old.catalog
         → new.views ≡ old.views → new.halted ≡ old.halted
-        → (((id : PoolId) → claims_of_dump dump id ≤ claims_of (slots old id)) → LetsGo (λ id. claims_of_dump dump id) (slots old) (slots new))
+        → (((id : PoolId) → claims_of_dump dump id ≤ claims_of (slots old id))
+        → LetsGo (λ id. claims_of_dump dump id) (slots old) (slots new))
         → new.pool.in_one_file ≡ old.pool.in_one_file → new.sessions.dumps.items ≡ remove old.sessions.dumps.items index
         → new.sessions.restores.items ≡ old.sessions.restores.items → new.sessions.sequence ≡ old.sessions.sequence
         → Runs old (Abort session) (Ok Done) new
@@ -89,7 +90,8 @@ module _ {D N S : Type 0} {d : DiskGhosts D} {n : NamerGhosts N S} where
         record {
           next = next;
           judged = judged;
-          running = running_let_go old new office next names (λ id. claims_of_dump dump id) (claims_in old.sessions) at.working at.claimed journal catalog views halted
+          running = running_let_go old new office next names (λ id. claims_of_dump dump id)
+              (claims_in old.sessions) at.working at.claimed journal catalog views halted
               (go (abort_enough index dump there office names at)) form
               (λ id. omega (
                 arith,
@@ -98,9 +100,12 @@ module _ {D N S : Type 0} {d : DiskGhosts D} {n : NamerGhosts N S} where
                 claims_in_dumps-remove old.sessions.dumps.items id index dump there,
               ))
               (record {
-                dumps = subst (λ (items : List OpenDump). AtEachPair (λ i. IsDump (given (slots old)) (contents_of at.all)) (remove office.dumps index) items)
-                    (sym dumps) (pairs_remove (IsDump (given (slots old)) (contents_of at.all)) office.dumps old.sessions.dumps.items at.sessions.dumps index);
-                restores = subst (λ (items : List OpenRestore). AtEachPair (λ i. IsRestore (given (slots old)) (contents_of at.all)) office.restores items)
+                dumps = subst (λ (items : List OpenDump). AtEachPair (λ i. IsDump (given (slots old)) (contents_of at.all))
+                    (remove office.dumps index) items)
+                    (sym dumps) (pairs_remove (IsDump (given (slots old))
+                    (contents_of at.all)) office.dumps old.sessions.dumps.items at.sessions.dumps index);
+                restores = subst (λ (items : List OpenRestore). AtEachPair
+                    (λ i. IsRestore (given (slots old)) (contents_of at.all)) office.restores items)
                     (sym restores) at.sessions.restores;
                 sequence = sequence ∙ at.sessions.sequence;
               })

@@ -130,7 +130,13 @@ module _ (digest : List ℕ) where
     fewer : (n : ℕ) (some : List PoolId) → count_by (below n) some ≤ count_by has_digest some
     fewer n [] = omega arith
     fewer n (id ∷ some) =
-        omega (arith, one (below n) id some, one has_digest id some, fewer n some, least (bytes_eq id.digest digest) (nat_lt id.extension n))
+        omega (
+          arith,
+          one (below n) id some,
+          one has_digest id some,
+          fewer n some,
+          least (bytes_eq id.digest digest) (nat_lt id.extension n),
+        )
       where
         least : (b c : Bool) → bit (b && c) ≤ bit b
         least true true = omega arith

@@ -77,7 +77,8 @@ module _ (contents : PoolId → List ℕ) where
       → is_content (resolved_item contents node) (contents id) ≡ true
   node_has id (File file) some e = named file.content e
     where
-      named : (content : Option PoolId) → is_id id content ≡ true → is_same_content (contents id) (some_bytes (bytes_of contents content)) ≡ true
+      named : (content : Option PoolId) → is_id id content ≡ true
+          → is_same_content (contents id) (some_bytes (bytes_of contents content)) ≡ true
       named None e = absurd (cc)
       named (Some other) e = has_bytes (contents other) (contents id) (ap contents (same_id other id e)) some
   node_has id (Dir dir) some e = absurd (cc)
@@ -85,7 +86,8 @@ module _ (contents : PoolId → List ℕ) where
   node_has id Deleted some e = absurd (cc)
 
   -- the tree of rows that name an id holds its content
-  pub named_holds : (id : PoolId) (rows : Rows) → 0 < length (contents id) → 0 < occurrences id rows → holds (resolved contents rows) (contents id) ≡ true
+  pub named_holds : (id : PoolId) (rows : Rows) → 0 < length (contents id) → 0 < occurrences id rows
+      → holds (resolved contents rows) (contents id) ≡ true
   named_holds id [] some h = absurd (omega (arith, h))
   named_holds id (row ∷ rows) some h = step (names_id id row.1) refl h (λ more. named_holds id rows some more)
     where
@@ -103,10 +105,12 @@ module _ (contents : PoolId → List ℕ) where
     pub some : 0 < length content
 
   module _ (given : PoolId → Type 0) (content : List ℕ) where
-    node_named : (node : Record) → IsTold given contents node → is_content (resolved_item contents node) content ≡ true → IsNamed given content
+    node_named : (node : Record) → IsTold given contents node → is_content (resolved_item contents node) content ≡ true
+        → IsNamed given content
     node_named (File file) told e = named file.content told e
       where
-        named : (of : Option PoolId) → IsToldContent given contents file.size of → is_same_content content (some_bytes (bytes_of contents of)) ≡ true
+        named : (of : Option PoolId) → IsToldContent given contents file.size of
+            → is_same_content content (some_bytes (bytes_of contents of)) ≡ true
             → IsNamed given content
         named None told e = absurd (cc)
         named (Some id) told e =
@@ -189,7 +193,8 @@ module _ {D N S : Type 0} {d : DiskGhosts D} {n : NamerGhosts N S} where
                 right _ _ (any_at (λ dump. holds dump.tree (contents id)) office.dumps i value.0 value.1
                 (ap (λ t. holds t (contents id)) is.tree ∙ tree))
 
-        restored : (i : ℕ) (session : OpenRestore) → slice_get parts.sessions.restores.items i ≡ Some session → 0 < occurrences id session.rows
+        restored : (i : ℕ) (session : OpenRestore) → slice_get parts.sessions.restores.items i ≡ Some session
+            → 0 < occurrences id session.rows
             → is_held office.pool office.dumps (contents id) ≡ true
         restored i session there claims =
             let value = other_at parts.sessions.restores.items office.restores i session (sym at.sessions.restores.counted) there in
@@ -235,7 +240,8 @@ module _ {D N S : Type 0} {d : DiskGhosts D} {n : NamerGhosts N S} where
             let g = given_item w.0 w.1 (slots parts w.0) w.2 in
             record { id = w.0; is_given = g; is = w.3; some = subst (λ (bytes : List ℕ). 0 < length bytes) w.3 (given_some w.0 g) }
 
-        pooled : (mark : Option Bool) → mark_of office.pool content ≡ mark → is_some mark ≡ true → IsNamed contents (given (slots parts)) content
+        pooled : (mark : Option Bool) → mark_of office.pool content ≡ mark → is_some mark ≡ true
+            → IsNamed contents (given (slots parts)) content
         pooled None f g = absurd (cc)
         pooled (Some mark) f g = listed mark f
 
@@ -247,7 +253,8 @@ module _ {D N S : Type 0} {d : DiskGhosts D} {n : NamerGhosts N S} where
             holds_named contents (given (slots parts)) content value.0.tree is.tree_rows.told
             (ap (λ t. holds t content) (sym is.tree) ∙ h)
 
-        step : (is_pooled office.pool content ≡ true) ⊎ (in_dumps office.dumps content ≡ true) → IsNamed contents (given (slots parts)) content
+        step : (is_pooled office.pool content ≡ true) ⊎ (in_dumps office.dumps content ≡ true)
+            → IsNamed contents (given (slots parts)) content
         step (inl f) = pooled (mark_of office.pool content) refl f
         step (inr f) = let w = any_found (λ dump. holds dump.tree content) office.dumps f in dumped w.0 w.1 w.2 w.3
 

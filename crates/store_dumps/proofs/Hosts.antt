@@ -12,7 +12,8 @@ use Rattle.office_model.specs.laws.Lookups.{host_index-found}
 use Rattle.office_files.specs.Hosts.{index_of_host}
 use Rattle.office_known.specs.KnownLaws.{indices_from, known_of_office, index_at}
 
-found_from : (name : List ℕ) (k n : ℕ) (hosts : List Host) → position_from (λ other. bytes_eq other name) k (names_of (indices_from n hosts))
+found_from : (name : List ℕ) (k n : ℕ) (hosts : List Host)
+    → position_from (λ other. bytes_eq other name) k (names_of (indices_from n hosts))
     ≡ position_from (λ (host : Host). bytes_eq host.name name) k hosts
 found_from name k n [] = refl
 found_from name k n (host ∷ hosts) = ap (cond (bytes_eq host.name name) (Some k)) (found_from name (k + 1) (suc n) hosts)

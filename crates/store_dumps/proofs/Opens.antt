@@ -56,7 +56,8 @@ use Rattle.store_dumps.proofs.Running.{Makes, running_let_go, runs_kept}
 -- ---- the model's rules
 
 judged_from : {B : Type 0} (is_open : Bool) (next sequence : ℕ) (rest : Judged B)
-    → (breaks SessionOpen is_open >> (breaks NumbersSpent (nat_le number_limit next) >> (breaks NumbersSpent (nat_le last_sequence sequence) >> rest)))
+    → (breaks SessionOpen is_open >>
+    (breaks NumbersSpent (nat_le number_limit next) >> (breaks NumbersSpent (nat_le last_sequence sequence) >> rest)))
     ≡ (opening_rule is_open next sequence >> rest)
 judged_from true next sequence rest = refl
 judged_from false next sequence rest = second (nat_le number_limit next)
@@ -78,20 +79,29 @@ with_fresh office host kind now base = record office {
 }
 
 abbrev opened : Office → ℕ → Kind → ℕ → Tree → Carried
-opened office host kind now base = record { answer = DumpAnswer (OpenDumpModel.next_session office); after = with_fresh office host kind now base }
+opened office host kind now base = record {
+  answer = DumpAnswer
+      (OpenDumpModel.next_session office);
+  after = with_fresh office host kind now base;
+}
 
 pub judged_at : (name : List ℕ) (kind : Kind) (now : ℕ) (office : Office) (place : ℕ) (host : Host) (base : Tree)
     → host_at office.hosts name ≡ Ok (record { index = place; value = host }) → OpenDumpModel.base_of kind host.backups ≡ Ok base
     → OpenDumpModel.carried name kind now office
     ≡ (opening_rule (is_some (dump_index_of_host office.dumps place)) host.next office.sequence >> Ok (opened office place kind now base))
 judged_at name kind now office place host base at is =
-    rw (at, is) (ap (λ (j : Judged (List Dump)). j >>= made) (judged_from (is_some (dump_index_of_host office.dumps place)) host.next office.sequence
+    rw (at, is) (ap (λ (j : Judged (List Dump)). j >>= made)
+    (judged_from (is_some (dump_index_of_host office.dumps place)) host.next office.sequence
     (Ok (office.dumps ++ OpenDumpModel.new_dump (OpenDumpModel.next_session office) place kind now base ∷ [])))
     ∙ moved (opening_rule (is_some (dump_index_of_host office.dumps place)) host.next office.sequence)
     (office.dumps ++ OpenDumpModel.new_dump (OpenDumpModel.next_session office) place kind now base ∷ []))
   where
     made : List Dump → Judged Carried
-    made dumps = Ok (record { answer = DumpAnswer (OpenDumpModel.next_session office); after = record office { dumps = dumps; sequence = office.sequence + 1 } })
+    made dumps = Ok (record {
+      answer = DumpAnswer
+          (OpenDumpModel.next_session office);
+      after = record office { dumps = dumps; sequence = office.sequence + 1 };
+    })
 
     moved : (rule : Option BrokenRule) (dumps : List Dump) → ((rule >> Ok dumps) >>= made) ≡ (rule >> made dumps)
     moved None dumps = refl
@@ -119,7 +129,8 @@ module _ (given : PoolId → Type 0) (contents : PoolId → List ℕ) (office : 
       → AreSessions given contents (with_fresh office place kind now (resolved contents rows)) new
   sessions_opened old new epoch name same are opened = record {
     dumps = subst (λ (items : List OpenDump). AtEachPair (λ i. IsDump given contents)
-        (office.dumps ++ OpenDumpModel.new_dump (OpenDumpModel.next_session office) place kind now (resolved contents rows) ∷ []) items) (sym opened.dumps)
+        (office.dumps ++ OpenDumpModel.new_dump (OpenDumpModel.next_session office) place kind now (resolved contents rows) ∷ []) items)
+        (sym opened.dumps)
         (pairs_push (IsDump given contents) office.dumps old.dumps.items are.dumps
         (OpenDumpModel.new_dump (OpenDumpModel.next_session office) place kind now (resolved contents rows)) opened.dump
         (fresh_is (session_of epoch old.sequence) opened.dump (λ i. session_of (same i) (are.sequence i)) opened.fresh));
@@ -151,7 +162,8 @@ pub rule_next : (rule : Option BrokenRule) (is_open : Bool) (next next' sequence
     → rule ≡ opening_rule is_open next sequence → rule ≡ opening_rule is_open next' sequence
 rule_next rule is_open next next' sequence same is = is ∙ ap (λ (m : ℕ). opening_rule is_open m sequence) same
 
-pub index_read : (hosts found : List Index) (place : ℕ) (index : Index) → found ≡ hosts → place < length hosts → index ≡ get_or found place index
+pub index_read : (hosts found : List Index) (place : ℕ) (index : Index) → found ≡ hosts → place < length hosts
+    → index ≡ get_or found place index
     → slice_get hosts place ≡ Some index
 index_read hosts found place index same within is =
     slice_get_read hosts (length hosts) place index refl within (is ∙ ap (λ (l : List Index). get_or l place index) same)
@@ -171,11 +183,13 @@ module _ {D N S : Type 0} {d : DiskGhosts D} {n : NamerGhosts N S} where
         (there : slice_get old.catalog.hosts place ≡ Some index) where
       abbrev RuleIs : Option BrokenRule → Type 0
       RuleIs rule =
-          rule ≡ opening_rule (is_some (position_from (λ dump. dump.host == place) 0 old.sessions.dumps.items)) index.next old.sessions.sequence
+          rule ≡ opening_rule (is_some (position_from
+          (λ dump. dump.host == place) 0 old.sessions.dumps.items)) index.next old.sessions.sequence
 
       -- the rule that memory finds is that of the model
       pub judged_by : (rule : Option BrokenRule) → RuleIs rule → (office : Office) (names : Names) (at : IsRunning old office names)
-          → (base : Tree) → OpenDumpModel.base_of kind (named_host (durable office) old.catalog at.catalog_is name place found).host.backups ≡ Ok base
+          → (base : Tree) → OpenDumpModel.base_of kind
+          (named_host (durable office) old.catalog at.catalog_is name place found).host.backups ≡ Ok base
           → OpenDumpModel.carried name kind now office ≡ (rule >> Ok (opened office place kind now base))
       judged_by rule is office names at base base_is =
           judged_at name kind now office place w.host base w.judged base_is
@@ -186,10 +200,12 @@ module _ {D N S : Type 0} {d : DiskGhosts D} {n : NamerGhosts N S} where
           w = named_host (durable office) old.catalog at.catalog_is name place found
 
           open_same : dump_index_of_host office.dumps place ≡ position_from (λ dump. dump.host == place) 0 old.sessions.dumps.items
-          open_same = dump_index_of_host-sessions (given (slots old)) (contents_of at.all) office.dumps old.sessions.dumps.items at.sessions.dumps place
+          open_same = dump_index_of_host-sessions (given (slots old))
+              (contents_of at.all) office.dumps old.sessions.dumps.items at.sessions.dumps place
 
           next_same : w.host.next ≡ index.next
-          next_same = sym (ap (λ (i : Index). i.next) (index_named (durable office) old.catalog at.catalog_is place w.host index w.is_host there))
+          next_same = sym (ap (λ (i : Index). i.next)
+              (index_named (durable office) old.catalog at.catalog_is place w.host index w.is_host there))
 
           sequence_same : office.sequence ≡ old.sessions.sequence
           sequence_same = sym at.sessions.sequence
@@ -214,13 +230,17 @@ module _ {D N S : Type 0} {d : DiskGhosts D} {n : NamerGhosts N S} where
         record {
           next = next;
           judged = judged;
-          running = running_let_go old new office next names (λ id. 0) (claims_in old.sessions) at.working at.claimed journal catalog views halted
-              (subst (λ p. LetsGo (λ id. 0) (slots old) (slots_of p.names)) (sym pool) (lets_go_none (slots old) (slots old) (λ id. 0) (λ id. refl)))
+          running = running_let_go old new office next names (λ id. 0)
+              (claims_in old.sessions) at.working at.claimed journal catalog views halted
+              (subst (λ p. LetsGo (λ id. 0) (slots old) (slots_of p.names)) (sym pool)
+              (lets_go_none (slots old) (slots old) (λ id. 0) (λ id. refl)))
               (ap (λ p. p.in_one_file) pool)
               (λ id. omega (arith, claims_opened old.sessions new.sessions old.catalog.epoch place Full now [] session opened id))
-              (sessions_opened (given (slots old)) (contents_of at.all) office place Full now [] (no_rows (given (slots old)) (contents_of at.all))
+              (sessions_opened (given (slots old)) (contents_of at.all) office place Full now []
+              (no_rows (given (slots old)) (contents_of at.all))
               old.sessions new.sessions old.catalog.epoch session epoch at.sessions opened)
               refl refl
-              (IsSound-carried office names (OpenDumpEvent name Full now) (record { answer = DumpAnswer session; after = next }) at.sound judged);
+              (IsSound-carried office names (OpenDumpEvent name Full now)
+              (record { answer = DumpAnswer session; after = next }) at.sound judged);
         })
         (λ office names. refl)

@@ -185,8 +185,11 @@ large_later rows path dir large rule e =
     step (not (is_parent_in is_dir rows (parent path))) (is_dir_at is_dir rows path && not dir)
     (nat_le 1048576 (length rows) && not (is_some (node_at rows path))) e
   where
-    step : (a b c : Bool) → (if a then Some NoParent else (if b then Some IsDirectory else (if c then Some TooManyEntries else None))) ≡ Some rule
-        → (if a then Some NoParent else (if b then Some IsDirectory else (if c then Some TooManyEntries else (if large then Some FileTooLarge else None)))) ≡ Some rule
+    step : (a b c : Bool) → (if a then Some NoParent else (if b then Some IsDirectory else (if c then Some TooManyEntries else None)))
+        ≡ Some rule
+        → (if a then Some NoParent else
+        (if b then Some IsDirectory else (if c then Some TooManyEntries else (if large then Some FileTooLarge else None))))
+        ≡ Some rule
     step true b c e = e
     step false true c e = e
     step false false true e = e
@@ -205,7 +208,8 @@ pub go_content : (old new : Slots) (content content' : Option PoolId) → conten
     → (((id : PoolId) → claims_of_content content id ≤ claims_of (old id)) → LetsGo (λ id. claims_of_content content id) old new)
     → ((id : PoolId) → claims_of_content content' id ≤ claims_of (old id)) → LetsGo (λ id. claims_of_content content' id) old new
 go_content old new content content' same go =
-    subst (λ (c : Option PoolId). ((id : PoolId) → claims_of_content c id ≤ claims_of (old id)) → LetsGo (λ id. claims_of_content c id) old new) same go
+    subst (λ (c : Option PoolId). ((id : PoolId) → claims_of_content c id ≤ claims_of (old id))
+    → LetsGo (λ id. claims_of_content c id) old new) same go
 
 early : (judged : Judged Carried) → MayFault Stages judged
 early (Ok carried) = tt
@@ -272,11 +276,13 @@ module _ {D N S : Type 0} {d : DiskGhosts D} {n : NamerGhosts N S} where
             → (reply : Reply) → AreNamesAfter office names Event' reply used'
         names_after used' rule free named reply =
             subst (λ (j : Judged Carried). IsNamedBy office names j (content_of item) used') (sym (put_judged rule free))
-            (subst (λ (c : Option (List ℕ)). IsNamedBy office names (Ok (record { answer = Done; after = next })) c used') (sym (content_is item))
+            (subst (λ (c : Option (List ℕ)). IsNamedBy office names (Ok (record { answer = Done; after = next })) c used')
+            (sym (content_is item))
             (named (record { answer = Done; after = next })))
 
       pub put_broken : (rule : PutRule) → RuleIs (Some rule)
-          → (office : Office) (names : Names) → IsRunning old office names → PutEvent.carried session path item office names ≡ Err (PutBroken rule)
+          → (office : Office) (names : Names) → IsRunning old office names
+          → PutEvent.carried session path item office names ≡ Err (PutBroken rule)
       put_broken rule is office names at = rw ((found office names at).is_at, rule_is office names at (Some rule) is) refl
 
       -- ---- the answers, behind the pool's
@@ -292,7 +298,8 @@ module _ {D N S : Type 0} {d : DiskGhosts D} {n : NamerGhosts N S} where
         crash_may : (new : StoreParts D N S d n) → new.journal ≡ journal → (office : Office) (names : Names) → IsRunning old office names
             → FindsOnly old.journal new.journal (MayRecover n.digest_of office ((meaning_of Event').carried office names))
         crash_may new same office names at =
-            subst (λ (j : Journal D d). FindsOnly old.journal j (MayRecover n.digest_of office ((meaning_of Event').carried office names))) (sym same)
+            subst (λ (j : Journal D d). FindsOnly old.journal j
+            (MayRecover n.digest_of office ((meaning_of Event').carried office names))) (sym same)
             (FindsOnly-each (λ found. StandsFor n.digest_of found (durable office))
             (MayRecover n.digest_of office ((meaning_of Event').carried office names)) old.journal journal
             (λ found stands. recover_before n.digest_of office ((meaning_of Event').carried office names) found stands)
@@ -305,8 +312,10 @@ module _ {D N S : Type 0} {d : DiskGhosts D} {n : NamerGhosts N S} where
             subst (λ (j : Journal D d). Counted (d.fault_count old.journal.disk) (d.fault_count j.disk) P) (sym same) counted
 
         module _ (content : Option PoolId) (shape : IsContentOf (length (item_bytes item)) content)
-            (takes : TakesIn n.digest_of (slots old) (slots mid) (d.files old.journal.disk) (d.files journal.disk) content (item_bytes item)) where
-          abbrev staged : (office : Office) (names : Names) (at : IsRunning old office names) → StagedAs old mid office names at content (item_bytes item)
+            (takes : TakesIn n.digest_of (slots old) (slots mid) (d.files old.journal.disk) (d.files journal.disk) content
+            (item_bytes item)) where
+          abbrev staged : (office : Office) (names : Names) (at : IsRunning old office names)
+              → StagedAs old mid office names at content (item_bytes item)
           staged office names at = staged_as old mid office names at (certain at.fits.certain) content (item_bytes item) shape takes
 
           abbrev total : PoolId → ℕ
@@ -329,7 +338,8 @@ module _ {D N S : Type 0} {d : DiskGhosts D} {n : NamerGhosts N S} where
                   claims_in_dumps-remove old.sessions.dumps.items id index dump there,
                 )
 
-            claims_put : (new : Sessions) → new.dumps.items ≡ slice_set old.sessions.dumps.items index (with_record dump path (record_for item content))
+            claims_put : (new : Sessions) → new.dumps.items
+                ≡ slice_set old.sessions.dumps.items index (with_record dump path (record_for item content))
                 → new.restores.items ≡ old.sessions.restores.items → (id : PoolId)
                 → claims_in new id + claims_of_content (content_found (node_at dump.tree path)) id ≡ total id
             claims_put new dumps restores id =
@@ -357,15 +367,18 @@ module _ {D N S : Type 0} {d : DiskGhosts D} {n : NamerGhosts N S} where
                       (slice_set office.dumps index (PutEvent.with_item f.value path item)) items) (sym dumps)
                       (pairs_set (IsDump (given (slots mid)) contents) office.dumps old.sessions.dumps.items w.sessions.dumps index
                       (PutEvent.with_item f.value path item) (with_record dump path (record_for item content))
-                      (dump_with (given (slots mid)) contents f.value dump path item content (staged office names at).is (staged office names at).told
+                      (dump_with (given (slots mid)) contents f.value dump path item content (staged office names at).is
+                      (staged office names at).told
                       (w.sessions.dumps.each index f.value dump f.there there)));
-                  restores = subst (λ (items : List OpenRestore). AtEachPair (λ i. IsRestore (given (slots mid)) contents) office.restores items)
+                  restores = subst (λ (items : List OpenRestore). AtEachPair
+                      (λ i. IsRestore (given (slots mid)) contents) office.restores items)
                       (sym restores) w.sessions.restores;
                   sequence = sequence ∙ w.sessions.sequence;
                 }
 
           -- the row was put
-          pub runs_put : (new : StoreParts D N S d n) {failed : Type 0} → new.journal ≡ journal → new.catalog ≡ old.catalog → new.views ≡ old.views
+          pub runs_put : (new : StoreParts D N S d n) {failed : Type 0} → new.journal ≡ journal → new.catalog ≡ old.catalog
+              → new.views ≡ old.views
               → new.halted ≡ old.halted
               → (((id : PoolId) → claims_of_content (content_found (node_at dump.tree path)) id ≤ claims_of (slots mid id))
               → LetsGo (λ id. claims_of_content (content_found (node_at dump.tree path)) id) (slots mid) (slots new))
@@ -413,11 +426,16 @@ module _ {D N S : Type 0} {d : DiskGhosts D} {n : NamerGhosts N S} where
                   step = (refl, names_after office names at s.has.used' rule s.free s.named (Err R.Memory), refl);
                   in_state = running_let_go mid new office office (names' office names at) (claims_of_content content) total w s.claims
                       same catalog views halted (go (λ id. omega (arith, s.claims id))) kept
-                      (λ id. omega (arith, ap (λ items. claims_in_dumps items id) alike.dumps, ap (λ items. claims_in_restores items id) alike.restores))
+                      (λ id. omega (
+                        arith,
+                        ap (λ items. claims_in_dumps items id) alike.dumps,
+                        ap (λ items. claims_in_restores items id) alike.restores,
+                      ))
                       (record {
                         dumps = subst (λ (items : List OpenDump). AtEachPair (λ i. IsDump (given (slots mid)) contents) office.dumps items)
                             (sym alike.dumps) w.sessions.dumps;
-                        restores = subst (λ (items : List OpenRestore). AtEachPair (λ i. IsRestore (given (slots mid)) contents) office.restores items)
+                        restores = subst (λ (items : List OpenRestore). AtEachPair
+                            (λ i. IsRestore (given (slots mid)) contents) office.restores items)
                             (sym alike.restores) w.sessions.restores;
                         sequence = alike.sequence ∙ w.sessions.sequence;
                       })
@@ -459,9 +477,15 @@ module _ {D N S : Type 0} {d : DiskGhosts D} {n : NamerGhosts N S} where
                   (names_refused office names Event' refusal at.used.distinct)
               step (inr named) = names_after office names at missed.has.used' rule named.1 named.0 (Err refusal)
 
-          steps_missed : (refusal : Refusal) → IsStep (Running office names) Event' (Err refusal) (Running office (with_used names missed.has.used'))
+          steps_missed : (refusal : Refusal)
+              → IsStep (Running office names) Event' (Err refusal) (Running office (with_used names missed.has.used'))
               → Steps (Running office names) Event' (Err refusal) mid
-          steps_missed refusal step = record { next = Running office (with_used names missed.has.used'); step = step; in_state = running_missed }
+          steps_missed refusal step = record {
+            next = Running office
+                (with_used names missed.has.used');
+            step = step;
+            in_state = running_missed;
+          }
 
         pub runs_missed : (fault : PoolFault) → 0 < length (item_bytes item)
             → Misses n.digest_of (slots old) (slots mid) (d.files old.journal.disk) (d.files journal.disk) (item_bytes item) fault
@@ -470,8 +494,11 @@ module _ {D N S : Type 0} {d : DiskGhosts D} {n : NamerGhosts N S} where
             → Runs old Event' (Err (refusal_of fault)) mid
         runs_missed (P.Foreign file found) some misses damaged given kind counted = absurd kind
         runs_missed P.Disk some misses damaged given kind counted = record {
-          steps = λ office names at. steps_missed P.Disk some misses office names at R.DiskFault
-              ((early ((meaning_of Event').carried office names), tt, refl), names_missed P.Disk some misses office names at R.DiskFault, refl);
+          steps = λ office names at. steps_missed P.Disk some misses office names at R.DiskFault (
+            (early ((meaning_of Event').carried office names), tt, refl),
+            names_missed P.Disk some misses office names at R.DiskFault,
+            refl,
+          );
           crash = λ office names at. crash_may mid refl office names at;
           counted = counted_failed counted refl refl;
         }
@@ -482,7 +509,8 @@ module _ {D N S : Type 0} {d : DiskGhosts D} {n : NamerGhosts N S} where
           counted = counted_fine counted (λ x. absurd cc) (λ x. absurd cc);
         }
         runs_missed (P.Damaged id found) some misses damaged given kind counted = record {
-          steps = λ office names at. absurd (not_damaged n.digest_of (slots old) (uncertain old.journal) at.all (told old.journal) id found at.fits
+          steps = λ office names at. absurd
+              (not_damaged n.digest_of (slots old) (uncertain old.journal) at.all (told old.journal) id found at.fits
               at.told_is (given id found refl) (damaged_seen n.digest_of (d.files old.journal.disk) id found (damaged id found refl)));
           crash = λ office names at. crash_may mid refl office names at;
           counted = counted_fine counted (λ x. absurd cc) (λ x. absurd cc);

@@ -41,7 +41,8 @@ told_without : (given : PoolId → Type 0) (contents : PoolId → List ℕ) (row
 told_without given contents [] path told = told
 told_without given contents (row ∷ rows) path told = step (is_within path row.0) (told_without given contents rows path told.1)
   where
-    step : (b : Bool) → AreTold given contents (without rows path) → AreTold given contents (cond (not b) (row ∷ without rows path) (without rows path))
+    step : (b : Bool) → AreTold given contents (without rows path)
+        → AreTold given contents (cond (not b) (row ∷ without rows path) (without rows path))
     step true rest = rest
     step false rest = (told.0, rest)
 
@@ -110,7 +111,12 @@ module _ {D N S : Type 0} {d : DiskGhosts D} {n : NamerGhosts N S} where
       enough : (office : Office) (names : Names) → IsRunning old office names → (id : PoolId)
           → occurrences id (within_rows path dump.tree) ≤ claims_of (slots old id)
       enough office names at id =
-          omega (arith, at.claimed id, claims_in_dumps-remove old.sessions.dumps.items id index dump there, occurrences-without id dump.tree path)
+          omega (
+            arith,
+            at.claimed id,
+            claims_in_dumps-remove old.sessions.dumps.items id index dump there,
+            occurrences-without id dump.tree path,
+          )
 
       pub runs_removed : (new : StoreParts D N S d n) → is_some (node_at dump.tree path) ≡ true → new.journal ≡ old.journal
           → new.catalog ≡ old.catalog → new.views ≡ old.views → new.halted ≡ old.halted
@@ -130,7 +136,8 @@ module _ {D N S : Type 0} {d : DiskGhosts D} {n : NamerGhosts N S} where
           record {
             next = next;
             judged = judged;
-            running = running_let_go old new office next names (λ id. occurrences id (within_rows path dump.tree)) (claims_in old.sessions) at.working at.claimed journal catalog views halted
+            running = running_let_go old new office next names (λ id. occurrences id (within_rows path dump.tree))
+                (claims_in old.sessions) at.working at.claimed journal catalog views halted
                 (go (enough office names at)) form
                 (λ id. omega (
                   arith,
@@ -145,7 +152,8 @@ module _ {D N S : Type 0} {d : DiskGhosts D} {n : NamerGhosts N S} where
                       (sym dumps) (pairs_set (IsDump (given (slots old)) (contents_of at.all)) office.dumps old.sessions.dumps.items
                       at.sessions.dumps index (RemoveEvent.with_removed found.value path) (removed dump path)
                       (dump_without (given (slots old)) (contents_of at.all) found.value dump path found.is));
-                  restores = subst (λ (items : List OpenRestore). AtEachPair (λ i. IsRestore (given (slots old)) (contents_of at.all)) office.restores items)
+                  restores = subst (λ (items : List OpenRestore). AtEachPair
+                      (λ i. IsRestore (given (slots old)) (contents_of at.all)) office.restores items)
                       (sym restores) at.sessions.restores;
                   sequence = sequence ∙ at.sessions.sequence;
                 })

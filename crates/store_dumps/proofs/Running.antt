@@ -64,7 +64,8 @@ abbrev IsFault : Reply → Type 0
 IsFault reply = reply ≡ Err DiskFault
 
 module _ {D N S : Type 0} {d : DiskGhosts D} {n : NamerGhosts N S} where
-  pub stored_let_go : (journal : Journal D d) (pool pool' : Pool N S n) (catalog : Known) (office : Office) (names : Names) (count : PoolId → ℕ)
+  pub stored_let_go : (journal : Journal D d) (pool pool' : Pool N S n) (catalog : Known) (office : Office) (names : Names)
+      (count : PoolId → ℕ)
       → IsStored journal pool catalog office names → LetsGo count (slots_of pool.names) (slots_of pool'.names)
       → pool'.in_one_file ≡ pool.in_one_file → IsStored journal pool' catalog office names
   stored_let_go journal pool pool' catalog office names count at go form = record {
@@ -108,30 +109,31 @@ module _ {D N S : Type 0} {d : DiskGhosts D} {n : NamerGhosts N S} where
       → AreSessions (given (slots old)) (contents_of at.all) next new.sessions
       → durable next ≡ durable office → next.hosts ≡ office.hosts → IsSound next → IsRunning new next names
   unfolding stored_let_go
-  running_let_go old new office next names count total at claims_are journal catalog views halted go form claims sessions same hosts sound = record {
-    working = record {
-      ready = halted ∙ at.ready;
-      stored = record {
-        journal_ready = subst (λ (j : Journal D d). j.halted ≡ false) (sym journal) stored.journal_ready;
-        all = at.all;
-        backups = at.backups;
-        told_is = ap told journal ∙ at.told_is;
-        stands = subst (λ (o : Office). Stands n.digest_of (index_of (slots new)) at.backups at.all o) (sym same) stored.stands;
-        tells = stored.tells;
-        fits = subst (λ (j : Journal D d). Fits n.digest_of (slots new) (uncertain j) at.all) (sym journal) stored.fits;
-        all_used = stored.all_used;
-        used = stored.used;
-        digest = stored.digest;
-        catalog_is = catalog ∙ at.catalog_is ∙ ap known_of_office (sym same);
-      };
-      sessions = AreSessions-claimed (given (slots old)) (contents_of at.all) (given (slots new)) (contents_of at.all) next new.sessions
-          (λ id g some. ((go id).given g (subst (λ (m : ℕ). 0 < m) (sym (claimed id)) some), refl)) sessions;
-      view = subst (λ (v : Views). IsKeptView v.kept next.hosts at.backups) (sym views)
-          (subst (λ (hosts : List Host). IsKeptView old.views.kept hosts at.backups) (sym hosts) at.view);
-      sound = sound;
-    };
-    claimed = claimed;
-  }
+  running_let_go old new office next names count total at claims_are journal catalog views halted go form claims sessions same hosts
+      sound = record {
+        working = record {
+          ready = halted ∙ at.ready;
+          stored = record {
+            journal_ready = subst (λ (j : Journal D d). j.halted ≡ false) (sym journal) stored.journal_ready;
+            all = at.all;
+            backups = at.backups;
+            told_is = ap told journal ∙ at.told_is;
+            stands = subst (λ (o : Office). Stands n.digest_of (index_of (slots new)) at.backups at.all o) (sym same) stored.stands;
+            tells = stored.tells;
+            fits = subst (λ (j : Journal D d). Fits n.digest_of (slots new) (uncertain j) at.all) (sym journal) stored.fits;
+            all_used = stored.all_used;
+            used = stored.used;
+            digest = stored.digest;
+            catalog_is = catalog ∙ at.catalog_is ∙ ap known_of_office (sym same);
+          };
+          sessions = AreSessions-claimed (given (slots old)) (contents_of at.all) (given (slots new)) (contents_of at.all) next new.sessions
+              (λ id g some. ((go id).given g (subst (λ (m : ℕ). 0 < m) (sym (claimed id)) some), refl)) sessions;
+          view = subst (λ (v : Views). IsKeptView v.kept next.hosts at.backups) (sym views)
+              (subst (λ (hosts : List Host). IsKeptView old.views.kept hosts at.backups) (sym hosts) at.view);
+          sound = sound;
+        };
+        claimed = claimed;
+      }
     where
       stored : IsStored old.journal new.pool old.catalog (durable office) names
       stored = stored_let_go old.journal old.pool new.pool old.catalog (durable office) names count at.stored go form
@@ -165,39 +167,50 @@ module _ {D N S : Type 0} {d : DiskGhosts D} {n : NamerGhosts N S} where
         let made = makes office names at in
         record { next = Running made.next names; step = (made.judged, stay office names, refl); in_state = made.running };
     crash = λ office names at.
-        subst (λ (j : Journal D d). FindsOnly old.journal j (MayRecover n.digest_of office ((meaning_of event).carried office names))) (sym journal)
+        subst (λ (j : Journal D d). FindsOnly old.journal j (MayRecover n.digest_of office ((meaning_of event).carried office names)))
+        (sym journal)
         (FindsOnly-still old.journal (MayRecover n.digest_of office ((meaning_of event).carried office names)));
-    counted = subst (λ (j : Journal D d). Counted (d.fault_count old.journal.disk) (d.fault_count j.disk) (Ok answer ≡ Err DiskFault)) (sym journal)
+    counted = subst (λ (j : Journal D d). Counted (d.fault_count old.journal.disk) (d.fault_count j.disk) (Ok answer ≡ Err DiskFault))
+        (sym journal)
         (counted_still (d.fault_count old.journal.disk) (Ok answer ≡ Err DiskFault) (λ e. absurd cc));
   }
 
   -- nothing was done to what is open: the event was refused
   pub runs_alike : (old new : StoreParts D N S d n) (event : Event) (refusal : Refusal) → new.journal ≡ old.journal → new.pool ≡ old.pool
       → new.catalog ≡ old.catalog → new.views ≡ old.views → new.halted ≡ old.halted → AreAlike old.sessions new.sessions
-      → ((office : Office) (names : Names) → IsRunning old office names → IsStep (Running office names) event (Err refusal) (Running office names))
+      → ((office : Office) (names : Names) → IsRunning old office names
+      → IsStep (Running office names) event (Err refusal) (Running office names))
       → (IsFault (Err refusal) → ⊥) → Runs old event (Err refusal) new
   runs_alike old new event refusal journal pool catalog views halted alike step fine = record {
     steps = λ office names at. record {
       next = Running office names;
       step = step office names at;
-      in_state = running_let_go old new office office names (λ id. 0) (claims_in old.sessions) at.working at.claimed journal catalog views halted
+      in_state = running_let_go old new office office names (λ id. 0)
+          (claims_in old.sessions) at.working at.claimed journal catalog views halted
           (subst (λ (p : Pool N S n). LetsGo (λ id. 0) (slots old) (slots_of p.names)) (sym pool)
           (lets_go_none (slots old) (slots old) (λ id. 0) (λ id. refl)))
           (ap (λ (p : Pool N S n). p.in_one_file) pool)
-          (λ id. omega (arith, ap (λ items. claims_in_dumps items id) alike.dumps, ap (λ items. claims_in_restores items id) alike.restores))
+          (λ id. omega (
+            arith,
+            ap (λ items. claims_in_dumps items id) alike.dumps,
+            ap (λ items. claims_in_restores items id) alike.restores,
+          ))
           (record {
             dumps = subst (λ (items : List OpenDump). AtEachPair (λ i. IsDump (given (slots old)) (contents_of at.all)) office.dumps items)
                 (sym alike.dumps) at.sessions.dumps;
-            restores = subst (λ (items : List OpenRestore). AtEachPair (λ i. IsRestore (given (slots old)) (contents_of at.all)) office.restores items)
+            restores = subst (λ (items : List OpenRestore). AtEachPair
+                (λ i. IsRestore (given (slots old)) (contents_of at.all)) office.restores items)
                 (sym alike.restores) at.sessions.restores;
             sequence = alike.sequence ∙ at.sessions.sequence;
           })
           refl refl at.sound;
     };
     crash = λ office names at.
-        subst (λ (j : Journal D d). FindsOnly old.journal j (MayRecover n.digest_of office ((meaning_of event).carried office names))) (sym journal)
+        subst (λ (j : Journal D d). FindsOnly old.journal j (MayRecover n.digest_of office ((meaning_of event).carried office names)))
+        (sym journal)
         (FindsOnly-still old.journal (MayRecover n.digest_of office ((meaning_of event).carried office names)));
-    counted = subst (λ (j : Journal D d). Counted (d.fault_count old.journal.disk) (d.fault_count j.disk) (IsFault (Err refusal))) (sym journal)
+    counted = subst (λ (j : Journal D d). Counted (d.fault_count old.journal.disk) (d.fault_count j.disk) (IsFault (Err refusal)))
+        (sym journal)
         (counted_still (d.fault_count old.journal.disk) (IsFault (Err refusal)) fine);
   }
 

@@ -28,7 +28,8 @@ module _ (digest_of : List ℕ → List ℕ) (old new : Slots) (raw raw' : Optio
   takes_seen id content takes = record { digest = takes.digest; either = step takes.either }
     where
       step : Matches old new raw raw' id content ⊎ Adds old new raw raw' id content
-          → Matches old new (option_map seen raw) (option_map seen raw') id content ⊎ Adds old new (option_map seen raw) (option_map seen raw') id content
+          → Matches old new (option_map seen raw) (option_map seen raw') id content
+          ⊎ Adds old new (option_map seen raw) (option_map seen raw') id content
       step (inl m) = inl (record {
         given = m.given;
         holds = λ all e.
@@ -55,7 +56,8 @@ pub record SeenButOne (file : FileId) (all : Files) (told : Option Files) : Type
   pub is : told ≡ Some now
   pub others : (asked : FileId) → is_same_file asked file ≡ false → now asked ≡ all asked
 
-but_one : (file : FileId) (raw : Files) (raw' : Option Files) → SameButOne file (Some raw) raw' → SeenButOne file (seen raw) (option_map seen raw')
+but_one : (file : FileId) (raw : Files) (raw' : Option Files) → SameButOne file (Some raw) raw'
+    → SeenButOne file (seen raw) (option_map seen raw')
 but_one file raw raw' same = record {
   now = seen same.0;
   is = ap (option_map seen) same.1;

@@ -115,7 +115,8 @@ module _ {D N S : Type 0} {d : DiskGhosts D} {n : NamerGhosts N S} where
         others id.extension (at.fits.near id g) (subst (λ (x : PoolId). is_given (slots parts x) ≡ true) name g)
         (subst (λ (x : PoolId). at.all (F.Pool x) ≡ Some content) name (held.is ∙ ap Some bytes)))
 
-    full_spent : C.AreUsed (slots parts) (n.digest_of content) 65536 → AreOthers (slots parts) (n.digest_of content) at.all content 65536 → full
+    full_spent : C.AreUsed (slots parts) (n.digest_of content) 65536
+        → AreOthers (slots parts) (n.digest_of content) at.all content 65536 → full
     full_spent used others =
         full_is ∙ (λ i. not (others_not_held others i) && is_spent names content)
         ∙ spent (names.digest_of content) names.used 65536 (λ k h. among k (slots parts (id_of (n.digest_of content) k)) refl (used k h))
@@ -134,7 +135,8 @@ module _ {D N S : Type 0} {d : DiskGhosts D} {n : NamerGhosts N S} where
     -- it got a name
     module _ (id : PoolId) (content : List ℕ) (some : 0 < length content) where
       named_some : (used' : List PoolId)
-          → (used' ≡ names.used) ⊎ ((is_held office.pool office.dumps content ≡ false) × AddsName (names.digest_of content) names.used used')
+          → (used' ≡ names.used) ⊎ ((is_held office.pool office.dumps content ≡ false)
+          × AddsName (names.digest_of content) names.used used')
           → (carried : Carried) → IsNamedBy office names (Ok carried) (some_bytes content) used'
       named_some used' how carried =
           subst (λ (c : Option (List ℕ)). IsNamedBy office names (Ok carried) c used') (sym (some_is content some)) how
@@ -147,12 +149,14 @@ module _ {D N S : Type 0} {d : DiskGhosts D} {n : NamerGhosts N S} where
           let has = staged_matches old mid office names at certain id content m in
           record {
             has = has;
-            claims = λ asked. claims_matches old mid office names at certain id content m asked ∙ ap (λ k. k + one_of id asked) (at.claimed asked);
+            claims = λ asked. claims_matches old mid office names at certain id content m asked
+                ∙ ap (λ k. k + one_of id asked) (at.claimed asked);
             told = (has.grows.given id m.given, ap length (sym (ap file_bytes holds)));
             is = ap file_bytes holds;
             named = named_some names.used (inl refl);
             free = free_held old office names at content some
-                (subst (λ (c : List ℕ). is_held office.pool office.dumps c ≡ true) (ap file_bytes holds) (given_held old office names at id m.given));
+                (subst (λ (c : List ℕ). is_held office.pool office.dumps c ≡ true) (ap file_bytes holds)
+                (given_held old office names at id m.given));
           }
 
       added : Adds (slots old) (slots mid) (told old.journal) (told mid.journal) id content → id.digest ≡ n.digest_of content
@@ -163,8 +167,12 @@ module _ {D N S : Type 0} {d : DiskGhosts D} {n : NamerGhosts N S} where
           = with_bytes_there at.all (F.Pool id) (Some content) (F.Pool id) (is_same_file-itself (F.Pool id)) in
           record {
             has = staged_adds old mid office names at certain id content a digest some;
-            claims = λ asked. claims_adds old mid office names at certain id content a asked ∙ ap (λ k. k + one_of id asked) (at.claimed asked);
-            told = (ap is_given (set_there (slots old) (slots mid) id (Some (Staged (length content) 1)) a.set), ap length (sym (ap file_bytes there)));
+            claims = λ asked. claims_adds old mid office names at certain id content a asked
+                ∙ ap (λ k. k + one_of id asked) (at.claimed asked);
+            told = (
+              ap is_given (set_there (slots old) (slots mid) id (Some (Staged (length content) 1)) a.set),
+              ap length (sym (ap file_bytes there)),
+            );
             is = ap file_bytes there;
             named = named_some (id ∷ names.used)
                 (inr (
@@ -182,7 +190,8 @@ module _ {D N S : Type 0} {d : DiskGhosts D} {n : NamerGhosts N S} where
       taken takes = step takes.either
         where
           step : Matches (slots old) (slots mid) (told old.journal) (told mid.journal) id content
-              ⊎ Adds (slots old) (slots mid) (told old.journal) (told mid.journal) id content → StagedAs old mid office names at (Some id) content
+              ⊎ Adds (slots old) (slots mid) (told old.journal) (told mid.journal) id content
+              → StagedAs old mid office names at (Some id) content
           step (inl m) = matched m
           step (inr a) = added a takes.digest
 
@@ -207,7 +216,8 @@ module _ {D N S : Type 0} {d : DiskGhosts D} {n : NamerGhosts N S} where
         → StagedAs old mid office names at content bytes
     staged_as None bytes shape takes = untaken bytes takes.0 (ap (option_map seen) takes.1) takes.2
     staged_as (Some id) bytes shape takes =
-        taken id bytes shape (takes_seen n.digest_of (slots old) (slots mid) (d.files old.journal.disk) (d.files mid.journal.disk) id bytes takes)
+        taken id bytes shape (takes_seen n.digest_of (slots old) (slots mid) (d.files old.journal.disk)
+        (d.files mid.journal.disk) id bytes takes)
 
     -- ---- it got none
 
@@ -252,16 +262,19 @@ module _ {D N S : Type 0} {d : DiskGhosts D} {n : NamerGhosts N S} where
     missed_as content some (inl same) = missed_still content same.0 (ap (option_map seen) same.1)
     missed_as content some (inr (extension, near, free, others, unstaged)) = step unstaged
       where
-        step : IsUnstaged (slots old) (slots mid) (d.files old.journal.disk) (d.files mid.journal.disk) (id_of (n.digest_of content) extension)
+        step : IsUnstaged (slots old) (slots mid) (d.files old.journal.disk) (d.files mid.journal.disk)
+            (id_of (n.digest_of content) extension)
             → MissedAs old mid office names at content
         step (inl same) = missed_still content same.0 (ap (option_map seen) same.1)
         step (inr doomed) = missed_doomed content some extension near free.unused
-            (misses_others n.digest_of (slots old) (slots mid) (d.files old.journal.disk) (d.files mid.journal.disk) (n.digest_of content) content others
+            (misses_others n.digest_of (slots old) (slots mid) (d.files old.journal.disk) (d.files mid.journal.disk)
+            (n.digest_of content) content others
             at.all at.told_is) doomed.0 doomed.1
 
     -- and the chain is full
     pub full_as : (content : List ℕ) → 0 < length content → IsFull (n.digest_of content) (slots old) (d.files old.journal.disk) content
         → is_chain_full office.pool office.dumps names (some_bytes content) ≡ true
     full_as content some is = full_spent old office names at content some is.used
-        (misses_others n.digest_of (slots old) (slots mid) (d.files old.journal.disk) (d.files mid.journal.disk) (n.digest_of content) content is.others
+        (misses_others n.digest_of (slots old) (slots mid) (d.files old.journal.disk) (d.files mid.journal.disk)
+        (n.digest_of content) content is.others
         at.all at.told_is)

@@ -77,12 +77,14 @@ apart (F.Stage number) id e = absurd (cc)
 pub set_there : (old new : Slots) (id : PoolId) (slot : Option Slot) → IsSet old new id slot → new id ≡ slot
 set_there old new id slot set = set id ∙ rw (is_same_file-itself (F.Pool id)) refl
 
-pub set_other : (old new : Slots) (id : PoolId) (slot : Option Slot) → IsSet old new id slot → (asked : PoolId) → is_same_name asked id ≡ false
+pub set_other : (old new : Slots) (id : PoolId) (slot : Option Slot) → IsSet old new id slot → (asked : PoolId)
+    → is_same_name asked id ≡ false
     → new asked ≡ old asked
 set_other old new id slot set asked other = set asked ∙ rw other refl
 
 -- a property of the name that was set and of all others
-pub each_name : (P : PoolId → Type 0) (id : PoolId) → P id → ((asked : PoolId) → is_same_name asked id ≡ false → P asked) → (asked : PoolId) → P asked
+pub each_name : (P : PoolId → Type 0) (id : PoolId) → P id → ((asked : PoolId) → is_same_name asked id ≡ false → P asked)
+    → (asked : PoolId) → P asked
 each_name P id here others asked = step (is_same_name asked id) refl
   where
     step : (b : Bool) → is_same_name asked id ≡ b → P asked
@@ -108,7 +110,8 @@ used_more old new used id slot are none near set = record {
   distinct = first_distinct id used are.distinct (unused_fresh old used id are none);
   slot = λ asked among. slot_of asked among.0 among.1;
   among = each_name (λ asked. is_some (new asked) ≡ true → Among (id ∷ used) asked) id (λ e. (zero, refl))
-      (λ asked other e. let w = are.among asked (sym (ap is_some (set_other old new id (Some slot) set asked other)) ∙ e) in (suc w.0, w.1));
+      (λ asked other e. let w = are.among asked (sym (ap is_some (set_other old new id (Some slot) set asked other)) ∙ e) in
+      (suc w.0, w.1));
   near = each_name (λ asked. is_some (new asked) ≡ true → asked.extension < 65536) id (λ e. near)
       (λ asked other e. are.near asked (sym (ap is_some (set_other old new id (Some slot) set asked other)) ∙ e));
 }
@@ -278,7 +281,8 @@ module _ {D N S : Type 0} {d : DiskGhosts D} {n : NamerGhosts N S} where
 
     module _ (id : PoolId) (content : List ℕ) where
       -- a file holds the content
-      unfoldable pub staged_matches : Matches (slots old) (slots mid) (told old.journal) (told mid.journal) id content → HasStaged old mid names at.all
+      unfoldable pub staged_matches : Matches (slots old) (slots mid) (told old.journal) (told mid.journal) id content
+          → HasStaged old mid names at.all
       staged_matches m = record {
         used' = names.used;
         all' = at.all;
@@ -317,7 +321,8 @@ module _ {D N S : Type 0} {d : DiskGhosts D} {n : NamerGhosts N S} where
       claims_matches m = one_more (slots old) (slots mid) id (claimed (slots old id)) m.set (claimed_more (slots old id) m.given)
 
       -- a file was staged for it
-      unfoldable pub staged_adds : Adds (slots old) (slots mid) (told old.journal) (told mid.journal) id content → id.digest ≡ n.digest_of content
+      unfoldable pub staged_adds : Adds (slots old) (slots mid) (told old.journal) (told mid.journal) id content
+          → id.digest ≡ n.digest_of content
           → 0 < length content → HasStaged old mid names at.all
       staged_adds a digest some = record {
         used' = id ∷ names.used;
@@ -326,7 +331,8 @@ module _ {D N S : Type 0} {d : DiskGhosts D} {n : NamerGhosts N S} where
         grows = record {
           given = each_name (λ asked. is_given (slots old asked) ≡ true → is_given (slots mid asked) ≡ true) id
               (λ g. absurd (false≢true (sym (ap is_given a.free.unused) ∙ g))) (λ asked other g. ap is_given (others asked other) ∙ g);
-          file = each_name (λ asked. is_given (slots old asked) ≡ true → with_bytes at.all (F.Pool id) (Some content) (F.Pool asked) ≡ at.all (F.Pool asked)) id
+          file = each_name (λ asked. is_given (slots old asked) ≡ true
+              → with_bytes at.all (F.Pool id) (Some content) (F.Pool asked) ≡ at.all (F.Pool asked)) id
               (λ g. absurd (false≢true (sym (ap is_given a.free.unused) ∙ g)))
               (λ asked other g. with_bytes_other at.all (F.Pool id) (Some content) (F.Pool asked) other);
           metadata = λ asked e. with_bytes_other at.all (F.Pool id) (Some content) asked (apart asked id e);
@@ -335,7 +341,8 @@ module _ {D N S : Type 0} {d : DiskGhosts D} {n : NamerGhosts N S} where
         };
         fits = fits_adds n.digest_of (slots old) (slots mid) (uncertain old.journal) (uncertain mid.journal) at.all (told old.journal)
             (told mid.journal) id content at.fits at.told_is a digest some certain;
-        all_used = each_name (λ asked. is_some (with_bytes at.all (F.Pool id) (Some content) (F.Pool asked)) ≡ true → is_some (slots mid asked) ≡ true) id
+        all_used = each_name (λ asked. is_some (with_bytes at.all (F.Pool id) (Some content) (F.Pool asked)) ≡ true
+            → is_some (slots mid asked) ≡ true) id
             (λ e. ap is_some there)
             (λ asked other e. ap is_some (others asked other)
             ∙ at.all_used asked (ap is_some (sym (with_bytes_other at.all (F.Pool id) (Some content) (F.Pool asked) other)) ∙ e));
@@ -372,7 +379,8 @@ module _ {D N S : Type 0} {d : DiskGhosts D} {n : NamerGhosts N S} where
         };
         fits = fits_less n.digest_of (slots old) (slots mid) (uncertain old.journal) (uncertain mid.journal) at.all one.now
             (less_doomed (slots old) (slots mid) at.all one.now id set one.others) certain at.fits;
-        all_used = each_name (λ asked. is_some (one.now (F.Pool asked)) ≡ true → is_some (slots mid asked) ≡ true) id (λ e. ap is_some there)
+        all_used = each_name (λ asked. is_some (one.now (F.Pool asked)) ≡ true → is_some (slots mid asked) ≡ true) id
+            (λ e. ap is_some there)
             (λ asked other e. ap is_some (others asked other) ∙ at.all_used asked (ap is_some (sym (one.others (F.Pool asked) other)) ∙ e));
         used = used_more (slots old) (slots mid) names.used id Doomed at.used unused near set;
       }

@@ -48,7 +48,8 @@ module _ (id : PoolId) where
   }
   loses_one (Some (Staged size claims)) h = step (claims == 1) refl
     where
-      step : (b : Bool) → (claims == 1) ≡ b → Loses 1 id (Some (Staged size claims)) (if b then Some Doomed else Some (Staged size (claims - 1)))
+      step : (b : Bool) → (claims == 1) ≡ b
+          → Loses 1 id (Some (Staged size claims)) (if b then Some Doomed else Some (Staged size (claims - 1)))
       step true e = record {
         claims = let one : claims ≡ 1 = grind (arith, nat_tests) in omega (arith, one);
         was_given = λ f. refl;
@@ -86,7 +87,8 @@ same_tests a b = step (is_same_id a b) refl (is_same_name b a) refl
     step true e true f = e ∙ sym f
     step false e false f = e ∙ sym f
     step true e false f =
-        absurd (false≢true (sym f ∙ subst (λ (x : PoolId). is_same_name b x ≡ true) (sym (same_id a b e)) (is_same_file-itself (PoolFile b))))
+        absurd (false≢true (sym f ∙ subst (λ (x : PoolId). is_same_name b x ≡ true) (sym (same_id a b e))
+        (is_same_file-itself (PoolFile b))))
     step false e true f = absurd (false≢true (sym e ∙ subst (λ (x : PoolId). is_same_id a x ≡ true) (sym (one_id b a f)) (id_itself a)))
 
 -- ---- all names
@@ -123,7 +125,8 @@ pub next_row : (id : PoolId) (rows : Rows) (i : ℕ) (row : List ℕ × Record) 
     → occurrences id (take (i + 1) rows) ≡ occurrences id (take i rows) + node_occurrences id row.1
 next_row id rows i row within is =
     let more : take (i + 1) rows ≡ take i rows ++ row ∷ [] = take_more rows i row within ∙ ap (λ r. take i rows ++ r ∷ []) (sym is) in
-    ap (occurrences id) more ∙ occurrences-append id (take i rows) (row ∷ []) ∙ alone (occurrences id (take i rows)) (node_occurrences id row.1)
+    ap (occurrences id) more ∙ occurrences-append id (take i rows) (row ∷ [])
+    ∙ alone (occurrences id (take i rows)) (node_occurrences id row.1)
   where
     alone : (m n : ℕ) → m + (n + 0) ≡ m + n
     alone m n = omega arith
@@ -140,7 +143,8 @@ pub lets_go_row : (start now next : Slots) (rows : Rows) (i : ℕ) (row : List �
     → (((id : PoolId) → node_occurrences id node ≤ claims_of (now id)) → LetsGo (λ id. node_occurrences id node) now next)
     → LetsGo (λ id. occurrences id (take (i + 1) rows)) start next
 lets_go_row start now next rows i row node within is node_is enough before step =
-    lets_go_alike start next (λ id. occurrences id (take i rows) + node_occurrences id node) (λ id. occurrences id (take (i + 1) rows)) (λ id. sym (more id))
+    lets_go_alike start next (λ id. occurrences id (take i rows) + node_occurrences id node) (λ id. occurrences id (take (i + 1) rows))
+    (λ id. sym (more id))
     (lets_go_then start now next (λ id. occurrences id (take i rows)) (λ id. node_occurrences id node) before
     (step (λ id. omega (arith, more id, front_rows id rows (i + 1), enough id, (before id).claims))))
   where

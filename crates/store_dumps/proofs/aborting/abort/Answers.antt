@@ -6,7 +6,8 @@ use Rattle.store_dumps.proofs.Aborts.{abort_refused, runs_aborted}
 use Rattle.store_dumps.proofs.aborting.abort.Goals as goal
 
 pub returns-in-None : goal.returns-in-None
-returns-in-None g c = runs_refused _ _ _ _ (reads_still _) (abort_refused _ c.args.session c.in-None.ensures.index) (counted_still _ _ (λ e. e))
+returns-in-None g c = runs_refused _ _ _ _ (reads_still _) (abort_refused _ c.args.session c.in-None.ensures.index)
+    (counted_still _ _ (λ e. e))
 
 pub returns-in-Err : goal.returns-in-Err
 returns-in-Err g c = runs_memory _ _ _ (reads_same _ _ refl c.in-Err.ensures.err refl refl refl refl) (counted_still _ _ (λ e. e))

@@ -6,7 +6,8 @@ use Rattle.store_dumps.proofs.Opens.{no_host, judged_by, runs_opened_full, opene
 use Rattle.store_dumps.proofs.opening.open_dump_full.Goals as goal
 
 pub returns-in-None : goal.returns-in-None
-returns-in-None g c = runs_refused _ _ _ _ (reads_still _) (no_host _ c.args.host.now Full c.args.now c.in-None.ensures.value) (counted_still _ _ (λ e. e))
+returns-in-None g c = runs_refused _ _ _ _ (reads_still _) (no_host _ c.args.host.now Full c.args.now c.in-None.ensures.value)
+    (counted_still _ _ (λ e. e))
 
 pub returns-in-Err : goal.returns-in-Err
 returns-in-Err g c = runs_memory _ _ _ (reads_still _) (counted_still _ _ (λ e. e))

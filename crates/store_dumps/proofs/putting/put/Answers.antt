@@ -9,7 +9,8 @@ use Rattle.store_dumps.proofs.Puts.{runs_same, put_refused, put_broken, runs_put
 use Rattle.store_dumps.proofs.putting.put.Goals as goal
 
 pub returns-in-None : goal.returns-in-None
-returns-in-None g c = runs_refused _ _ _ _ (reads_still _) (put_refused _ c.args.session c.args.path.now c.args.item.now c.in-None.ensures.index)
+returns-in-None g c = runs_refused _ _ _ _ (reads_still _)
+    (put_refused _ c.args.session c.args.path.now c.args.item.now c.in-None.ensures.index)
     (counted_still _ _ (λ e. e))
 
 pub returns-in-Some-broken_rule : goal.returns-in-Some-broken_rule
@@ -21,11 +22,13 @@ returns-in-Some-broken_rule g c = runs_refused _ _ _ _ (reads_still _)
 pub returns-in-Err : goal.returns-in-Err
 returns-in-Err g c = runs_same _ _ _ _ _ c.refusal_of.ensures
     (runs_missed c.args.parts.now c.args.session c.args.path.now c.args.item.now c.in-Some.at c.index.result.now c.in-Some.ensures.index
-    (slice_get_read _ _ _ _ refl c.in-Some.ensures.within c.index.ensures) c.stage.new.journal c.stage.new.pool c.in-None-broken_rule.ensures
+    (slice_get_read _ _ _ _ refl c.in-Some.ensures.within c.index.ensures) c.stage.new.journal c.stage.new.pool
+    c.in-None-broken_rule.ensures
     c.in-Err.ensures.form c.in-Err.ensures.stays c.in-Err.ensures.certain c.in-Err.ensures.crash c.in-Err.fault
     (subst (λ (b : List ℕ). 0 < length b) c.bytes_of.ensures c.in-Err.ensures.some)
     (subst (λ (b : List ℕ). Misses g.N.Namer.digest_of (slots_of c.args.parts.now.pool.names) (slots_of c.stage.new.pool.names)
-    (g.D.Disk.files c.args.parts.now.journal.disk) (g.D.Disk.files c.stage.new.journal.disk) b c.in-Err.fault) c.bytes_of.ensures c.in-Err.ensures.misses)
+    (g.D.Disk.files c.args.parts.now.journal.disk)
+    (g.D.Disk.files c.stage.new.journal.disk) b c.in-Err.fault) c.bytes_of.ensures c.in-Err.ensures.misses)
     c.in-Err.ensures.damaged c.in-Err.ensures.given c.in-Err.ensures.kind c.in-Err.ensures.counted)
 
 pub returns-in-Ok-put_item : goal.returns-in-Ok-put_item
@@ -36,7 +39,8 @@ returns-in-Ok-put_item g c =
     c.in-Ok.ensures.form c.in-Ok.ensures.stays c.in-Ok.ensures.certain c.in-Ok.ensures.crash c.in-Ok.content
     (subst (λ (b : List ℕ). IsContentOf (length b) c.in-Ok.content) c.bytes_of.ensures c.in-Ok.ensures.shape)
     (subst (λ (b : List ℕ). TakesIn g.N.Namer.digest_of (slots_of c.args.parts.now.pool.names) (slots_of c.stage.new.pool.names)
-    (g.D.Disk.files c.args.parts.now.journal.disk) (g.D.Disk.files c.stage.new.journal.disk) c.in-Ok.content b) c.bytes_of.ensures c.in-Ok.ensures.takes)
+    (g.D.Disk.files c.args.parts.now.journal.disk)
+    (g.D.Disk.files c.stage.new.journal.disk) c.in-Ok.content b) c.bytes_of.ensures c.in-Ok.ensures.takes)
     _ refl refl refl refl
     (go_content (slots_of c.stage.new.pool.names) (slots_of c.release.new.pool.names) _ _
     (c.content_of-before.ensures ∙ ap content_found (c.find.ensures c.index.result.now there)) c.release.ensures.go)
@@ -52,7 +56,9 @@ returns-in-Err-put_item g c =
     c.in-Ok.ensures.form c.in-Ok.ensures.stays c.in-Ok.ensures.certain c.in-Ok.ensures.crash c.in-Ok.content
     (subst (λ (b : List ℕ). IsContentOf (length b) c.in-Ok.content) c.bytes_of.ensures c.in-Ok.ensures.shape)
     (subst (λ (b : List ℕ). TakesIn g.N.Namer.digest_of (slots_of c.args.parts.now.pool.names) (slots_of c.stage.new.pool.names)
-    (g.D.Disk.files c.args.parts.now.journal.disk) (g.D.Disk.files c.stage.new.journal.disk) c.in-Ok.content b) c.bytes_of.ensures c.in-Ok.ensures.takes)
+    (g.D.Disk.files c.args.parts.now.journal.disk)
+    (g.D.Disk.files c.stage.new.journal.disk) c.in-Ok.content b) c.bytes_of.ensures c.in-Ok.ensures.takes)
     _ c.in-Err-put_item.fault
     (λ broken is tree. c.in-Err-put_item.ensures.rule broken c.index.result.now is there tree) refl refl refl refl
-    c.release-in-Err-put_item.ensures.go c.release-in-Err-put_item.ensures.form c.in-Err-put_item.ensures.err c.in-Ok.ensures.counted (λ e. absurd cc))
+    c.release-in-Err-put_item.ensures.go c.release-in-Err-put_item.ensures.form c.in-Err-put_item.ensures.err c.in-Ok.ensures.counted
+    (λ e. absurd cc))

@@ -14,7 +14,8 @@ use Rattle.store_dumps.specs.Putting.{record_for}
 use Rattle.store_dumps.proofs.putting.put_item.Goals as goal
 
 abbrev Says : List OpenDump → ℕ → Result (Unit {0}) PutFault → List ℕ → Bool → Type 0
-Says dumps at result path dir = IfErr result (λ fault. (rule : PutRule) (dump : OpenDump) → fault ≡ Broken rule → slice_get dumps at ≡ Some dump
+Says dumps at result path dir = IfErr result
+    (λ fault. (rule : PutRule) (dump : OpenDump) → fault ≡ Broken rule → slice_get dumps at ≡ Some dump
     → IsTree is_dir dump.tree → broken_rule is_dir dump.tree path dir false ≡ Some rule)
 
 is_dir_for : (item : Item) (content : Option PoolId) → is_dir (record_for item content) ≡ is_dir_item item
@@ -31,4 +32,5 @@ says_same dumps at result path path' node item content same is says =
 
 pub returns-clause-rule : goal.returns-clause-rule
 returns-clause-rule c =
-    says_same c.args.sessions.now.dumps.items c.args.at c.put.result _ _ _ c.args.item.now c.args.content c.in_ok-path.ensures c.in_ok-node.ensures c.put.ensures.rule
+    says_same c.args.sessions.now.dumps.items c.args.at c.put.result _ _ _ c.args.item.now c.args.content
+    c.in_ok-path.ensures c.in_ok-node.ensures c.put.ensures.rule

@@ -8,7 +8,8 @@ use Rattle.store_dumps.proofs.Removes.{remove_refused, no_path, runs_removed, go
 use Rattle.store_dumps.proofs.removing.remove.Goals as goal
 
 pub returns-in-None : goal.returns-in-None
-returns-in-None g c = runs_refused _ _ _ _ (reads_still _) (remove_refused _ c.args.session c.args.path.now c.in-None.ensures.index) (counted_still _ _ (λ e. e))
+returns-in-None g c = runs_refused _ _ _ _ (reads_still _) (remove_refused _ c.args.session c.args.path.now c.in-None.ensures.index)
+    (counted_still _ _ (λ e. e))
 
 pub returns-in-Err : goal.returns-in-Err
 returns-in-Err g c = runs_memory _ _ _ (reads_still _) (counted_still _ _ (λ e. e))
@@ -16,20 +17,33 @@ returns-in-Err g c = runs_memory _ _ _ (reads_still _) (counted_still _ _ (λ e.
 pub returns-in-Ok-remove : goal.returns-in-Ok-remove
 returns-in-Ok-remove g c = runs_removed _ c.args.session c.args.path.now c.in-Some.at c.index.result.now c.in-Some.ensures.index
     (slice_get_read _ _ _ _ refl c.in-Some.ensures.within c.index.ensures) _
-    (c.in-Ok-remove.ensures.ok c.index.result.now (slice_get_read _ _ _ _ refl c.in-Some.ensures.within c.index.ensures)) refl refl refl refl
+    (c.in-Ok-remove.ensures.ok c.index.result.now
+    (slice_get_read _ _ _ _ refl c.in-Some.ensures.within c.index.ensures)) refl refl refl refl
     (go_alike (slots_of c.args.parts.now.pool.names) (slots_of c.release_rows.new.pool.names) _ _
-    (c.within.ensures ∙ (λ i. within_rows (c.as_slice.ensures.value i) ((c.rows.ensures.rows ∙ c.in-Ok.ensures) i))) c.release_rows.ensures.go)
+    (c.within.ensures ∙ (λ i. within_rows (c.as_slice.ensures.value i)
+    ((c.rows.ensures.rows ∙ c.in-Ok.ensures) i))) c.release_rows.ensures.go)
     c.release_rows.ensures.form
     (c.in-Ok-remove.ensures.remove c.index.result.now (slice_get_read _ _ _ _ refl c.in-Some.ensures.within c.index.ensures))
     (ap (λ v. v.items) c.in-Ok-remove.ensures.restores) c.in-Ok-remove.ensures.sequence
 
 pub returns-in-Err-NoPath : goal.returns-in-Err-NoPath
 returns-in-Err-NoPath g c = runs_alike_refused _ _ _ _ refl refl refl refl refl
-    (record { dumps = c.in-Err-NoPath.ensures.err; restores = ap (λ v. v.items) c.in-Err-NoPath.ensures.restores; sequence = c.in-Err-NoPath.ensures.sequence })
+    (record {
+      dumps = c.in-Err-NoPath.ensures.err;
+      restores = ap
+          (λ v. v.items) c.in-Err-NoPath.ensures.restores;
+      sequence = c.in-Err-NoPath.ensures.sequence;
+    })
     (no_path _ c.args.session c.args.path.now c.in-Some.at c.index.result.now c.in-Some.ensures.index
     (slice_get_read _ _ _ _ refl c.in-Some.ensures.within c.index.ensures)
-    (c.in-Err-NoPath.ensures.no_path c.index.result.now c.in-Err-NoPath.field-0-is (slice_get_read _ _ _ _ refl c.in-Some.ensures.within c.index.ensures)))
+    (c.in-Err-NoPath.ensures.no_path c.index.result.now c.in-Err-NoPath.field-0-is
+    (slice_get_read _ _ _ _ refl c.in-Some.ensures.within c.index.ensures)))
 
 pub returns : goal.returns
 returns g c = runs_alike_memory _ _ _ refl refl refl refl refl
-    (record { dumps = c.in-Err-Memory.ensures.err; restores = ap (λ v. v.items) c.in-Err-Memory.ensures.restores; sequence = c.in-Err-Memory.ensures.sequence })
+    (record {
+      dumps = c.in-Err-Memory.ensures.err;
+      restores = ap
+          (λ v. v.items) c.in-Err-Memory.ensures.restores;
+      sequence = c.in-Err-Memory.ensures.sequence;
+    })
