@@ -67,7 +67,7 @@ fn release_node<N: Namer>(pool: &mut Pool<N>, node: &Record)
 }
 
 /// Lets go a claim for each row that names a content.
-pub(crate) fn release_rows<N: Namer>(pool: &mut Pool<N>, rows: &[Row])
+pub fn release_rows<N: Namer>(pool: &mut Pool<N>, rows: &[Row])
     ensures go { ((id : PoolId) → occurrences id rows.now ≤ claims_of (slots_of pool.old.names id))
         → LetsGo (λ id. occurrences id rows.now) (slots_of pool.old.names) (slots_of pool.new.names) }
     ensures form { pool.new.in_one_file ≡ pool.old.in_one_file }

@@ -19,6 +19,7 @@ mod putting;
 mod removing;
 
 pub use aborting::abort;
+pub use claims::release_rows;
 pub use opening::open_dump_full;
 pub use putting::put;
 pub use removing::remove;
