@@ -34,7 +34,8 @@ nothing_found digest_of = record {
   has = inl (subst (λ (f : Files). StandsFor digest_of f blank_office) (sym nothing_seen) (blank_stands_for digest_of));
 }
 
-left_nothing : (uncertain : FileSet) → IsWithin uncertain nothing → (image : Files) → MayLeave (Some no_files) uncertain image → image ≡ no_files
+left_nothing : (uncertain : FileSet) → IsWithin uncertain nothing → (image : Files) → MayLeave (Some no_files) uncertain image
+    → image ≡ no_files
 left_nothing uncertain certain image left = λ i asked. at asked i
   where
     all_is : left.all ≡ no_files
@@ -47,6 +48,7 @@ pub blank_of : (digest_of : List ℕ → List ℕ) (uncertain : FileSet) → IsW
     → IsOf digest_of (Some no_files) uncertain blank_office blank_office
 blank_of digest_of uncertain certain = record {
   each = λ image left.
-      subst (Finds (IsEither digest_of blank_office blank_office)) (sym (left_nothing uncertain certain image left)) (nothing_found digest_of);
+      subst (Finds (IsEither digest_of blank_office blank_office)) (sym (left_nothing uncertain certain image left))
+      (nothing_found digest_of);
   tells = refl;
 }

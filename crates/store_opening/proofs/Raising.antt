@@ -95,7 +95,8 @@ module _ {D N S : Type 0} {d : DiskGhosts D} {n : NamerGhosts N S} (journal : Jo
   pub stored_may : (other : Office) → MayBe n.digest_of journal office other
   stored_may other = record {
     each = FindsNow-each (IsAlikeBut at.all (uncertain journal)) (IsEither n.digest_of office other) journal
-        (λ found alike. inl (stored_found journal pool catalog office names at found alike)) (working_finds journal at.all at.journal_ready at.told_is);
+        (λ found alike. inl (stored_found journal pool catalog office names at found alike))
+        (working_finds journal at.all at.journal_ready at.told_is);
     tells = ap is_some at.told_is;
   }
 
@@ -138,7 +139,8 @@ module _ {D N S : Type 0} {d : DiskGhosts D} {n : NamerGhosts N S} (journal : Jo
       catalog_is = known_is ∙ proposes.after_is ∙ ap (λ (k : Known). with_epoch k (k.epoch + 1)) at.catalog_is;
     }
 
-    either_raised : (found : Files) → IsOldOrNew at.all (uncertain journal) changes found → IsEither n.digest_of office (reopened office) found
+    either_raised : (found : Files) → IsOldOrNew at.all (uncertain journal) changes found
+        → IsEither n.digest_of office (reopened office) found
     either_raised = either_left journal pool catalog office names at changes (reopened office)
         (record { index = index_of (slots_of pool.names); backups = at.backups; stands = next_stands })
 

@@ -1,6 +1,6 @@
 -- A journal that was opened again.
 use Rattle.std.specs.Prelude.{is_some, option_map}
-use Rattle.std.proofs.Common.{◌≡◌, true, ℕ, List, Option, None, Some, Err, refl, sym, subst, inl, inr}
+use Rattle.std.proofs.Common.{◌≡◌, true, ℕ, List, Option, None, Some, Err, refl, sym, subst, inl, inr, ◌∙◌}
 use Rattle.std.proofs.lemmas.Bool.{false≢true}
 use Rattle.disk_trait.specs.declared.ids.FileId.{FileId}
 use Rattle.disk_trait.specs.declared.disk.Disk.{Ghosts as DiskGhosts}
@@ -11,13 +11,13 @@ use Rattle.intent_journal.specs.declared.journal.Journal.{Journal}
 use Rattle.journal_view.specs.Found.{seen, Finds, FindsAll, CanFind, IsOpenable, Reopened}
 use Rattle.journal_view.specs.FoundLaws.{finds_each, finds_wider}
 use Rattle.journal_view.specs.OpeningLaws.{reopened_has, opens_of, still_has}
-use Rattle.journal_view.specs.View.{told, uncertain}
+use Rattle.journal_view.specs.View.{told, uncertain, Quiet}
 use Rattle.journal_view.specs.ViewLaws.{seen_some}
 use Rattle.office_model.specs.Office.{Office, reopened}
 use Rattle.store_parts.specs.Held.{IsEither, MayBe}
 use Rattle.store_opening.specs.declared.fault.OpenRefusal.{OpenRefusal}
 use Rattle.store_opening.specs.declared.fault.OpenRefusal.TheVariants.{Foreign, EpochsSpent, DiskFault, Memory}
-use Rattle.store_opening.specs.Recovers.{Holds}
+use Rattle.store_opening.specs.Recovers.{Holds, IsForeign, SaysForeign}
 use Rattle.store_opening.specs.Begins.{MayLeave, IsPlain, Begins}
 use Rattle.store_opening.specs.Opens.{IsOf, Left}
 
@@ -128,3 +128,13 @@ pub left_at : {D : Type 0} (d : DiskGhosts D) (digest_of : List ℕ → List ℕ
     → Left digest_of (d.files other) (d.uncertain other) a b refusal
 left_at d digest_of a b refusal disk other same left =
     subst (λ (x : _). Left digest_of (d.files x) (d.uncertain x) a b refusal) (sym same) left
+
+-- what is foreign was not written over
+pub still_foreign : {D : Type 0} {d : DiskGhosts D} (old new : Journal D d) (file : FileId) (found : Option (List ℕ))
+    (refusal : OpenRefusal)
+    → refusal ≡ Foreign file found → ((refusal ≡ DiskFault → ⊥) → Quiet old new) → SaysForeign (told old) refusal
+    → IsForeign (told new) file found
+still_foreign old new file found refusal e quiet says =
+    subst (λ (t : Option Files). IsForeign t file found)
+    (sym (quiet (λ fault. let clash : Foreign file found ≡ DiskFault = sym e ∙ fault in cc)).told_same)
+    (says file found e)

@@ -4,6 +4,7 @@ use Rattle.std.proofs.Common.{◌≡◌, ℕ, ◌+◌, ◌<◌, ◌≤◌, Bool,
 use Rattle.std.proofs.lemmas.Bool.Decides.{nat_tests}
 use Rattle.fault_counts.specs.Counts.{Counted}
 use Rattle.disk_trait.specs.declared.ids.PoolId.{PoolId}
+use Rattle.disk_trait.specs.declared.ids.FileId.{FileId}
 use Rattle.disk_trait.specs.declared.disk.Disk.{Ghosts as DiskGhosts}
 use Rattle.pool_name.specs.declared.namer.Namer.{Ghosts as NamerGhosts}
 use Rattle.intent_journal.specs.declared.journal.Journal.{Journal}
@@ -41,6 +42,7 @@ use Rattle.store_parts.specs.RunLaws.{running_reads}
 use Rattle.store_opening.specs.declared.found.Found.{Found}
 use Rattle.store_opening.specs.declared.fault.OpenRefusal.{OpenRefusal}
 use Rattle.store_opening.specs.declared.fault.OpenRefusal.TheVariants as O
+use Rattle.store_opening.specs.Recovers.{SaysWhy}
 use Rattle.store_opening.specs.Begins.{MayLeave, IsPlain, Raised, Begins}
 use Rattle.store_opening.specs.Reopens.{reply_of, halts, IsPlainReply, first_of, second_of, with_journal, IsOfFound, Reopened, Goes, Reopens}
 use Rattle.store_opening.specs.Opens.{Opened}
@@ -144,6 +146,13 @@ fault_back O.EpochsSpent e = absurd cc
 fault_back O.DiskFault e = refl
 fault_back O.Memory e = absurd cc
 
+damaged_of : (refusal : OpenRefusal) (file : FileId) (found : Option (List ℕ)) → refused (reply_of refusal) ≡ Err (Damaged file found)
+    → refusal ≡ O.Foreign file found
+damaged_of (O.Foreign file found) other bytes e = cc
+damaged_of O.EpochsSpent other bytes e = absurd cc
+damaged_of O.DiskFault other bytes e = absurd cc
+damaged_of O.Memory other bytes e = absurd cc
+
 counted_as : (before now : ℕ) (P Q : Type 0) → (P → Q) → (Q → P) → Counted before now P → Counted before now Q
 counted_as before now P Q to back counted =
     record { later = counted.later; rose = λ q. counted.rose (back q); stays = λ none. counted.stays (λ p. none (to p)) }
@@ -170,6 +179,7 @@ module _ {D N S : Type 0} {d : DiskGhosts D} {n : NamerGhosts N S} where
     stays = λ refusal e. absurd cc;
     halted_same = λ plain. absurd plain;
     quiet = λ plain. absurd plain;
+    damaged = λ file found e. absurd cc;
     counted = subst (λ (j : Journal D d). Counted (d.fault_count old.journal.disk) (d.fault_count j.disk) (answered
         (ReopenedAnswer epoch) ≡ Err DiskFault)) (sym same)
         (counted_as _ _ (IsErrOf (Ok found) O.DiskFault) (answered (ReopenedAnswer epoch) ≡ Err DiskFault) (λ p. absurd cc)
@@ -182,14 +192,16 @@ module _ {D N S : Type 0} {d : DiskGhosts D} {n : NamerGhosts N S} where
       → ((a b : Office) → MayBe n.digest_of old.journal a b → FindsOnly old.journal new.journal (MayLeave n.digest_of a b))
       → (IsPlain refusal → old.journal.halted ≡ false → is_some (told old.journal) ≡ true → Quiet old.journal new.journal)
       → Counted (d.fault_count old.journal.disk) (d.fault_count new.journal.disk) (IsErrOf {T = Found N S n} (Err refusal) O.DiskFault)
+      → SaysWhy (d.files old.journal.disk) (d.files new.journal.disk) refusal
       → Reopens old (Err reply) new
-  reopens_refused old new refusal reply reply_is stays halted begins crash quiet counted =
+  reopens_refused old new refusal reply reply_is stays halted begins crash quiet counted says =
       subst (λ (r : Refusal). Reopens old (Err r) new) (sym reply_is) (record {
         goes = λ a b may. goes_refused new a b refusal (λ e. halted ∙ either_halts old.halted (halts refusal) e) (begins a b may);
         crash = crash;
         stays = λ r e. stays;
         halted_same = λ plain. halted ∙ neither_halts old.halted (halts refusal) (calm_of refusal plain);
         quiet = λ plain. quiet (plain_of refusal plain);
+        damaged = λ file found e. says file found (damaged_of refusal file found e);
         counted = counted_as _ _ (IsErrOf {T = Found N S n} (Err refusal) O.DiskFault) (refused (reply_of refusal) ≡ Err DiskFault)
             (λ p. fault_to refusal cc) (λ q. ap (λ (r : OpenRefusal). Err r) (fault_back refusal q)) counted;
       })

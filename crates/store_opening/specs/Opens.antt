@@ -1,16 +1,12 @@
 -- What opening a disk comes to.
 --     IsOf      each image of the disk stands for one of two offices
 --     Opened      one of them is at work, in its next epoch;  Left      what a disk was left with that wasn't opened
---     SaysWhy      what a refusal says of a disk
-use Rattle.std.specs.Prelude.{◌≡◌, ◌⊎◌, ◌<◌, ◌≤◌, ℕ, true, List, Option, is_some, option_map}
-use Rattle.disk_trait.specs.declared.ids.FileId.{FileId}
-use Rattle.disk_trait.specs.declared.ids.FileId.TheVariants.{Intent}
+use Rattle.std.specs.Prelude.{◌≡◌, ◌⊎◌, ◌<◌, ◌≤◌, ℕ, true, List, Option, is_some}
 use Rattle.disk_trait.specs.declared.disk.Disk.{Ghosts as DiskGhosts}
 use Rattle.disk_trait.specs.Files.{Files}
 use Rattle.disk_trait.specs.Images.{FileSet}
 use Rattle.pool_name.specs.declared.namer.Namer.{Ghosts as NamerGhosts}
-use Rattle.intent_journal.specs.Overlay.{IsForeign as IsForeignIntent}
-use Rattle.journal_view.specs.Found.{seen, FindsAll}
+use Rattle.journal_view.specs.Found.{FindsAll}
 use Rattle.office_model.specs.Office.{Office, Names, reopened, last_sequence}
 use Rattle.office_model.specs.Step.{IsPicked}
 use Rattle.store_parts.specs.declared.parts.StoreParts.{StoreParts}
@@ -18,7 +14,6 @@ use Rattle.store_parts.specs.Held.{IsEither}
 use Rattle.store_parts.specs.States.{IsRunning}
 use Rattle.store_opening.specs.declared.fault.OpenRefusal.{OpenRefusal}
 use Rattle.store_opening.specs.declared.fault.OpenRefusal.TheVariants.{Foreign, EpochsSpent, DiskFault, Memory}
-use Rattle.store_opening.specs.Recovers.{IsForeign}
 
 -- a disk that tells its files, each image of which stands for one of two offices
 pub record IsOf (digest_of : List ℕ → List ℕ) (told : Option Files) (uncertain : FileSet) (a b : Office) : Type 0 where
@@ -39,12 +34,6 @@ Left digest_of told uncertain a b DiskFault =
     IsOf digest_of told uncertain a b
     ⊎ ((office : Office) × IsPicked a b office × IsOf digest_of told uncertain office (reopened office))
 Left digest_of told uncertain a b Memory = IsOf digest_of told uncertain a b
-
--- of a disk whose files were these, and are those that are told now
-abbrev pub SaysWhy : (before now : Option Files) → OpenRefusal → Type 0
-SaysWhy before now refusal =
-    (file : FileId) (found : Option (List ℕ)) → refusal ≡ Foreign file found
-    → ((file ≡ Intent) × IsForeignIntent before found) ⊎ IsForeign (option_map seen now) file found
 
 module _ {D N S : Type 0} {d : DiskGhosts D} {n : NamerGhosts N S} where
   -- one of the two offices is at work in its next epoch

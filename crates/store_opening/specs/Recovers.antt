@@ -1,14 +1,17 @@
 -- What an opening finds in the files that a journal tells.
 --     Holds      files that stand for one of two offices, all of them durable
 --     Recovers      one of the two was found
---     IsForeign      a file that doesn't belong to a store
-use Rattle.std.specs.Prelude.{◌≡◌, ◌⊎◌, ℕ, List, Option, Some}
+--     IsForeign      a file that doesn't belong to a store;  IsForeignTo      or Intent, at an opening
+use Rattle.std.specs.Prelude.{◌≡◌, ◌⊎◌, ℕ, List, Option, option_map, Some}
 use Rattle.disk_trait.specs.declared.ids.FileId.{FileId}
+use Rattle.disk_trait.specs.declared.ids.FileId.TheVariants.{Intent}
 use Rattle.disk_trait.specs.declared.disk.Disk.{Ghosts as DiskGhosts}
 use Rattle.disk_trait.specs.Files.{Files}
 use Rattle.disk_trait.specs.Images.{nothing, IsWithin}
 use Rattle.pool_name.specs.declared.namer.Namer.{Ghosts as NamerGhosts}
 use Rattle.intent_journal.specs.declared.journal.Journal.{Journal}
+use Rattle.intent_journal.specs.Overlay.{IsForeign as IsForeignIntent}
+use Rattle.journal_view.specs.Found.{seen}
 use Rattle.journal_view.specs.View.{told, uncertain, FindsOnly}
 use Rattle.pool_changes.specs.Kept.{slots_of}
 use Rattle.pool_store.specs.Opening.{AreFresh}
@@ -31,6 +34,14 @@ IsForeign told file found =
 -- what a refusal says of the files
 abbrev pub SaysForeign : (told : Option Files) → OpenRefusal → Type 0
 SaysForeign told refusal = (file : FileId) (found : Option (List ℕ)) → refusal ≡ Foreign file found → IsForeign told file found
+
+-- of a disk whose files were these, and are those that are told now
+abbrev pub IsForeignTo : (before now : Option Files) → FileId → Option (List ℕ) → Type 0
+IsForeignTo before now file found = ((file ≡ Intent) × IsForeignIntent before found) ⊎ IsForeign (option_map seen now) file found
+
+abbrev pub SaysWhy : (before now : Option Files) → OpenRefusal → Type 0
+SaysWhy before now refusal =
+    (file : FileId) (found : Option (List ℕ)) → refusal ≡ Foreign file found → IsForeignTo before now file found
 
 module _ {D : Type 0} {d : DiskGhosts D} where
   -- the journal tells files that stand for one of two offices, and all of them are durable

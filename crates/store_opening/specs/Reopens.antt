@@ -3,8 +3,9 @@
 --     Goes      how it went, of a store that a crash would have left with one of two offices
 --     Reopens      it went so, and a refusal changed nothing but what is said here
 --     first_of, second_of      the two offices of a state, of which a crash leaves one
-use Rattle.std.specs.Prelude.{◌≡◌, ◌<◌, ◌+◌, Bool, true, false, [], None, Ok, Err, is_some}
+use Rattle.std.specs.Prelude.{List, ℕ, ◌≡◌, ◌<◌, ◌+◌, Bool, true, false, [], None, Ok, Err, is_some, Option}
 use Rattle.fault_counts.specs.Counts.{Counted}
+use Rattle.disk_trait.specs.declared.ids.FileId.{FileId}
 use Rattle.disk_trait.specs.declared.disk.Disk.{Ghosts as DiskGhosts}
 use Rattle.pool_name.specs.declared.namer.Namer.{Ghosts as NamerGhosts}
 use Rattle.intent_journal.specs.declared.journal.Journal.{Journal}
@@ -23,6 +24,7 @@ use Rattle.store_parts.specs.States.{IsRunning}
 use Rattle.store_opening.specs.declared.fault.OpenRefusal.{OpenRefusal}
 use Rattle.store_opening.specs.declared.fault.OpenRefusal.TheVariants as O
 use Rattle.store_opening.specs.declared.found.Found.{Found}
+use Rattle.store_opening.specs.Recovers.{IsForeignTo}
 use Rattle.store_opening.specs.Begins.{MayLeave, IsSpent, IsBetween}
 
 -- what a store answers to a reopening that was refused
@@ -97,4 +99,6 @@ module _ {D N S : Type 0} {d : DiskGhosts D} {n : NamerGhosts N S} where
     pub stays : (refusal : Refusal) → reply ≡ Err refusal → new ≡ with_journal old new.journal new.halted
     pub halted_same : IsPlainReply reply → new.halted ≡ old.halted
     pub quiet : IsPlainReply reply → old.journal.halted ≡ false → is_some (told old.journal) ≡ true → Quiet old.journal new.journal
+    pub damaged : (file : FileId) (found : Option (List ℕ)) → reply ≡ Err (Damaged file found)
+        → IsForeignTo (d.files old.journal.disk) (d.files new.journal.disk) file found
     pub counted : Counted (d.fault_count old.journal.disk) (d.fault_count new.journal.disk) (reply ≡ Err DiskFault)

@@ -1,8 +1,13 @@
 //! Opening a store again.
 
-ghost use Rattle.std.specs.Prelude.{◌≡◌, ◌||◌, true, false, List, ℕ, Option, is_some, IfErr, Err, IsErrOf};
+ghost use Rattle.std.specs.Prelude.{◌≡◌, ◌||◌, true, false, List, ℕ, Option, Some, is_some, IfErr, OnOk, OnErr, Err, IsErrOf};
 ghost use Rattle.fault_counts.specs.Counts.{Counted};
 ghost use Rattle.disk_trait.specs.declared.ids.FileId.{FileId as File};
+ghost use Rattle.disk_trait.specs.declared.ids.FileId.TheVariants.{Intent};
+ghost use Rattle.disk_trait.specs.Files.{Files};
+ghost use Rattle.disk_trait.specs.Images.{Leaves};
+ghost use Rattle.intent_journal.specs.Overlay.{IsForeign as IsForeignIntent};
+ghost use Rattle.journal_view.specs.Found.{Finds, FindsAll, CanFind, IsOpenable, Reopened};
 ghost use Rattle.journal_view.specs.View.{told, Quiet, FindsOnly};
 ghost use Rattle.office_model.specs.declared.event.Event.TheVariants.{Reopen};
 ghost use Rattle.office_model.specs.Office.{Office};
@@ -10,6 +15,7 @@ ghost use Rattle.office_model.specs.Step.{State};
 ghost use Rattle.store_parts.specs.Held.{MayBe};
 ghost use Rattle.store_parts.specs.States.{InState};
 ghost use Rattle.store_parts.specs.Runs.{Steps};
+ghost use Rattle.store_opening.specs.Recovers.{SaysWhy};
 ghost use Rattle.store_opening.specs.Begins.{MayLeave, IsPlain, Begins};
 ghost use Rattle.store_opening.specs.Reopens.{Reopens, IsOfFound, reply_of, halts, first_of, second_of};
 
@@ -25,6 +31,34 @@ use pool_name::Namer;
 use std::alloc::Global;
 use store_parts::StoreParts;
 
+/// Opens the disk of a journal again; one at work stays as it was.
+fn reopen_journal<D: Disk>(alloc: Global, journal: &mut Journal<D>) -> Result<(), OpenRefusal>
+    ensures ready { OnOk result (journal.new.halted ≡ false) }
+    ensures done { OnOk result ((all : Files) → D.files journal.old.disk ≡ Some all
+        → IsOpenable (D.files journal.old.disk) (D.uncertain journal.old.disk)
+        → Reopened D.files D.uncertain D.moment D.left_since (CanFind (D.files journal.old.disk) (D.uncertain journal.old.disk))
+        journal.old.disk journal.new.disk) }
+    ensures failed { OnErr result ((all : Files) → D.files journal.old.disk ≡ Some all
+        → IsOpenable (D.files journal.old.disk) (D.uncertain journal.old.disk)
+        → Leaves D.moment D.left_since journal.old.disk journal.new.disk
+        (Finds (CanFind (D.files journal.old.disk) (D.uncertain journal.old.disk)))
+        × FindsAll (D.files journal.new.disk) (D.uncertain journal.new.disk)
+        (CanFind (D.files journal.old.disk) (D.uncertain journal.old.disk))) }
+    ensures known { IfErr result (λ refusal. (all : Files) (file : File) (found : Option (List ℕ)) → refusal ≡ OpenRefusal.Foreign file found
+        → D.files journal.old.disk ≡ Some all → IsOpenable (D.files journal.old.disk) (D.uncertain journal.old.disk) → ⊥) }
+    ensures foreign { IfErr result (λ refusal. (file : File) (found : Option (List ℕ)) → refusal ≡ OpenRefusal.Foreign file found
+        → (file ≡ Intent) × IsForeignIntent (D.files journal.old.disk) found) }
+    ensures kind { IfErr result (λ refusal. refusal ≡ OpenRefusal.EpochsSpent → ⊥) }
+    ensures running { OnOk result (journal.old.halted ≡ false → is_some (told journal.old) ≡ true → Quiet journal.old journal.new) }
+    ensures memory { IfErr result (λ refusal. refusal ≡ OpenRefusal.Memory → journal.old.halted ≡ false → Quiet journal.old journal.new) }
+    ensures counted { Counted (D.fault_count journal.old.disk) (D.fault_count journal.new.disk) (IsErrOf result OpenRefusal.DiskFault) }
+{
+    match journal.reopen(alloc) {
+        Ok(()) => Ok(()),
+        Err(fault) => Err(open_refusal(fault)),
+    }
+}
+
 /// Opens the disk of a journal again, and makes the office that it has durable in its next epoch.
 fn begin_again<D: Disk, N: Namer>(
     alloc: Global,
@@ -34,11 +68,12 @@ fn begin_again<D: Disk, N: Namer>(
     ensures begins { (a b : Office) → MayBe N.digest_of journal.old a b → Begins a b result journal.new }
     ensures crash { (a b : Office) → MayBe N.digest_of journal.old a b → FindsOnly journal.old journal.new (MayLeave N.digest_of a b) }
     ensures quiet { IfErr result (λ refusal. IsPlain refusal → journal.old.halted ≡ false → is_some (told journal.old) ≡ true → Quiet journal.old journal.new) }
+    ensures foreign { IfErr result (SaysWhy (D.files journal.old.disk) (D.files journal.new.disk)) }
     ensures counted { Counted (D.fault_count journal.old.disk) (D.fault_count journal.new.disk) (IsErrOf result OpenRefusal.DiskFault) }
 {
-    match journal_view::reopen(journal, alloc) {
+    match reopen_journal(alloc, journal) {
         Ok(()) => {}
-        Err(fault) => return Err(open_refusal(fault)),
+        Err(refusal) => return Err(refusal),
     }
     match begin(alloc, journal, namer) {
         Ok(found) => Ok(found),
@@ -114,8 +149,8 @@ fn reopen_parts<D: Disk, N: Namer>(
 ///
 /// After Ok it is at work in the next epoch, with the office that was durable, or of a halted one the one of its two that
 /// the disk has; open dumps and restores are gone. After `Broken` and `Memory` it is as it was. After `DiskFault` it is
-/// halted, and the disk has the office as it was or in its next epoch; so after `Damaged`, which never comes on a disk that
-/// a store left.
+/// halted, and the disk has the office as it was or in its next epoch; so after `Damaged`, which says what was found of a
+/// file, and never comes on a disk that a store left.
 pub fn reopen<D: Disk, N: Namer>(
     parts: &mut StoreParts<D, N>,
     alloc: Global,

@@ -9,10 +9,10 @@ ghost use Rattle.disk_trait.specs.Images.{Leaves};
 ghost use Rattle.intent_journal.specs.Overlay.{IsForeign as IsForeignIntent};
 ghost use Rattle.journal_view.specs.Found.{seen, Finds, FindsAll, CanFind, IsOpenable, Reopened};
 ghost use Rattle.office_model.specs.Office.{Office};
-ghost use Rattle.store_opening.specs.Recovers.{Holds, SaysForeign};
+ghost use Rattle.store_opening.specs.Recovers.{Holds, SaysForeign, SaysWhy};
 ghost use Rattle.store_opening.specs.Begins.{MayLeave, Begins};
 ghost use Rattle.store_opening.specs.Reopens.{IsOfFound};
-ghost use Rattle.store_opening.specs.Opens.{IsOf, Opened, Left, SaysWhy};
+ghost use Rattle.store_opening.specs.Opens.{IsOf, Opened, Left};
 
 use crate::begin::begin;
 use crate::fault::{OpenRefusal, open_refusal};

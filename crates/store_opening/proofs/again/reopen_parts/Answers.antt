@@ -11,4 +11,4 @@ returns-in-Ok g c =
 pub returns-in-Err : goal.returns-in-Err
 returns-in-Err g c =
     reopens_refused c.args.parts.now _ c.in-Err.refusal c.reply_of.result c.reply_of.ensures refl c.is_halted_after-parts.ensures
-    c.in-Err.ensures.begins c.in-Err.ensures.crash c.in-Err.ensures.quiet c.in-Err.ensures.counted
+    c.in-Err.ensures.begins c.in-Err.ensures.crash c.in-Err.ensures.quiet c.in-Err.ensures.counted c.in-Err.ensures.foreign
