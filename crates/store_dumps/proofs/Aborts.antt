@@ -1,5 +1,5 @@
 -- What an abort leaves.
-use Rattle.std.specs.Prelude.{◌≡◌, ◌+◌, ◌≤◌, ℕ, List, Option, Some, None, Ok, Err, slice_get}
+use Rattle.std.specs.Prelude.{◌≡◌, ◌≤◌, ℕ, List, Option, Some, None, Ok, Err, slice_get}
 use Rattle.std.specs.List.{position_from, remove}
 use Rattle.std.proofs.Common.{refl, sym, ap, ◌∙◌, subst, arith}
 use Rattle.disk_trait.specs.declared.ids.PoolId.{PoolId}
@@ -15,9 +15,8 @@ use Rattle.office_model.specs.declared.session.SessionName.{SessionName}
 use Rattle.office_model.specs.declared.answer.Answer.TheVariants.{Done}
 use Rattle.office_model.specs.declared.event.Event.TheVariants.{Abort}
 use Rattle.office_model.specs.declared.refusal.BrokenRule.TheVariants.{NoSession}
-use Rattle.office_model.specs.Meaning.{Carried}
 use Rattle.office_model.specs.Office.{Office, Dump, Names, dump_index}
-use Rattle.office_model.specs.Parts.{At, dump_at}
+use Rattle.office_model.specs.Parts.{dump_at}
 use Rattle.office_model.specs.laws.Judging.{at_found}
 use Rattle.office_model.specs.laws.SoundLaws.{IsSound-carried}
 use Rattle.office_model.specs.events.Abort as AbortEvent
@@ -28,7 +27,7 @@ use Rattle.store_parts.specs.Held.{given}
 use Rattle.store_parts.specs.States.{slots, IsRunning}
 use Rattle.store_parts.specs.Runs.{Runs}
 use Rattle.store_dumps.specs.Claims.{LetsGo}
-use Rattle.store_dumps.proofs.Running.{Makes, running_let_go, runs_kept}
+use Rattle.store_dumps.proofs.Running.{running_let_go, runs_kept}
 
 abbrev pub place_of : List OpenDump → SessionName → Option ℕ
 place_of dumps name = position_from (λ dump. is_same_session dump.name name) 0 dumps

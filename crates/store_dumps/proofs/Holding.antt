@@ -1,36 +1,31 @@
 -- A content is held exactly if a live or staged name has it.
 --     given_held      the content of a live or staged name is in the pool or in an open dump's tree
 --     held_given      and such a content has a name
-use Rattle.std.specs.Prelude.{◌≡◌, ◌<◌, ◌+◌, ℕ, zero, suc, Bool, true, false, ◌||◌, List, [], ◌∷◌, length, Option, Some, None, is_some, slice_get, bytes_eq, ◌⊎◌, if◌then◌else◌}
+use Rattle.std.specs.Prelude.{◌≡◌, ◌<◌, ◌+◌, ℕ, zero, suc, Bool, true, false, ◌||◌, List, [], ◌∷◌, length, Option, Some, None, is_some, slice_get, ◌⊎◌, if◌then◌else◌}
 use Rattle.std.specs.List.{list_any}
 use Rattle.std.proofs.Common.{refl, sym, ap, ◌∙◌, subst, inl, inr, arith}
-use Rattle.std.proofs.lemmas.Bool.{true≢false, false≢true}
 use Rattle.std.specs.Cmp.Lexicographic.{bytes_decides}
 use Rattle.disk_trait.specs.declared.ids.PoolId.{PoolId}
-use Rattle.disk_trait.specs.declared.ids.FileId.TheVariants.{Pool as PoolFile}
 use Rattle.disk_trait.specs.declared.disk.Disk.{Ghosts as DiskGhosts}
-use Rattle.disk_trait.specs.Files.{Files, bytes_of as file_bytes}
+use Rattle.disk_trait.specs.Files.{bytes_of as file_bytes}
 use Rattle.pool_name.specs.declared.namer.Namer.{Ghosts as NamerGhosts}
 use Rattle.pool_index.specs.declared.item.IndexItem.{IndexItem}
 use Rattle.pool_changes.specs.declared.slot.Slot.{Slot}
 use Rattle.pool_changes.specs.declared.slot.Slot.TheVariants.{Live, Staged, Doomed}
-use Rattle.pool_changes.specs.Slots.{Slots, is_staged, is_given, claims_of}
-use Rattle.pool_changes.specs.Kept.{slots_of}
+use Rattle.pool_changes.specs.Slots.{is_staged, is_given}
 use Rattle.pool_changes.specs.Listed.{item_of, index_of}
-use Rattle.pool_store.specs.declared.pool.Pool.{Pool}
 use Rattle.attr_records.specs.Items.{some_bytes}
 use Rattle.attr_tables.specs.declared.records.Record.{Record}
 use Rattle.attr_tables.specs.declared.records.Record.TheVariants.{File, Dir, Link, Deleted}
-use Rattle.attr_tables.specs.Records.{is_same_id}
 use Rattle.attr_tables.specs.RecordLaws.{same_id}
 use Rattle.merge_view.specs.Views.{Rows}
 use Rattle.stored_trees.specs.Resolved.{bytes_of, resolved, resolved_item, IsTold, IsToldContent, AreTold}
 use Rattle.stored_trees.specs.Occurrences.{is_content as is_id, names as names_id, occurrences}
 use Rattle.open_sessions.specs.declared.sessions.OpenDump.{OpenDump}
 use Rattle.open_sessions.specs.declared.sessions.OpenRestore.{OpenRestore}
-use Rattle.open_sessions.specs.Opened.{base_of, claims_of_dump, claims_in, claims_in_dumps, claims_in_restores, IsDump, IsRestore}
-use Rattle.office_model.specs.Pool.{Pool as ModelPool, mark_of, is_pooled, is_same_content, is_content, holds}
-use Rattle.office_model.specs.Office.{Office, Dump, Restore, Names, in_dumps, is_held, durable}
+use Rattle.open_sessions.specs.Opened.{base_of, claims_of_dump, claims_in, claims_in_dumps, claims_in_restores, IsDump}
+use Rattle.office_model.specs.Pool.{mark_of, is_pooled, is_same_content, is_content, holds}
+use Rattle.office_model.specs.Office.{Office, Dump, Names, in_dumps, is_held}
 use Rattle.office_model.specs.laws.CleanLaws.{any_at}
 use Rattle.office_files.specs.Pairs.{other_at}
 use Rattle.office_files.specs.Pooled.{contents_of}

@@ -1,7 +1,7 @@
 -- The catalog's look-ups are those of its office.
-use Rattle.std.specs.Prelude.{◌≡◌, ℕ, zero, suc, ◌+◌, cond, List, [], ◌∷◌, Option, Some, None, Ok, Err, slice_get, bytes_eq}
+use Rattle.std.specs.Prelude.{◌≡◌, ℕ, suc, ◌+◌, cond, List, [], ◌∷◌, Option, Some, None, Ok, Err, slice_get, bytes_eq}
 use Rattle.std.specs.List.{position_from}
-use Rattle.std.proofs.Common.{refl, sym, ap, ◌∙◌, subst, arith}
+use Rattle.std.proofs.Common.{refl, sym, ap, ◌∙◌, arith}
 use Rattle.backup_index.specs.Index.{Index}
 use Rattle.office_catalog.specs.Known.{Known, host_named, names_of}
 use Rattle.office_model.specs.declared.refusal.BrokenRule.TheVariants.{NoHost}

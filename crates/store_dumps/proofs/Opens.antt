@@ -1,57 +1,47 @@
 -- What an opening of a dump leaves.
-use Rattle.std.specs.Prelude.{◌≡◌, ◌<◌, ◌+◌, ◌-◌, ◌^◌, ◌==◌, ℕ, Bool, true, false, List, [], ◌∷◌, ◌++◌, nat_le, is_some, Option, Some, None, Ok, Err, slice_get, if◌then◌else◌}
+use Rattle.std.specs.Prelude.{◌≡◌, ◌<◌, ◌+◌, ◌==◌, ℕ, Bool, true, false, List, [], ◌∷◌, ◌++◌, nat_le, is_some, Option, Some, None, Ok, Err, slice_get, if◌then◌else◌}
 use Rattle.std.specs.List.{position_from}
 use Rattle.std.proofs.Common.{refl, sym, ap, ◌∙◌, subst, arith}
 use Rattle.std.proofs.Common.{get_or, length}
 use Rattle.std.proofs.lemmas.Option.{slice_get_read}
-use Rattle.fault_counts.specs.Counts.{Counted}
 use Rattle.disk_trait.specs.declared.ids.PoolId.{PoolId}
 use Rattle.disk_trait.specs.declared.disk.Disk.{Ghosts as DiskGhosts}
 use Rattle.pool_name.specs.declared.namer.Namer.{Ghosts as NamerGhosts}
 use Rattle.attr_records.specs.Items.{Tree}
 use Rattle.backup_rules.specs.declared.lines.Kind.{Kind}
-use Rattle.backup_rules.specs.declared.lines.Kind.TheVariants.{Full, Incr}
+use Rattle.backup_rules.specs.declared.lines.Kind.TheVariants.{Full}
 use Rattle.backup_index.specs.Index.{Index}
-use Rattle.merge_view.specs.Views.{Rows, IsWhole}
+use Rattle.merge_view.specs.Views.{Rows}
 use Rattle.stored_trees.specs.Resolved.{resolved}
 use Rattle.stored_trees.specs.Occurrences.{occurrences}
 use Rattle.office_catalog.specs.Known.{Known, host_named, names_of}
 use Rattle.open_sessions.specs.declared.sessions.OpenDump.{OpenDump}
 use Rattle.open_sessions.specs.declared.sessions.OpenRestore.{OpenRestore}
 use Rattle.open_sessions.specs.declared.sessions.Sessions.{Sessions}
-use Rattle.open_sessions.specs.Opened.{AreRowsOf, IsDump, IsRestore, AreSessions, base_of, claims_of_dump, claims_in, claims_in_dumps, claims_in_restores}
+use Rattle.open_sessions.specs.Opened.{AreRowsOf, IsDump, IsRestore, AreSessions, claims_in, claims_in_dumps, claims_in_restores}
 use Rattle.open_sessions.specs.SessionLaws.{dump_index_of_host-sessions, claims_in_dumps-push}
 use Rattle.office_model.specs.declared.answer.Answer.TheVariants.{Dump as DumpAnswer}
-use Rattle.office_model.specs.declared.event.Event.{Event}
 use Rattle.office_model.specs.declared.event.Event.TheVariants.{OpenDump as OpenDumpEvent}
 use Rattle.office_model.specs.declared.refusal.BrokenRule.{BrokenRule}
 use Rattle.office_model.specs.declared.refusal.BrokenRule.TheVariants.{NoHost, SessionOpen, NumbersSpent}
-use Rattle.office_model.specs.declared.refusal.Refusal.TheVariants.{DiskFault, Memory}
 use Rattle.office_model.specs.declared.session.SessionName.{SessionName}
-use Rattle.office_model.specs.Meaning.{Carried, Judged, Reply, ◌>>=◌, ◌>>◌, breaks}
+use Rattle.office_model.specs.Meaning.{Carried, Judged, ◌>>=◌, ◌>>◌, breaks}
 use Rattle.office_model.specs.Office.{Office, Host, Dump, Names, durable, dump_index_of_host, number_limit, last_sequence}
-use Rattle.office_model.specs.Step.{Running, meaning_of}
-use Rattle.office_model.specs.Parts.{At, host_at}
+use Rattle.office_model.specs.Parts.{host_at}
 use Rattle.office_model.specs.laws.SoundLaws.{IsSound-carried}
 use Rattle.office_model.specs.events.OpenDump as OpenDumpModel
-use Rattle.office_files.specs.Hosts.{index_of_host}
 use Rattle.office_files.specs.Pairs.{AtEachPair, pairs_push}
 use Rattle.office_files.specs.Pooled.{contents_of}
-use Rattle.office_known.specs.KnownLaws.{known_of_office}
-use Rattle.journal_view.specs.View.{FindsOnly}
-use Rattle.journal_view.specs.ViewLaws.{FindsOnly-still}
 use Rattle.pool_changes.specs.Kept.{slots_of}
 use Rattle.store_parts.specs.declared.parts.StoreParts.{StoreParts}
 use Rattle.store_parts.specs.Held.{given}
 use Rattle.store_parts.specs.States.{slots, IsRunning}
-use Rattle.store_parts.specs.Runs.{MayRecover, Runs}
-use Rattle.store_parts.specs.StepLaws.{step_memory}
-use Rattle.store_parts.specs.RunLaws.{counted_still}
+use Rattle.store_parts.specs.Runs.{Runs}
 use Rattle.store_dumps.specs.Claims.{LetsGo}
 use Rattle.store_dumps.specs.ClaimLaws.{lets_go_none}
 use Rattle.store_dumps.specs.Opening.{opening_rule, session_of, IsFresh, IsOpened}
 use Rattle.store_dumps.proofs.Hosts.{IsNamed, named_host, no_named, index_named}
-use Rattle.store_dumps.proofs.Running.{Makes, running_let_go, runs_kept}
+use Rattle.store_dumps.proofs.Running.{running_let_go, runs_kept}
 
 -- ---- the model's rules
 

@@ -1,5 +1,5 @@
 -- What a put leaves.
-use Rattle.std.specs.Prelude.{◌≡◌, ◌<◌, ◌≤◌, ◌+◌, ℕ, Bool, true, false, cond, not, ◌&&◌, nat_le, List, [], ◌∷◌, length, Option, Some, None, Result, Ok, Err, is_some, option_map, slice_get, slice_set, IfErr, IsErrOf, if◌then◌else◌, ◌⊎◌}
+use Rattle.std.specs.Prelude.{◌≡◌, ◌<◌, ◌≤◌, ◌+◌, ℕ, Bool, true, false, cond, not, ◌&&◌, nat_le, List, [], ◌∷◌, length, Option, Some, None, Ok, Err, is_some, option_map, slice_get, slice_set, IsErrOf, if◌then◌else◌, ◌⊎◌}
 use Rattle.std.specs.declared.cmp.Ordering.{Ordering}
 use Rattle.std.specs.declared.cmp.Ordering.TheVariants.{Less, Equal, Greater}
 use Rattle.std.specs.Ordering.{is_eq}
@@ -30,36 +30,35 @@ use Rattle.attr_tables.specs.declared.records.Record.{Record}
 use Rattle.attr_tables.specs.declared.records.Record.TheVariants.{File, Dir, Link, Deleted}
 use Rattle.attr_tables.specs.Records.{IsContentOf, is_dir}
 use Rattle.ordered_lists.specs.OrderLaws.{IsInOrder-put}
-use Rattle.merge_view.specs.Views.{Rows, IsWhole, HasNoMarks, is_mark}
-use Rattle.pool_changes.specs.Slots.{Slots, is_given, claims_of, unlisted}
+use Rattle.merge_view.specs.Views.{Rows, HasNoMarks, is_mark}
+use Rattle.pool_changes.specs.Slots.{Slots, claims_of, unlisted}
 use Rattle.pool_store.specs.declared.fault.PoolFault.{PoolFault}
 use Rattle.pool_store.specs.declared.fault.PoolFault.TheVariants as P
 use Rattle.pool_store.specs.declared.pool.Pool.{Pool}
 use Rattle.pool_store.specs.Chains.{SaysDamaged, SaysGiven, IsDamaged}
 use Rattle.pool_store.specs.Fits.{not_damaged}
 use Rattle.pool_store.specs.Pools.{IsCertain, IsNotForeign, Misses}
-use Rattle.stored_trees.specs.Resolved.{bytes_of, resolved, resolved_item, IsTold, IsToldContent, AreTold}
+use Rattle.stored_trees.specs.Resolved.{bytes_of, resolved_item, IsTold, IsToldContent}
 use Rattle.stored_trees.specs.ResolvedLaws.{with_node-resolved}
 use Rattle.stored_trees.specs.ValueLaws.{AllValues-put}
-use Rattle.stored_trees.specs.Occurrences.{is_content, names as names_id, occurrences}
+use Rattle.stored_trees.specs.Occurrences.{occurrences}
 use Rattle.dump_session.specs.declared.session.PutFault.{PutFault}
 use Rattle.dump_session.specs.declared.session.PutFault.TheVariants as PF
 use Rattle.open_sessions.specs.declared.sessions.OpenDump.{OpenDump}
 use Rattle.open_sessions.specs.declared.sessions.OpenRestore.{OpenRestore}
 use Rattle.open_sessions.specs.declared.sessions.Sessions.{Sessions}
-use Rattle.open_sessions.specs.Opened.{AreRowsOf, IsDump, IsRestore, AreSessions, claims_of_dump, claims_in, claims_in_dumps, claims_in_restores}
+use Rattle.open_sessions.specs.Opened.{AreRowsOf, IsDump, IsRestore, AreSessions, claims_in, claims_in_dumps, claims_in_restores}
 use Rattle.open_sessions.specs.SessionLaws.{pairs_set, claims_in_dumps-set, claims_in_dumps-remove, node_occurrences, found_occurrences, occurrences-with_node, broken_rule-resolved, IsTree-rows}
 use Rattle.office_model.specs.declared.answer.Answer.TheVariants.{Done}
 use Rattle.office_model.specs.declared.event.Event.{Event}
 use Rattle.office_model.specs.declared.event.Event.TheVariants.{Put}
-use Rattle.office_model.specs.declared.refusal.BrokenRule.{BrokenRule}
 use Rattle.office_model.specs.declared.refusal.BrokenRule.TheVariants.{NoSession, ChainFull, Put as PutBroken}
 use Rattle.office_model.specs.declared.refusal.Refusal.{Refusal}
 use Rattle.office_model.specs.declared.refusal.Refusal.TheVariants as R
 use Rattle.office_model.specs.declared.session.SessionName.{SessionName}
 use Rattle.office_model.specs.Frames.{bytes_of as item_bytes}
 use Rattle.office_model.specs.Meaning.{Carried, Judged, Reply, Stages}
-use Rattle.office_model.specs.Office.{Office, Dump, Names, durable, IsSound}
+use Rattle.office_model.specs.Office.{Office, Dump, Names, durable}
 use Rattle.office_model.specs.Step.{Running, IsStep, MayFault, meaning_of}
 use Rattle.office_model.specs.UsedNames.{AreNamesAfter, IsNamedBy}
 use Rattle.office_model.specs.laws.SoundLaws.{IsSound-carried}
@@ -78,7 +77,7 @@ use Rattle.store_dumps.specs.Claims.{LetsGo, claims_of_content}
 use Rattle.store_dumps.specs.Putting.{record_for, content_found, TakesIn, refusal_of, refused_put}
 use Rattle.store_dumps.proofs.Aborts.{place_of, no_dump, IsFound, dump_found}
 use Rattle.store_dumps.proofs.Running.{running_let_go}
-use Rattle.store_dumps.proofs.Staging.{HasStaged, with_used, working_staged, crash_staged}
+use Rattle.store_dumps.proofs.Staging.{with_used, working_staged, crash_staged}
 use Rattle.store_dumps.proofs.Staged.{StagedAs, MissedAs, staged_as, missed_as, full_as}
 
 -- ---- items and records

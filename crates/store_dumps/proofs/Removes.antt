@@ -1,5 +1,5 @@
 -- What a removal leaves.
-use Rattle.std.specs.Prelude.{◌≡◌, ◌+◌, ◌≤◌, ℕ, Bool, true, false, not, cond, List, [], ◌∷◌, Option, Some, None, Ok, Err, is_some, slice_get, slice_set}
+use Rattle.std.specs.Prelude.{◌≡◌, ◌≤◌, ℕ, Bool, true, false, not, cond, List, [], ◌∷◌, Some, None, Ok, Err, is_some, slice_get, slice_set}
 use Rattle.std.proofs.Common.{refl, sym, ap, ◌∙◌, subst, arith}
 use Rattle.disk_trait.specs.declared.ids.PoolId.{PoolId}
 use Rattle.disk_trait.specs.declared.disk.Disk.{Ghosts as DiskGhosts}
@@ -8,14 +8,14 @@ use Rattle.pool_changes.specs.Slots.{Slots, claims_of}
 use Rattle.ordered_lists.specs.OrderLaws.{IsInOrder-where_key}
 use Rattle.attr_records.specs.Paths.{path_cmp, is_within}
 use Rattle.attr_records.specs.Trees.{node_at, without}
-use Rattle.merge_view.specs.Views.{Rows, IsWhole, HasNoMarks}
+use Rattle.merge_view.specs.Views.{Rows, HasNoMarks}
 use Rattle.merge_view.specs.Runs.{within_rows}
-use Rattle.stored_trees.specs.Resolved.{resolved, AreTold}
+use Rattle.stored_trees.specs.Resolved.{AreTold}
 use Rattle.stored_trees.specs.ResolvedLaws.{without-resolved}
 use Rattle.stored_trees.specs.Occurrences.{occurrences}
 use Rattle.open_sessions.specs.declared.sessions.OpenDump.{OpenDump}
 use Rattle.open_sessions.specs.declared.sessions.OpenRestore.{OpenRestore}
-use Rattle.open_sessions.specs.Opened.{AreRowsOf, IsDump, IsRestore, claims_of_dump, claims_in, claims_in_dumps, claims_in_restores}
+use Rattle.open_sessions.specs.Opened.{AreRowsOf, IsDump, IsRestore, claims_in, claims_in_dumps, claims_in_restores}
 use Rattle.open_sessions.specs.SessionLaws.{pairs_set, claims_in_dumps-set, claims_in_dumps-remove, occurrences-without, is_some-resolved}
 use Rattle.office_model.specs.declared.answer.Answer.TheVariants.{Done}
 use Rattle.office_model.specs.declared.event.Event.TheVariants.{Remove}
@@ -31,8 +31,8 @@ use Rattle.store_parts.specs.Held.{given}
 use Rattle.store_parts.specs.States.{slots, IsRunning}
 use Rattle.store_parts.specs.Runs.{Runs}
 use Rattle.store_dumps.specs.Claims.{LetsGo}
-use Rattle.store_dumps.proofs.Aborts.{place_of, no_dump, IsFound, dump_found}
-use Rattle.store_dumps.proofs.Running.{Makes, running_let_go, runs_kept}
+use Rattle.store_dumps.proofs.Aborts.{place_of, no_dump, dump_found}
+use Rattle.store_dumps.proofs.Running.{running_let_go, runs_kept}
 
 -- ---- rows without a path
 

@@ -16,14 +16,13 @@ use Rattle.journal_view.specs.ViewLaws.{FindsOnly-still, Quiet-still}
 use Rattle.pool_index.specs.Index.{Index, TellsIn}
 use Rattle.pool_changes.specs.declared.slot.Slot.{Slot}
 use Rattle.pool_changes.specs.declared.slot.Slot.TheVariants.{Live, Staged, Doomed}
-use Rattle.pool_changes.specs.Slots.{Slots, is_live, is_given, claims_of}
+use Rattle.pool_changes.specs.Slots.{is_live, claims_of}
 use Rattle.pool_changes.specs.Kept.{slots_of}
 use Rattle.pool_changes.specs.Listed.{item_of, index_of}
 use Rattle.pool_store.specs.declared.pool.Pool.{Pool}
 use Rattle.pool_store.specs.Fits.{Fits, IsLess, fits_less}
 use Rattle.backup_views.specs.declared.kept.Views.{Views}
 use Rattle.office_catalog.specs.Known.{Known}
-use Rattle.open_sessions.specs.declared.sessions.Sessions.{Sessions}
 use Rattle.open_sessions.specs.Opened.{IsDump, IsRestore, AreSessions, claims_in, claims_in_dumps, claims_in_restores}
 use Rattle.open_sessions.specs.declared.sessions.OpenDump.{OpenDump}
 use Rattle.open_sessions.specs.declared.sessions.OpenRestore.{OpenRestore}
@@ -49,7 +48,7 @@ use Rattle.store_parts.specs.RunLaws.{counted_still}
 use Rattle.store_parts.specs.StepLaws.{step_memory, step_refused}
 use Rattle.store_dumps.specs.Alike.{AreAlike}
 use Rattle.store_dumps.specs.ClaimLaws.{lets_go_none}
-use Rattle.store_dumps.specs.Claims.{Loses, LetsGo}
+use Rattle.store_dumps.specs.Claims.{LetsGo}
 
 live_is : (id : PoolId) (slot : Option Slot) → is_live slot ≡ is_some (item_of id slot)
 live_is id None = refl

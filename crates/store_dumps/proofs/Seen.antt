@@ -1,5 +1,5 @@
 -- What the pool's calls did, as a store sees the files.
-use Rattle.std.proofs.Common.{◌≡◌, ◌⊎◌, ℕ, true, false, List, Option, Some, refl, sym, ap, ◌∙◌, subst, inl, inr, if◌then◌else◌}
+use Rattle.std.proofs.Common.{◌≡◌, ◌⊎◌, ℕ, false, List, Option, Some, refl, sym, ap, ◌∙◌, subst, inl, inr, if◌then◌else◌}
 use Rattle.std.specs.Prelude.{None, option_map}
 use Rattle.disk_trait.specs.declared.ids.PoolId.{PoolId}
 use Rattle.disk_trait.specs.declared.ids.FileId.{FileId}

@@ -1,8 +1,7 @@
 -- What the pool's answer to a content is to the office.
 --     StagedAs old mid office names at content bytes      the bytes have this name, which is claimed, and the chain isn't full
 --     MissedAs old mid office names at bytes      they got none
-use Rattle.std.specs.Prelude.{Ok, ◌≡◌, ◌<◌, ◌+◌, ℕ, Bool, true, false, not, ◌&&◌, nat_le, List, [], ◌∷◌, length, Option, Some, None, option_map, is_some, bytes_eq, ◌⊎◌}
-use Rattle.std.specs.List.{count_by}
+use Rattle.std.specs.Prelude.{Ok, ◌≡◌, ◌<◌, ◌+◌, ℕ, Bool, true, false, not, ◌&&◌, List, [], ◌∷◌, length, Option, Some, None, option_map, is_some, ◌⊎◌}
 use Rattle.std.proofs.Common.{refl, sym, ap, ◌∙◌, subst, inl, inr, arith}
 use Rattle.std.proofs.lemmas.Bool.{false≢true}
 use Rattle.disk_trait.specs.declared.ids.PoolId.{PoolId}
@@ -17,13 +16,11 @@ use Rattle.disk_trait.specs.Names.{is_same_file-itself}
 use Rattle.journal_view.specs.Found.{seen}
 use Rattle.journal_view.specs.View.{told, uncertain}
 use Rattle.pool_changes.specs.declared.slot.Slot.TheVariants.{Staged, Doomed}
-use Rattle.pool_changes.specs.Slots.{Slots, is_given, claims_of, id_of}
+use Rattle.pool_changes.specs.Slots.{is_given, claims_of, id_of}
 use Rattle.pool_changes.specs.Kept.{IsSame, IsSet}
-use Rattle.pool_store.specs.declared.fault.PoolFault.{PoolFault}
-use Rattle.pool_store.specs.declared.fault.PoolFault.TheVariants as P
 use Rattle.pool_store.specs.Chains.{IsFree, AreOthers}
 use Rattle.pool_store.specs.Chains as C
-use Rattle.pool_store.specs.Pools.{IsCertain, IsUnstaged, IsFull, Matches, Adds, Takes, Misses}
+use Rattle.pool_store.specs.Pools.{IsCertain, IsUnstaged, IsFull, Matches, Adds, Takes}
 use Rattle.stored_trees.specs.Resolved.{bytes_of, IsToldContent}
 use Rattle.open_sessions.specs.Opened.{claims_in}
 use Rattle.office_model.specs.events.Put.{is_spent, is_chain_full}
@@ -38,7 +35,7 @@ use Rattle.store_dumps.specs.Claims.{claims_of_content}
 use Rattle.store_dumps.specs.ClaimLaws.{one_of}
 use Rattle.store_dumps.specs.Putting.{TakesIn}
 use Rattle.store_dumps.proofs.Counting.{spent, unspent}
-use Rattle.store_dumps.proofs.Holding.{given_held, given_some, not_held}
+use Rattle.store_dumps.proofs.Holding.{given_held, not_held}
 use Rattle.store_dumps.proofs.Seen.{takes_seen, misses_others, one_seen}
 use Rattle.store_dumps.proofs.Staging.{HasStaged, staged_none, staged_matches, staged_adds, staged_doomed, claims_matches, claims_adds, claims_doomed, set_there, adds_name}
 

@@ -2,38 +2,34 @@
 --     HasStaged old mid office names at      the pool and the files have changed, but for what is given and for metadata
 --     working_staged      the parts are at work with the same office
 --     crash_staged      a crash meanwhile leaves what is durable
-use Rattle.std.specs.Prelude.{◌≡◌, ◌<◌, ◌+◌, ℕ, zero, suc, Bool, true, false, not, List, [], ◌∷◌, length, Option, Some, None, is_some, slice_get, ◌⊎◌, if◌then◌else◌}
+use Rattle.std.specs.Prelude.{◌≡◌, ◌<◌, ◌+◌, ℕ, zero, suc, Bool, true, false, not, List, ◌∷◌, length, Option, Some, None, is_some, slice_get, ◌⊎◌, if◌then◌else◌}
 use Rattle.std.proofs.Common.{refl, sym, ap, ◌∙◌, subst, inl, inr, arith}
-use Rattle.std.proofs.lemmas.Bool.{true≢false, false≢true}
+use Rattle.std.proofs.lemmas.Bool.{false≢true}
 use Rattle.disk_trait.specs.declared.ids.PoolId.{PoolId}
 use Rattle.disk_trait.specs.declared.ids.FileId.{FileId}
 use Rattle.disk_trait.specs.declared.ids.FileId.TheVariants as F
 use Rattle.disk_trait.specs.declared.disk.Disk.{Ghosts as DiskGhosts}
 use Rattle.disk_trait.specs.Names.{is_metadata, is_same_file, is_same_file-itself}
 use Rattle.disk_trait.specs.Files.{Files, with_bytes, bytes_of as file_bytes, changed}
-use Rattle.disk_trait.specs.Images.{FileSet, Leaves, leaves_wider}
+use Rattle.disk_trait.specs.Images.{Leaves, leaves_wider}
 use Rattle.pool_name.specs.declared.namer.Namer.{Ghosts as NamerGhosts}
-use Rattle.intent_journal.specs.declared.journal.Journal.{Journal}
-use Rattle.intent_journal.specs.ChangesLaws.{either, with_bytes_there, with_bytes_other}
+use Rattle.intent_journal.specs.ChangesLaws.{with_bytes_other}
 use Rattle.intent_journal.specs.Overlay.{ComesTo}
-use Rattle.journal_view.specs.Found.{seen, IsAlikeBut, Finds}
+use Rattle.journal_view.specs.Found.{IsAlikeBut}
 use Rattle.journal_view.specs.FoundLaws.{told_raw, finds_as, finds_wider, but_seen}
 use Rattle.journal_view.specs.View.{told, uncertain, FindsOnly}
 use Rattle.pool_index.specs.Items.{is_same_id as is_same_name}
 use Rattle.pool_index.specs.Index.{Index, TellsIn}
 use Rattle.pool_changes.specs.declared.slot.Slot.{Slot}
 use Rattle.pool_changes.specs.declared.slot.Slot.TheVariants.{Live, Staged, Doomed}
-use Rattle.pool_changes.specs.Slots.{Slots, is_live, is_given, size_of, claims_of, claimed, one_id, unlisted, id_of}
-use Rattle.pool_changes.specs.Kept.{slots_of, IsSet, IsSame}
+use Rattle.pool_changes.specs.Slots.{Slots, is_live, is_given, size_of, claims_of, claimed, one_id, unlisted}
+use Rattle.pool_changes.specs.Kept.{IsSet, IsSame}
 use Rattle.pool_changes.specs.Listed.{item_of, index_of}
-use Rattle.pool_store.specs.declared.pool.Pool.{Pool}
-use Rattle.pool_store.specs.Chains.{IsFree, AreOthers}
-use Rattle.pool_store.specs.Fits.{Fits, IsLess, fits_less, fits_adds, less_claimed, less_doomed}
-use Rattle.pool_store.specs.Pools.{IsCertain, Matches, Adds, Takes}
+use Rattle.pool_store.specs.Fits.{Fits, fits_less, fits_adds, less_claimed, less_doomed}
+use Rattle.pool_store.specs.Pools.{IsCertain, Matches, Adds}
 use Rattle.pool_store.specs.Sweeps.{AreAllUsed}
-use Rattle.attr_tables.specs.Records.{is_same_id}
-use Rattle.attr_tables.specs.RecordLaws.{same_id, id_itself}
-use Rattle.open_sessions.specs.Opened.{AreSessions, claims_in}
+use Rattle.attr_tables.specs.RecordLaws.{id_itself}
+use Rattle.open_sessions.specs.Opened.{AreSessions}
 use Rattle.open_sessions.specs.SessionLaws.{AreSessions-kept}
 use Rattle.open_sessions.specs.declared.sessions.Sessions.{Sessions}
 use Rattle.backup_views.specs.declared.kept.Views.{Views}

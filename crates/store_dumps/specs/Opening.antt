@@ -1,7 +1,7 @@
 -- A further open dump.
 --     opening_rule is_open next sequence      the first rule that keeps a host's dump from being opened, but for those of its base
 --     IsOpened old epoch host kind now base name new      the sessions have one dump more, whose rows are those of its base
-use Rattle.std.specs.Prelude.{◌≡◌, ℕ, ◌+◌, Bool, List, [], ◌∷◌, ◌++◌, nat_le, Option, Some, None, if◌then◌else◌}
+use Rattle.std.specs.Prelude.{◌≡◌, ℕ, ◌+◌, Bool, [], ◌∷◌, ◌++◌, nat_le, Option, Some, None, if◌then◌else◌}
 use Rattle.backup_rules.specs.declared.lines.Kind.{Kind}
 use Rattle.merge_view.specs.Views.{Rows}
 use Rattle.office_model.specs.declared.refusal.BrokenRule.{BrokenRule}

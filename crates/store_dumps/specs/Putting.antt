@@ -10,7 +10,7 @@ use Rattle.disk_trait.specs.Files.{Files}
 use Rattle.attr_records.specs.declared.nodes.Item.{Item}
 use Rattle.attr_records.specs.declared.nodes.Item.TheVariants as I
 use Rattle.attr_tables.specs.declared.records.Record.{Record}
-use Rattle.attr_tables.specs.declared.records.Record.TheVariants.{File, Dir, Link, Deleted}
+use Rattle.attr_tables.specs.declared.records.Record.TheVariants.{File, Dir, Link}
 use Rattle.pool_changes.specs.Slots.{Slots}
 use Rattle.pool_changes.specs.Kept.{IsSame}
 use Rattle.pool_store.specs.declared.fault.PoolFault.{PoolFault}

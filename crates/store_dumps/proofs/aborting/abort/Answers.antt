@@ -1,4 +1,4 @@
-use Rattle.std.proofs.Common.{refl, sym, ap, ◌∙◌}
+use Rattle.std.proofs.Common.{refl, ap}
 use Rattle.std.proofs.lemmas.Option.{slice_get_read}
 use Rattle.store_parts.specs.RunLaws.{runs_refused, runs_memory, reads_still, counted_still}
 use Rattle.store_dumps.proofs.Running.{reads_same}

@@ -1,4 +1,4 @@
-use Rattle.std.proofs.Common.{◌≡◌, ◌≤◌, ◌<◌, ℕ, Option, Some, sym, ap, subst, arith, if◌then◌else◌}
+use Rattle.std.proofs.Common.{◌≡◌, ◌≤◌, ◌<◌, Option, Some, sym, ap, subst, arith, if◌then◌else◌}
 use Rattle.disk_trait.specs.declared.ids.PoolId.{PoolId}
 use Rattle.attr_tables.specs.RecordLaws.{id_itself}
 use Rattle.pool_changes.specs.Slots.{Slots, claims_of}

@@ -1,4 +1,4 @@
-use Rattle.std.proofs.Common.{◌∙◌, refl, sym, ap}
+use Rattle.std.proofs.Common.{◌∙◌}
 use Rattle.pool_changes.specs.Kept.{slots_of}
 use Rattle.store_dumps.specs.ClaimLaws.{lets_go_row}
 use Rattle.store_dumps.proofs.claims.release_rows.Goals as goal

@@ -1,4 +1,4 @@
-use Rattle.std.proofs.Common.{refl, sym, ap, ◌∙◌, [], Some}
+use Rattle.std.proofs.Common.{refl, ◌∙◌, [], Some}
 use Rattle.backup_rules.specs.declared.lines.Kind.TheVariants.{Full}
 use Rattle.store_parts.specs.RunLaws.{runs_refused, runs_memory, reads_still, counted_still}
 use Rattle.store_dumps.proofs.Running.{runs_alike_memory}

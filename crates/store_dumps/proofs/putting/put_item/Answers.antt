@@ -1,4 +1,4 @@
-use Rattle.std.proofs.Common.{◌≡◌, ℕ, List, Bool, false, Option, Some, Result, refl, sym, ap, ◌∙◌, subst, slice_get, IfErr}
+use Rattle.std.proofs.Common.{◌≡◌, ℕ, List, Bool, false, Option, Some, Result, refl, ap, ◌∙◌, subst, slice_get, IfErr}
 use Rattle.disk_trait.specs.declared.ids.PoolId.{PoolId}
 use Rattle.attr_records.specs.declared.trees.PutRule.{PutRule}
 use Rattle.attr_records.specs.declared.nodes.Item.{Item}
