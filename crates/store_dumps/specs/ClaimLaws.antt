@@ -1,6 +1,7 @@
 -- Laws of claims that are let go.
 --     lets_go_none, lets_go_one, lets_go_then, lets_go_alike      none, one, and both of two
 --     lets_go_row      those of one row more
+--     gains_one, gains_then, gains_alike, gains_row      the same of claims that are added
 use Rattle.std.specs.Prelude.{◌≡◌, ◌<◌, ◌≤◌, ℕ, ◌+◌, ◌-◌, ◌==◌, Bool, true, false, List, [], ◌∷◌, ◌++◌, length, take, drop, Option, Some, None, if◌then◌else◌}
 use Rattle.std.proofs.Common.{refl, sym, ap, ◌∙◌, subst, arith, get_or}
 use Rattle.std.proofs.lemmas.List.{take_more, take-append-drop}
@@ -12,7 +13,7 @@ use Rattle.disk_trait.specs.Names.{is_same_file-itself}
 use Rattle.pool_index.specs.Items.{is_same_id as is_same_name}
 use Rattle.pool_changes.specs.declared.slot.Slot.{Slot}
 use Rattle.pool_changes.specs.declared.slot.Slot.TheVariants.{Live, Staged, Doomed}
-use Rattle.pool_changes.specs.Slots.{Slots, claims_of, let_go, one_id}
+use Rattle.pool_changes.specs.Slots.{Slots, is_given, claims_of, claimed, let_go, one_id}
 use Rattle.pool_changes.specs.Kept.{IsSet}
 use Rattle.attr_tables.specs.Records.{is_same_id}
 use Rattle.attr_tables.specs.RecordLaws.{same_id, id_itself}
@@ -21,7 +22,7 @@ use Rattle.merge_view.specs.Views.{Rows}
 use Rattle.stored_trees.specs.Occurrences.{occurrences}
 use Rattle.ref_counts.specs.NumberLaws.{occurrences-append}
 use Rattle.open_sessions.specs.SessionLaws.{node_occurrences}
-use Rattle.store_dumps.specs.Claims.{Loses, LetsGo}
+use Rattle.store_dumps.specs.Claims.{Loses, LetsGo, Gained, Gains}
 
 -- ---- one name
 
@@ -147,6 +148,59 @@ lets_go_row start now next rows i row node within is node_is enough before step 
     (λ id. sym (more id))
     (lets_go_then start now next (λ id. occurrences id (take i rows)) (λ id. node_occurrences id node) before
     (step (λ id. omega (arith, more id, front_rows id rows (i + 1), enough id, (before id).claims))))
+  where
+    more : (id : PoolId) → occurrences id (take (i + 1) rows) ≡ occurrences id (take i rows) + node_occurrences id node
+    more id = next_row id rows i row within is ∙ ap (λ (n : Record). occurrences id (take i rows) + node_occurrences id n) (sym node_is)
+
+-- ---- claims that are added
+
+module _ (id : PoolId) where
+  pub gained_none : (slot : Option Slot) → Gained 0 id slot slot
+  gained_none slot = record { claims = omega arith; given = refl; size = refl; live = refl; used = refl }
+
+  gained_one : (slot : Option Slot) → is_given slot ≡ true → Gained 1 id slot (claimed slot)
+  gained_one None e = absurd (false≢true e)
+  gained_one (Some (Live size mark claims)) e = record { claims = refl; given = refl; size = refl; live = refl; used = refl }
+  gained_one (Some (Staged size claims)) e = record { claims = refl; given = refl; size = refl; live = refl; used = refl }
+  gained_one (Some Doomed) e = absurd (false≢true e)
+
+  gained_then : (m n : ℕ) (a b c : Option Slot) → Gained m id a b → Gained n id b c → Gained (m + n) id a c
+  gained_then m n a b c first second = record {
+    claims = omega (arith, first.claims, second.claims);
+    given = second.given ∙ first.given;
+    size = second.size ∙ first.size;
+    live = second.live ∙ first.live;
+    used = second.used ∙ first.used;
+  }
+
+module _ (a b : Slots) where
+  pub gains_then : (c : Slots) (f g : PoolId → ℕ) → Gains f a b → Gains g b c → Gains (λ id. f id + g id) a c
+  gains_then c f g first second id = gained_then id (f id) (g id) (a id) (b id) (c id) (first id) (second id)
+
+  pub gains_alike : (f g : PoolId → ℕ) → ((id : PoolId) → f id ≡ g id) → Gains f a b → Gains g a b
+  gains_alike f g same gains id = subst (λ (n : ℕ). Gained n id (a id) (b id)) (same id) (gains id)
+
+  pub gains_one : (id : PoolId) → is_given (a id) ≡ true → IsSet a b id (claimed (a id)) → Gains (one_of id) a b
+  gains_one id given set other =
+      subst (Gained (one_of id other) other (a other)) (sym (set other)) (step (is_same_id id other) refl (is_same_name other id) refl)
+    where
+      step : (s : Bool) → is_same_id id other ≡ s → (t : Bool) → is_same_name other id ≡ t
+          → Gained (if s then 1 else 0) other (a other) (if t then claimed (a id) else a other)
+      step true e true f = subst (λ (x : PoolId). Gained 1 x (a x) (claimed (a id))) (same_id id other e) (gained_one id (a id) given)
+      step false e false f = gained_none other (a other)
+      step true e false f = absurd (false≢true (sym f ∙ sym (same_tests id other) ∙ e))
+      step false e true f = absurd (false≢true (sym e ∙ same_tests id other ∙ f))
+
+pub gains_row : (start now next : Slots) (rows : Rows) (i : ℕ) (row : List ℕ × Record) (node : Record) → i < length rows
+    → row ≡ get_or rows i row → node ≡ row.1 → ((id : PoolId) → 0 < occurrences id rows → is_given (start id) ≡ true)
+    → Gains (λ id. occurrences id (take i rows)) start now
+    → (((id : PoolId) → 0 < node_occurrences id node → is_given (now id) ≡ true) → Gains (λ id. node_occurrences id node) now next)
+    → Gains (λ id. occurrences id (take (i + 1) rows)) start next
+gains_row start now next rows i row node within is node_is given before step =
+    gains_alike start next (λ id. occurrences id (take i rows) + node_occurrences id node) (λ id. occurrences id (take (i + 1) rows))
+    (λ id. sym (more id))
+    (gains_then start now next (λ id. occurrences id (take i rows)) (λ id. node_occurrences id node) before
+    (step (λ id some. (before id).given ∙ given id (omega (arith, some, more id, front_rows id rows (i + 1))))))
   where
     more : (id : PoolId) → occurrences id (take (i + 1) rows) ≡ occurrences id (take i rows) + node_occurrences id node
     more id = next_row id rows i row within is ∙ ap (λ (n : Record). occurrences id (take i rows) + node_occurrences id n) (sym node_is)

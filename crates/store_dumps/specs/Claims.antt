@@ -1,5 +1,6 @@
 -- Claims of open sessions on the names of a pool.
 --     LetsGo count old new      so many claims on each name are let go
+--     Gains count old new      so many are added
 --     claims_of_content content id      1 for the content's name
 use Rattle.std.specs.Prelude.{◌≡◌, ℕ, ◌+◌, ◌<◌, true, Option, is_some, if◌then◌else◌}
 use Rattle.disk_trait.specs.declared.ids.PoolId.{PoolId}
@@ -20,6 +21,17 @@ pub record Loses (count : ℕ) (id : PoolId) (old new : Option Slot) : Type 0 wh
 -- so many claims on each name
 abbrev pub LetsGo : (PoolId → ℕ) → (old new : Slots) → Type 0
 LetsGo count old new = (id : PoolId) → Loses (count id) id (old id) (new id)
+
+-- So many claims on a name are added, and all else of it stays.
+pub record Gained (count : ℕ) (id : PoolId) (old new : Option Slot) : Type 0 where
+  pub claims : claims_of new ≡ claims_of old + count
+  pub given : is_given new ≡ is_given old
+  pub size : size_of new ≡ size_of old
+  pub live : item_of id new ≡ item_of id old
+  pub used : is_some new ≡ is_some old
+
+abbrev pub Gains : (PoolId → ℕ) → (old new : Slots) → Type 0
+Gains count old new = (id : PoolId) → Gained (count id) id (old id) (new id)
 
 -- 1 for the name of a content, if there is one
 abbrev pub claims_of_content : Option PoolId → PoolId → ℕ

@@ -1,14 +1,15 @@
-//! Claims of open dumps are let go, one for each row that names a content. None of it takes memory.
+//! Claims are let go, and taken, one for each row that names a content. None of it takes memory but what `reserve` of the pool
+//! made sure of.
 
-ghost use Rattle.std.specs.Prelude.{◌≡◌, ◌+◌, ◌<◌, ◌≤◌, ℕ, OnOk, OnErr, if◌then◌else◌};
+ghost use Rattle.std.specs.Prelude.{◌≡◌, ◌+◌, ◌<◌, ◌≤◌, ℕ, true, length, OnOk, OnErr, if◌then◌else◌};
 ghost use Rattle.disk_trait.specs.declared.ids.PoolId.{PoolId};
 ghost use Rattle.attr_tables.specs.Records.{is_same_id};
 ghost use Rattle.stored_trees.specs.Occurrences.{occurrences};
 ghost use Rattle.pool_changes.specs.Kept.{slots_of};
-ghost use Rattle.pool_changes.specs.Slots.{claims_of};
+ghost use Rattle.pool_changes.specs.Slots.{is_given, claims_of};
 ghost use Rattle.open_sessions.specs.Opened.{claims_of_dump};
 ghost use Rattle.open_sessions.specs.SessionLaws.{node_occurrences};
-ghost use Rattle.store_dumps.specs.Claims.{LetsGo, claims_of_content};
+ghost use Rattle.store_dumps.specs.Claims.{LetsGo, Gains, claims_of_content};
 
 use attr_tables::{Record, Row};
 use disk_trait::PoolId;
@@ -92,4 +93,61 @@ pub(crate) fn release_dump<N: Namer>(
     release_rows(pool, tree.rows());
     release_rows(pool, dump.base.rows());
     Ok(())
+}
+
+/// Whether a name is live or staged.
+fn is_given<N: Namer>(pool: &Pool<N>, id: PoolId) -> bool
+    ensures { result ≡ is_given (slots_of pool.now.names id) }
+{
+    match pool.slot(id) {
+        Some(Slot::Live { .. }) => true,
+        Some(Slot::Staged { .. }) => true,
+        Some(Slot::Doomed) => false,
+        None => false,
+    }
+}
+
+/// Claims a content, if its name is live or staged.
+fn claim_id<N: Namer>(pool: &mut Pool<N>, id: PoolId)
+    requires { 0 < pool.old.spare }
+    ensures gains { is_given (slots_of pool.old.names id) ≡ true
+        → Gains (λ other. if is_same_id id other then 1 else 0) (slots_of pool.old.names) (slots_of pool.new.names) }
+    ensures spare { pool.old.spare ≤ pool.new.spare + 1 }
+    ensures form { pool.new.in_one_file ≡ pool.old.in_one_file }
+{
+    if is_given(pool, id) {
+        pool.claim(id);
+    }
+}
+
+/// Claims the content that a node names, if it names one.
+fn claim_node<N: Namer>(pool: &mut Pool<N>, node: &Record)
+    requires { 0 < pool.old.spare }
+    ensures gains { ((id : PoolId) → 0 < node_occurrences id node.now → is_given (slots_of pool.old.names id) ≡ true)
+        → Gains (λ id. node_occurrences id node.now) (slots_of pool.old.names) (slots_of pool.new.names) }
+    ensures spare { pool.old.spare ≤ pool.new.spare + 1 }
+    ensures form { pool.new.in_one_file ≡ pool.old.in_one_file }
+{
+    match node {
+        Record::File(file) => match file.content {
+            Some(id) => claim_id(pool, id),
+            None => {}
+        },
+        Record::Dir(_) => {}
+        Record::Link(_) => {}
+        Record::Deleted => {}
+    }
+}
+
+/// Claims the content of each row that names one; as many claims must have been made sure of.
+pub fn claim_rows<N: Namer>(pool: &mut Pool<N>, rows: &[Row])
+    requires { length rows.now ≤ pool.old.spare }
+    ensures gains { ((id : PoolId) → 0 < occurrences id rows.now → is_given (slots_of pool.old.names id) ≡ true)
+        → Gains (λ id. occurrences id rows.now) (slots_of pool.old.names) (slots_of pool.new.names) }
+    ensures spare { pool.old.spare ≤ pool.new.spare + length rows.now }
+    ensures form { pool.new.in_one_file ≡ pool.old.in_one_file }
+{
+    for row in rows {
+        claim_node(pool, row.node());
+    }
 }

@@ -10,6 +10,7 @@
 //! | [`put`] | puts a node at a path of its tree |
 //! | [`remove`] | takes a path and all below it out of its tree |
 //! | [`abort`] | drops an open dump, and lets go its claims |
+//! | [`claim_rows`], [`release_rows`] | claims of rows are taken, and let go, one for each row that names a content |
 #![tactic(auto)]
 
 mod aborting;
@@ -19,7 +20,7 @@ mod putting;
 mod removing;
 
 pub use aborting::abort;
-pub use claims::release_rows;
+pub use claims::{claim_rows, release_rows};
 pub use opening::open_dump_full;
 pub use putting::put;
 pub use removing::remove;
