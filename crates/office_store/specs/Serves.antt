@@ -1,0 +1,68 @@
+-- What an event of a store promises, whatever state the store was in.
+--     is_reopen event      whether it is a reopening
+--     MayRecover digest_of state event found      what an opening finds after a crash since its start
+--     Serves old event reply new      it was answered by a step, and a crash meanwhile left no more than that
+use Rattle.std.specs.Prelude.{◌≡◌, ℕ, Bool, true, false, List, Err}
+use Rattle.fault_counts.specs.Counts.{Counted}
+use Rattle.disk_trait.specs.declared.disk.Disk.{Ghosts as DiskGhosts}
+use Rattle.disk_trait.specs.Files.{Files}
+use Rattle.pool_name.specs.declared.namer.Namer.{Ghosts as NamerGhosts}
+use Rattle.journal_view.specs.Found.{Finds}
+use Rattle.journal_view.specs.View.{moment}
+use Rattle.office_model.specs.declared.event.Event.{Event}
+use Rattle.office_model.specs.declared.event.Event.TheVariants.{AddHost, SetRules, OpenDump, Put, Remove, Commit, Abort, List as ListEvent, Lookup, ReadFile, OpenRead, ReadNext, CloseRead, Keep, Delete, Expire, Contact, Due, Clean, Sweep, Stats, Hosts, Backups, Reopen}
+use Rattle.office_model.specs.declared.refusal.Refusal.TheVariants.{DiskFault}
+use Rattle.office_model.specs.Meaning.{Reply}
+use Rattle.office_model.specs.Step.{State, Running, Halted, meaning_of}
+use Rattle.store_parts.specs.Held.{IsEither}
+use Rattle.store_parts.specs.States.{InState}
+use Rattle.store_parts.specs.Runs.{Steps, MayRecover as MayRecoverOf}
+use Rattle.store_opening.specs.Begins.{MayLeave}
+use Rattle.store_opening.specs.Reopens.{first_of, second_of}
+use Rattle.office_store.specs.declared.store.Store.{Store}
+
+abbrev pub is_reopen : Event → Bool
+is_reopen (AddHost name rules) = false
+is_reopen (SetRules name change) = false
+is_reopen (OpenDump name kind now) = false
+is_reopen (Put session path item) = false
+is_reopen (Remove session path) = false
+is_reopen (Commit session now) = false
+is_reopen (Abort session) = false
+is_reopen (ListEvent name number directory) = false
+is_reopen (Lookup name number path) = false
+is_reopen (ReadFile name number path) = false
+is_reopen (OpenRead name number) = false
+is_reopen (ReadNext session) = false
+is_reopen (CloseRead session) = false
+is_reopen (Keep name number on) = false
+is_reopen (Delete name number) = false
+is_reopen (Expire name now) = false
+is_reopen (Contact name good) = false
+is_reopen (Due name now local) = false
+is_reopen (Clean bucket) = false
+is_reopen Sweep = false
+is_reopen Stats = false
+is_reopen Hosts = false
+is_reopen (Backups name) = false
+is_reopen Reopen = true
+
+-- A reopening leaves one of the state's two offices, or one of them in its next epoch; any other event of an office at work
+-- what is durable of it before or after; of a halted one its two offices.
+abbrev pub LeftBy : (List ℕ → List ℕ) → Bool → State → Event → Files → Type 0
+LeftBy digest_of true state event found = MayLeave digest_of (first_of state) (second_of state) found
+LeftBy digest_of false (Running office names) event found = MayRecoverOf digest_of office ((meaning_of event).carried office names) found
+LeftBy digest_of false (Halted a b names) event found = IsEither digest_of a b found
+
+abbrev pub MayRecover : (List ℕ → List ℕ) → State → Event → Files → Type 0
+MayRecover digest_of state event found = LeftBy digest_of (is_reopen event) state event found
+
+module _ {D N S : Type 0} {d : DiskGhosts D} {n : NamerGhosts N S} where
+  -- The store answered an event: from each state that it was in by a step to a state that it is in; and whatever a crash since
+  -- the event's start leaves, an opening finds an office of that step.
+  pub record Serves (old : Store D N S d n) (event : Event) (reply : Reply) (new : Store D N S d n) : Type 0 where
+    pub steps : (state : State) → InState old.parts state → Steps state event reply new.parts
+    pub crash : (state : State) → InState old.parts state
+        → (image : Files) → d.left_since new.parts.journal.disk (moment old.parts.journal) image
+        → Finds (MayRecover n.digest_of state event) image
+    pub counted : Counted (d.fault_count old.parts.journal.disk) (d.fault_count new.parts.journal.disk) (reply ≡ Err DiskFault)

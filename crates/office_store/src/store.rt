@@ -1,0 +1,19 @@
+//! The store.
+
+ghost use Rattle.std.specs.Prelude.{⊤};
+
+use disk_trait::Disk;
+use pool_name::Namer;
+use store_parts::StoreParts;
+
+/// The office of backups, durable on a disk.
+///
+/// Each event is one step of `office_model`: after its answer what it did is durable, and a crash at any moment leaves the
+/// office as it was before the event or as it is after. A fault of the disk in a commit halts the store: the disk has one of
+/// two offices, and each event is answered `Halted` until a `reopen` finds which.
+#[derive(Drop)]
+pub struct Store<D: Disk, N: Namer> {
+    pub(crate) parts: StoreParts<D, N>,
+    pub(crate) namer: N,
+    ghost plain: { ⊤ },
+}
