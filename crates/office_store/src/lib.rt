@@ -27,3 +27,6 @@ mod store;
 
 pub use store::Store;
 pub use store_opening::OpenRefusal;
+
+#[cfg(test)]
+mod tests;
