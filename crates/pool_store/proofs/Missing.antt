@@ -19,11 +19,14 @@ pub missed : (digest_of : List ℕ → List ℕ) (old new : Slots) (told mid tol
     → IsUnstaged old new mid told' (id_of digest extension) → (fault ≡ Disk) ⊎ (fault ≡ Memory)
     → (fault ≡ Memory → IsSame old new × (told' ≡ mid)) → Misses digest_of old new told told' content fault
 missed digest_of old new told mid told' digest met extension content fault near same quiet is found unstaged kind memory = record {
-  either = inr (extension, near,
+  either = inr (
+    extension,
+    near,
     subst (λ (d : List ℕ). IsFree old d extension) same free.0,
     subst (λ (d : List ℕ). (all : Files) → told ≡ Some all → AreOthers old d all content 65536) same free.1,
     subst (λ (d : List ℕ). IsUnstaged old new told told' (id_of d extension)) same
-    (subst (λ (t : Option Files). IsUnstaged old new t told' (id_of digest extension)) quiet unstaged));
+        (subst (λ (t : Option Files). IsUnstaged old new t told' (id_of digest extension)) quiet unstaged),
+  );
   full = λ e. absurd (not_full fault kind e);
   memory = λ e. let m = memory e in (m.0, m.1 ∙ quiet);
 }
