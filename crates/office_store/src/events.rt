@@ -3,7 +3,7 @@
 ghost use Rattle.std.specs.Prelude.{◌≡◌, ◌||◌};
 
 use crate::store::Store;
-use attr_records::{HostName, PathName};
+use attr_records::{HostName, Item, PathName};
 use backup_rules::{RuleChange, Rules};
 use disk_trait::Disk;
 use office_model::{Answer, Refusal, SessionName};
@@ -192,7 +192,7 @@ impl<D: Disk, N: Namer> Store<D, N> {
 /// Open dumps. They are in memory alone, and gone after a crash.
 impl<D: Disk, N: Namer> Store<D, N> {
     ghost use Rattle.backup_rules.specs.declared.lines.Kind.TheVariants.{Full};
-    ghost use Rattle.office_model.specs.declared.event.Event.TheVariants.{OpenDump, Remove, Abort};
+    ghost use Rattle.office_model.specs.declared.event.Event.TheVariants.{OpenDump, Put, Remove, Abort};
     ghost use Rattle.office_store.specs.Serves.{Serves};
 
     /// Opens a full dump of a host, and gives its name. Refused if there is no such host, or a dump of it is open.
@@ -208,6 +208,24 @@ impl<D: Disk, N: Namer> Store<D, N> {
             return Err(Refusal::Halted);
         }
         store_dumps::open_dump_full(&mut self.parts, alloc, host, now)
+    }
+
+    /// Puts a node at a path of an open dump, in the place of what is there; the bytes of a file are staged, if the pool hasn't
+    /// their content. Refused if there is no such dump, or a rule of `office_model` says no; after a refusal nothing has
+    /// changed but contents that are staged and not claimed.
+    pub fn put(
+        &mut self,
+        alloc: Global,
+        dump: SessionName,
+        path: &PathName,
+        item: &Item,
+    ) -> Result<Answer, Refusal>
+        ensures { Serves self.old (Put dump path.now item.now) result self.new }
+    {
+        if self.is_halted() {
+            return Err(Refusal::Halted);
+        }
+        store_dumps::put(&mut self.parts, alloc, dump, path, item)
     }
 
     /// Removes what is at a path of an open dump, with all below it. Refused if there is no such dump or path.

@@ -10,14 +10,16 @@ use std::alloc::Global;
 use store_opening::OpenRefusal;
 
 impl<D: Disk, N: Namer> Store<D, N> {
-    ghost use Rattle.std.specs.Prelude.{IfOk, IfErr, option_map};
+    ghost use Rattle.std.specs.Prelude.{ℕ, List, Option, Err, IfOk, IfErr};
     ghost use Rattle.fault_counts.specs.Counts.{Counted};
+    ghost use Rattle.disk_trait.specs.declared.ids.FileId.{FileId as File};
     ghost use Rattle.disk_trait.specs.Images.{Leaves};
-    ghost use Rattle.journal_view.specs.Found.{seen, Finds};
+    ghost use Rattle.journal_view.specs.Found.{Finds};
     ghost use Rattle.office_model.specs.declared.event.Event.TheVariants.{Reopen};
     ghost use Rattle.office_model.specs.Office.{Office};
+    ghost use Rattle.store_opening.specs.Recovers.{IsForeignTo, SaysWhy};
     ghost use Rattle.store_opening.specs.Begins.{MayLeave};
-    ghost use Rattle.store_opening.specs.Opens.{IsOf, Opened, Left, SaysWhy};
+    ghost use Rattle.store_opening.specs.Opens.{IsOf, Opened, Left};
     ghost use Rattle.office_store.specs.Serves.{Serves};
 
     /// Opens the store of a disk. A disk without files is that of a store without hosts.
@@ -50,7 +52,9 @@ impl<D: Disk, N: Namer> Store<D, N> {
     /// halted, and the disk has the office as it was or in its next epoch; so after `Damaged`, which never comes on a disk
     /// that a store left.
     pub fn reopen(&mut self, alloc: Global) -> Result<Answer, Refusal>
-        ensures { Serves self.old Reopen result self.new }
+        ensures serves { Serves self.old Reopen result self.new }
+        ensures damaged { (file : File) (found : Option (List ℕ)) → result ≡ Err (Refusal.Damaged file found)
+            → IsForeignTo (D.files self.old.parts.journal.disk) (D.files self.new.parts.journal.disk) file found }
     {
         store_opening::reopen(&mut self.parts, alloc, self.namer)
     }
