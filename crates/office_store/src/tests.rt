@@ -1,9 +1,9 @@
 ghost use Rattle.std.specs.Prelude.{◌≤◌};
 
 use crate::Store;
-use attr_records::{HostName, PathName};
+use attr_records::{Attr, File, HostName, Item, PathName};
 use backup_rules::{Kind, RuleChange, Rules, Setting};
-use disk_trait::{Choice, Disk, DiskRoom, MemoryDisk};
+use disk_trait::{Bytes, Choice, Disk, DiskRoom, MemoryDisk};
 use office_model::{Answer, Event, Port, Refusal, SessionName};
 use pool_name::Md5Namer;
 use std::alloc::Global;
@@ -28,6 +28,7 @@ enum Ask {
     Keep(&'static str),
     Due(&'static str),
     Full(&'static str),
+    Put(u64),
     Remove(u64),
     Abort(u64),
     List(&'static str),
@@ -60,6 +61,11 @@ const SCRIPT: &[(Ask, &str)] = &[
     (Ask::Full("pc2"), "1-1"),
     (Ask::Full("pc3"), "NoHost"),
     (Ask::Remove(0), "NoPath"),
+    (Ask::Put(0), "done"),
+    (Ask::Remove(0), "done"),
+    (Ask::Remove(0), "NoPath"),
+    (Ask::Put(1), "done"),
+    (Ask::Put(2), "NoSession"),
     (Ask::Backups("pc1"), "next 0 dump true"),
     (Ask::Stats, "2 0 2 0 0"),
     (Ask::Abort(0), "done"),
@@ -103,6 +109,14 @@ fn fill(cycle: u32) -> Result<RuleChange, Fail> {
     Ok(change)
 }
 
+fn file(alloc: Global) -> Result<Item, Fail> {
+    Ok(Item::File(File {
+        attr: Attr::file_default(),
+        group: 0,
+        bytes: Bytes::from_slice(alloc, b"hello")?,
+    }))
+}
+
 /// An event of a backup, of a dump, or of the whole office.
 fn other_event(alloc: Global, ask: Ask) -> Result<Event, Fail> {
     match ask {
@@ -120,6 +134,11 @@ fn other_event(alloc: Global, ask: Ask) -> Result<Event, Fail> {
             host: host(alloc, name)?,
             number: 0,
             path: path(alloc)?,
+        }),
+        Ask::Put(sequence) => Ok(Event::Put {
+            dump: dump(sequence),
+            path: path(alloc)?,
+            item: file(alloc)?,
         }),
         Ask::Remove(sequence) => Ok(Event::Remove {
             dump: dump(sequence),
@@ -208,6 +227,7 @@ fn call(
         Event::Lookup { host, number, path } => store.lookup(alloc, host, *number, path),
         Event::ReadFile { host, number, path } => store.read_file(alloc, host, *number, path),
         Event::OpenDump { host, kind: _, now } => store.open_dump_full(alloc, host, *now),
+        Event::Put { dump, path, item } => store.put(alloc, *dump, path, item),
         Event::Remove { dump, path } => store.remove(alloc, *dump, path),
         Event::Abort { dump } => store.abort(alloc, *dump),
         _ => call_host(store, alloc, event),
