@@ -1,0 +1,22 @@
+-- The lines of a commit.
+--     line_of      the line of the new backup
+--     IsJudged hosts session now lines      the lines of a commit of an open dump
+use Rattle.std.specs.Prelude.{◌≡◌, ℕ, true, false, List, Some, slice_get}
+use Rattle.backup_rules.specs.declared.lines.Line.{Line}
+use Rattle.backup_index.specs.Index.{Index}
+use Rattle.backup_index.specs.Lines.{IsSound}
+use Rattle.open_sessions.specs.declared.sessions.OpenDump.{OpenDump}
+use Rattle.store_commits.specs.declared.judge.Lines.{Lines}
+use Rattle.store_commits.specs.Former.{dropped_of}
+
+abbrev pub line_of : Index → OpenDump → ℕ → Line
+line_of index session now =
+    record { number = index.next; start = session.start; end = now; kind = session.kind; filled = true; keep = false }
+
+pub record IsJudged (hosts : List Index) (session : OpenDump) (now : ℕ) (lines : Lines) : Type 0 where
+  pub index : Index
+  pub here : slice_get hosts session.host ≡ Some index
+  pub sound : IsSound index.next index.lines
+  pub file : lines.file ≡ index.host
+  pub line : lines.line ≡ line_of index session now
+  pub dropped : lines.dropped ≡ dropped_of index.rules index.lines

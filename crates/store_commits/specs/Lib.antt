@@ -1,0 +1,17 @@
+pub mod Ids
+pub mod Written
+pub mod WrittenLaws
+pub mod Counting
+pub mod BoundLaws
+pub mod HostLaws
+pub mod AcceptLaws
+pub mod RunningLaws
+pub mod OfficeLaws
+pub mod Former
+pub mod FormerLaws
+pub mod Planned
+pub mod Judged
+pub mod GatherLaws
+pub mod BuildLaws
+pub mod PlanLaws
+pub mod CommittedLaws

@@ -1,0 +1,117 @@
+-- What a commit is planned to do, as the parts of a store tell it.
+--     counted_of      how often the tables name a content then
+--     IsBuilt, IsPlanned      the plan of a commit of an open dump
+use Rattle.std.specs.Prelude.{◌≡◌, ◌⊎◌, ℕ, ◌+◌, ◌-◌, ◌<◌, List, [], ◌∷◌, Option, Some, None, is_some, not, slice_get}
+use Rattle.disk_trait.specs.declared.ids.PoolId.{PoolId}
+use Rattle.disk_trait.specs.declared.ids.FileId.TheVariants.{Host as HostFile, Table as TableFile, Counts as CountsFile}
+use Rattle.disk_trait.specs.declared.disk.Disk.{Ghosts as DiskGhosts}
+use Rattle.disk_trait.specs.Files.{Files}
+use Rattle.pool_name.specs.declared.namer.Namer.{Ghosts as NamerGhosts}
+use Rattle.intent_journal.specs.declared.changes.Change.{Change}
+use Rattle.journal_view.specs.View.{told}
+use Rattle.attr_tables.specs.declared.layouts.TableLayout.TheVariants.{Second}
+use Rattle.attr_tables.specs.Layout.{IsTable}
+use Rattle.attr_tables.specs.Tables.{table_file}
+use Rattle.backup_rules.specs.declared.lines.Line.{Line}
+use Rattle.backup_index.specs.Index.{Index}
+use Rattle.backup_views.specs.Stored.{IsTableFile}
+use Rattle.merge_view.specs.Views.{Rows}
+use Rattle.office_model.specs.declared.refusal.Refusal.{Refusal}
+use Rattle.office_model.specs.declared.refusal.Refusal.TheVariants.{DiskFault, Memory}
+use Rattle.stored_trees.specs.Occurrences.{occurrences}
+use Rattle.ref_counts.specs.Numbers.{Items, number, capped}
+use Rattle.ref_counts.specs.Layout.{IsCounts}
+use Rattle.ref_counts.specs.CountsFile.{counts_file}
+use Rattle.pool_changes.specs.Listed.{index_of}
+use Rattle.pool_changes.specs.Indexed.{after as relisted_after, IsOf, AreGiven}
+use Rattle.pool_changes.specs.Written.{LeadsIndex}
+use Rattle.office_catalog.specs.Known.{with_change, with_line}
+use Rattle.office_catalog.specs.Changed.{IsFor, Proposes}
+use Rattle.open_sessions.specs.declared.sessions.OpenDump.{OpenDump}
+use Rattle.store_parts.specs.declared.parts.StoreParts.{StoreParts}
+use Rattle.store_parts.specs.States.{slots}
+use Rattle.store_commits.specs.declared.files.Former.{Former}
+use Rattle.store_commits.specs.declared.files.HostFiles.{HostFiles}
+use Rattle.store_commits.specs.declared.former.Folding.{Folding}
+use Rattle.store_commits.specs.declared.judge.Lines.{Lines}
+use Rattle.store_commits.specs.declared.plan.Plan.{Plan}
+use Rattle.store_commits.specs.Judged.{IsJudged}
+use Rattle.store_commits.specs.Ids.{ids_in}
+use Rattle.store_commits.specs.Written.{written}
+use Rattle.store_commits.specs.Counting.{HasCounts}
+use Rattle.store_commits.specs.Former.{dropped_of, IsFolded}
+
+-- by the number before
+abbrev pub counted_of : ℕ → Option Folding → Rows → PoolId → ℕ
+counted_of n None rows id = capped (n + capped (occurrences id rows))
+counted_of n (Some folding) rows id =
+    capped (capped ((n - capped (occurrences id folding.rows)) + capped (occurrences id folding.entries)) + capped (occurrences id rows))
+
+-- the counts after it, by those that the files tell
+abbrev pub AreCounted : Option Files → ℕ → Option Folding → Rows → Items → Type 0
+AreCounted told host folding rows items = (all : Files) (olds : Items) → told ≡ Some all → HasCounts host olds (all (CountsFile host))
+    → (id : PoolId) → number items id ≡ counted_of (number olds id) folding rows id
+
+-- the former newest's new table
+abbrev pub IsFormerFile : Option Folding → Option Former → Type 0
+IsFormerFile None former = former ≡ None
+IsFormerFile (Some folding) former = IsTable Second folding.entries
+    × (former ≡ Some (record { number = folding.number; table = table_file Second folding.entries }))
+
+-- the bytes of the one file that a change of the catalog has
+abbrev pub IsBytesOf : List Change → List ℕ → Type 0
+IsBytesOf changes bytes = (change : Change) → changes ≡ change ∷ [] → change.bytes ≡ Some bytes
+
+-- What a fault of reading comes to: if the files tell the host's counts and a table for the former newest, it is one of the
+-- disk, or want of memory.
+pub record IsTold (all : Files) (host : ℕ) (dropped : Option Line) : Type 0 where
+  pub items : Items
+  pub has : HasCounts host items (all (CountsFile host))
+  pub table : (line : Line) → dropped ≡ Some line → (rows : Rows) × IsTableFile rows (all (TableFile host line.number))
+
+abbrev pub IsGatherFault : Option Files → ℕ → Option Line → Refusal → Type 0
+IsGatherFault told host dropped refusal =
+    (all : Files) → told ≡ Some all → IsTold all host dropped → (refusal ≡ DiskFault) ⊎ (refusal ≡ Memory)
+
+module _ {D N S : Type 0} {d : DiskGhosts D} {n : NamerGhosts N S} where
+  -- what is written, by what was judged and gathered
+  pub record IsBuilt (parts : StoreParts D N S d n) (host : ℕ) (lines : Lines) (folding : Option Folding) (counts : Items) (rows : Rows)
+      (plan : Plan) : Type 0 where
+    pub number : plan.number ≡ lines.line.number
+    pub rows_are : plan.rows ≡ rows
+    pub proposes : Proposes parts.catalog (with_change parts.catalog host (with_line lines.line (not (is_some lines.dropped))))
+        (HostFile host ∷ []) plan.catalog
+    pub fits : IsFor parts.catalog plan.catalog
+    pub pooled : List Change
+    pub of_ids : IsOf plan.index (ids_in rows) [] [] []
+    pub given : AreGiven (slots parts) (ids_in rows)
+    pub leads : LeadsIndex parts.pool.in_one_file (index_of (slots parts)) (index_of (relisted_after plan.index (slots parts))) pooled
+    pub files : HostFiles
+    pub changes : plan.changes ≡ written pooled lines.file lines.line.number files
+    pub index : IsBytesOf plan.catalog.changes files.index
+    pub table : IsTable Second rows × (files.table ≡ table_file Second rows)
+    pub former : IsFormerFile folding files.former
+    pub counted : IsCounts counts × (files.counts ≡ counts_file lines.file counts)
+
+  -- the plan of a commit of an open dump, by what is in memory and what the files tell
+  pub record IsPlanned (parts : StoreParts D N S d n) (session : OpenDump) (now : ℕ) (plan : Plan) : Type 0 where
+    pub lines : Lines
+    pub judged : IsJudged parts.catalog.hosts session now lines
+    pub folding : Option Folding
+    pub counts : Items
+    pub folded : IsFolded (told parts.journal) lines.file lines.dropped session.tree folding
+    pub are_counted : AreCounted (told parts.journal) lines.file folding session.tree counts
+    pub built : IsBuilt parts session.host lines folding counts session.tree plan
+
+  -- What a refusal of a plan comes to: if the dump's host is there with a number left, the files tell what is read, and the
+  -- contents are given, it is a fault of the disk, or want of memory.
+  pub record IsReady (parts : StoreParts D N S d n) (session : OpenDump) (all : Files) : Type 0 where
+    pub index : Index
+    pub here : slice_get parts.catalog.hosts session.host ≡ Some index
+    pub number : index.next < 4294967296
+    pub tells : IsTold all index.host (dropped_of index.rules index.lines)
+    pub given : AreGiven (slots parts) (ids_in session.tree)
+
+  abbrev pub IsPlanFault : StoreParts D N S d n → OpenDump → Refusal → Type 0
+  IsPlanFault parts session refusal =
+      (all : Files) → told parts.journal ≡ Some all → IsReady parts session all → (refusal ≡ DiskFault) ⊎ (refusal ≡ Memory)

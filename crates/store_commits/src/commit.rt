@@ -1,0 +1,51 @@
+//! An open dump becomes its host's next backup.
+
+ghost use Rattle.std.specs.Prelude.{◌≡◌, ◌⊎◌, ◌<◌, false, Some, length, IfOk, IfErr, IsErrOf, slice_get};
+ghost use Rattle.fault_counts.specs.Counts.{Counted};
+ghost use Rattle.journal_view.specs.View.{Quiet};
+ghost use Rattle.open_sessions.specs.declared.sessions.OpenDump.{OpenDump};
+ghost use Rattle.store_commits.specs.Planned.{IsPlanned, IsPlanFault};
+
+use crate::build::build;
+use crate::gather::gather;
+use crate::judge::judge;
+use crate::plan::Plan;
+use disk_trait::Disk;
+use office_model::Refusal;
+use pool_name::Namer;
+use std::alloc::Global;
+use store_parts::StoreParts;
+use stream_traits::Moment;
+
+/// Plans the commit of the open dump at a place. Tables and counts are read; nothing changes.
+pub fn plan_commit<D: Disk, N: Namer>(
+    parts: &mut StoreParts<D, N>,
+    alloc: Global,
+    at: usize,
+    now: Moment,
+) -> Result<Plan, Refusal>
+    requires ready { parts.old.journal.halted ≡ false }
+    requires within { at < length parts.old.sessions.dumps.items }
+    ensures planned { IfOk result (λ plan. (session : OpenDump) → slice_get parts.old.sessions.dumps.items at ≡ Some session
+        → IsPlanned parts.old session now plan) }
+    ensures refused { IfErr result (λ refusal. (session : OpenDump) → slice_get parts.old.sessions.dumps.items at ≡ Some session
+        → IsPlanFault parts.old session refusal) }
+    ensures quiet { Quiet parts.old.journal parts.new.journal }
+    ensures others { parts.new ≡ record parts.old { journal = parts.new.journal } }
+    ensures counted { Counted (D.fault_count parts.old.journal.disk) (D.fault_count parts.new.journal.disk) (IsErrOf result Refusal.DiskFault) }
+{
+    let dump = &parts.sessions.dumps[at];
+    let host = dump.host;
+    let lines = match judge(parts, dump, now) {
+        Ok(lines) => lines,
+        Err(refusal) => return Err(refusal),
+    };
+    let rows = match dump.tree.tree(alloc) {
+        Ok(rows) => rows,
+        Err(_) => return Err(Refusal::Memory),
+    };
+    match gather(alloc, &mut parts.journal, lines.file, lines.dropped, &rows) {
+        Ok(gathered) => build(parts, alloc, host, lines, rows, gathered),
+        Err(refusal) => Err(refusal),
+    }
+}

@@ -1,0 +1,51 @@
+//! What a commit reads.
+
+ghost use Rattle.std.specs.Prelude.{◌≡◌, ◌⊎◌, ℕ, false, Some, IfOk, IfErr, IsErrOf};
+ghost use Rattle.fault_counts.specs.Counts.{Counted};
+ghost use Rattle.journal_view.specs.View.{told, Quiet};
+ghost use Rattle.store_commits.specs.Former.{IsFolded};
+ghost use Rattle.store_commits.specs.Planned.{AreCounted, IsGatherFault};
+
+use crate::counts::next_counts;
+use crate::former::{Folding, fold_former};
+use attr_tables::Table;
+use backup_rules::Line;
+use disk_trait::Disk;
+use intent_journal::Journal;
+use office_model::Refusal;
+use ref_counts::Counts;
+use std::alloc::Global;
+
+/// What becomes of the former newest backup, and the counts of the host.
+#[derive(Drop)]
+pub struct Gathered {
+    pub folding: Option<Folding>,
+    pub counts: Counts,
+}
+
+/// Reads the former newest's table, if it doesn't stay filled, and the host's counts, and makes of them what they are after
+/// the commit of a new tree. A refusal changes nothing.
+pub(crate) fn gather<D: Disk>(
+    alloc: Global,
+    journal: &mut Journal<D>,
+    host: u32,
+    dropped: Option<Line>,
+    rows: &Table,
+) -> Result<Gathered, Refusal>
+    requires { journal.old.halted ≡ false }
+    ensures folded { IfOk result (λ gathered. IsFolded (told journal.old) host dropped rows.now gathered.folding) }
+    ensures counts { IfOk result (λ gathered. AreCounted (told journal.old) host gathered.folding rows.now gathered.counts) }
+    ensures kind { IfErr result (IsGatherFault (told journal.old) host dropped) }
+    ensures quiet { Quiet journal.old journal.new }
+    ensures counted { Counted (D.fault_count journal.old.disk) (D.fault_count journal.new.disk) (IsErrOf result Refusal.DiskFault) }
+{
+    let folding = match fold_former(alloc, journal, host, dropped, rows) {
+        Ok(folding) => folding,
+        Err(refusal) => return Err(refusal),
+    };
+    let counts = match next_counts(alloc, journal, host, &folding, rows) {
+        Ok(counts) => counts,
+        Err(refusal) => return Err(refusal),
+    };
+    Ok(Gathered { folding, counts })
+}

@@ -1,0 +1,32 @@
+//! What a commit of an open dump is to do: the dump becomes its host's next backup.
+//!
+//! One commit of the journal writes the new table, the former newest's table if it doesn't stay filled, the host's index and
+//! counts, and the files of the pool's index that change. [`plan_commit`] reads what it must and builds all of it, and changes
+//! nothing: so want of memory leaves everything as it was. The crate knows the parts of a store, and neither answers nor events;
+//! making what is planned isn't part of it yet, but for the laws of what stands in the files afterwards (`specs/OfficeLaws`,
+//! `specs/HostLaws`) and of the parts that then hold the office (`specs/RunningLaws`).
+//!
+//! | Type | What it is |
+//! |---|---|
+//! | [`Plan`] | the changes of all files, and of catalog and pool behind them |
+//! | [`Lines`] | the line of the new backup, and the former newest's, if it doesn't stay filled |
+//! | [`Gathered`], [`Folding`] | what becomes of the former newest and of the counts |
+//! | [`HostFiles`], [`Former`] | the bytes of the host's files |
+#![tactic(auto)]
+
+mod build;
+mod commit;
+mod counts;
+mod files;
+mod former;
+mod gather;
+mod ids;
+mod judge;
+mod plan;
+
+pub use commit::plan_commit;
+pub use files::{Former, HostFiles};
+pub use former::Folding;
+pub use gather::Gathered;
+pub use judge::Lines;
+pub use plan::Plan;
