@@ -15,3 +15,4 @@ pub mod GatherLaws
 pub mod BuildLaws
 pub mod PlanLaws
 pub mod CommittedLaws
+pub mod LineLaws

@@ -13,10 +13,10 @@ use pool_store::{Pool, Slot};
 use std::alloc::{AllocError, Global};
 
 /// The content that a record names, if it names one.
-pub fn content_of(record: &Record) -> Option<PoolId>
-    ensures { result ≡ content_in record.now }
+pub fn content_of(node: &Record) -> Option<PoolId>
+    ensures { result ≡ content_in node.now }
 {
-    match record {
+    match node {
         Record::File(file) => file.content,
         Record::Dir(_) => None,
         Record::Link(_) => None,

@@ -2,9 +2,10 @@
 //!
 //! One commit of the journal writes the new table, the former newest's table if it doesn't stay filled, the host's index and
 //! counts, and the files of the pool's index that change. [`plan_commit`] reads what it must and builds all of it, and changes
-//! nothing: so want of memory leaves everything as it was. The crate knows the parts of a store, and neither answers nor events;
-//! making what is planned isn't part of it yet, but for the laws of what stands in the files afterwards (`specs/OfficeLaws`,
-//! `specs/HostLaws`) and of the parts that then hold the office (`specs/RunningLaws`).
+//! nothing: so want of memory leaves everything as it was. [`accept_commit`] makes in memory what was committed. The crate knows the parts
+//! of a store, and neither answers nor events; the event that plans, writes and finishes isn't part of it yet, but for the laws of
+//! what stands in the files afterwards (`specs/OfficeLaws`, `specs/HostLaws`, `specs/LineLaws`) and of the parts that then hold the
+//! office (`specs/RunningLaws`).
 //!
 //! | Type | What it is |
 //! |---|---|
@@ -18,6 +19,7 @@ mod build;
 mod commit;
 mod counts;
 mod files;
+mod finish;
 mod former;
 mod gather;
 mod ids;
@@ -26,6 +28,7 @@ mod plan;
 
 pub use commit::plan_commit;
 pub use files::{Former, HostFiles};
+pub use finish::accept_commit;
 pub use former::Folding;
 pub use gather::Gathered;
 pub use judge::Lines;
