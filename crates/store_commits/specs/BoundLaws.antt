@@ -1,6 +1,7 @@
 -- Counts stay far below the greatest number that their file can hold.
 --     few_occurrences      rows name a content no more often than there are rows
 --     few_backups      a host has fewer backups than numbers
+--     length-map_values      values that change leave the length
 --     few_counted      how often the tables of a host's backups name a content
 use Rattle.std.specs.Prelude.{◌≡◌, ℕ, zero, suc, ◌+◌, ◌-◌, ◌*◌, ◌^◌, ◌<◌, ◌≤◌, Bool, true, false, List, [], ◌∷◌, length, Option, Some, None, slice_get, if◌then◌else◌}
 use Rattle.std.proofs.Common.{refl, sym, ap, ◌∙◌, arith}
@@ -117,7 +118,7 @@ few_backups next (b ∷ bs) numbered =
     let below = numbered.below (length (b ∷ bs) - 1) last.0 last.1 in
     omega (arith, above, below)
 
-length-map_values : {K X Y : Type 0} (f : X → Y) (xs : List (K × X)) → length (map_values f xs) ≡ length xs
+pub length-map_values : {K X Y : Type 0} (f : X → Y) (xs : List (K × X)) → length (map_values f xs) ≡ length xs
 length-map_values f [] = refl
 length-map_values f (x ∷ xs) = ap suc (length-map_values f xs)
 

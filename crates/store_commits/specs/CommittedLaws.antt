@@ -1,5 +1,6 @@
 -- What a planned commit leads to, for an office that the parts hold.
 --     Found      the dump and the host of the model that a plan is of
+--     if_some      a line that is dropped is the newest, and does not stay filled
 --     planned_changes      the changes of a plan name metadata files, none twice
 use Rattle.std.specs.Prelude.{◌≡◌, ℕ, zero, suc, ◌+◌, ◌-◌, ◌<◌, Bool, true, false, List, [], ◌∷◌, length, Option, Some, None, slice_get, if◌then◌else◌}
 use Rattle.std.proofs.Common.{refl, sym, ap, ◌∙◌, subst, inl, inr, arith}
@@ -33,7 +34,7 @@ line_below low next [] sound i line e = absurd cc
 line_below low next (l ∷ lines) sound zero line e = let same : l ≡ line = cc in subst (λ (x : Line). x.number < next) same sound.0.below
 line_below low next (l ∷ lines) sound (suc i) line e = line_below (l.number + 1) next lines sound.1 i line e
 
-if_some : (rules : RuleSet) (newest : Option Line) (line : Line) → if_dropped rules newest ≡ Some line
+pub if_some : (rules : RuleSet) (newest : Option Line) (line : Line) → if_dropped rules newest ≡ Some line
     → (newest ≡ Some line) × (stays_filled rules line ≡ false)
 if_some rules None line e = absurd cc
 if_some rules (Some newest) line e = step (stays_filled rules newest) refl e

@@ -16,3 +16,13 @@ pub mod BuildLaws
 pub mod PlanLaws
 pub mod CommittedLaws
 pub mod LineLaws
+pub mod Committing
+pub mod CountsLaws
+pub mod ReadyLaws
+pub mod HostFileLaws
+pub mod HostAfterLaws
+pub mod KeptLaws
+pub mod AfterLaws
+pub mod KnownLaws
+pub mod EventLaws
+pub mod HoldLaws

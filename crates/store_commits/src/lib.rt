@@ -2,10 +2,10 @@
 //!
 //! One commit of the journal writes the new table, the former newest's table if it doesn't stay filled, the host's index and
 //! counts, and the files of the pool's index that change. [`plan_commit`] reads what it must and builds all of it, and changes
-//! nothing: so want of memory leaves everything as it was. [`accept_commit`] makes in memory what was committed. The crate knows the parts
-//! of a store, and neither answers nor events; the event that plans, writes and finishes isn't part of it yet, but for the laws of
-//! what stands in the files afterwards (`specs/OfficeLaws`, `specs/HostLaws`, `specs/LineLaws`) and of the parts that then hold the
-//! office (`specs/RunningLaws`).
+//! nothing: so want of memory leaves everything as it was. [`accept_commit`] makes in memory what was committed. [`commit_dump`] is
+//! the event that plans, writes and finishes: it promises `Runs` of store_parts. Its laws are those of what stands in the files
+//! afterwards (`specs/OfficeLaws`, `specs/HostLaws`, `specs/LineLaws`), of the parts that then hold the office
+//! (`specs/RunningLaws`), and of the steps to that (`specs/EventLaws`, `specs/HoldLaws`).
 //!
 //! | Type | What it is |
 //! |---|---|
@@ -18,6 +18,7 @@
 mod build;
 mod commit;
 mod counts;
+mod event;
 mod files;
 mod finish;
 mod former;
@@ -27,6 +28,7 @@ mod judge;
 mod plan;
 
 pub use commit::plan_commit;
+pub use event::commit_dump;
 pub use files::{Former, HostFiles};
 pub use finish::accept_commit;
 pub use former::Folding;

@@ -1,0 +1,240 @@
+-- The files after a planned commit stand for the office after it.
+--     stored_after      for the office that the parts hold
+use Rattle.std.specs.Prelude.{◌≡◌, ℕ, ◌<◌, ◌≤◌, Bool, true, false, not, List, length, Option, Some, None, is_some, slice_get, slice_set}
+use Rattle.std.proofs.Common.{refl, sym, ap, ◌∙◌, subst, arith}
+use Rattle.std.proofs.lemmas.Option.{slice_get_within}
+use Rattle.disk_trait.specs.declared.ids.PoolId.{PoolId}
+use Rattle.disk_trait.specs.declared.ids.FileId.{FileId}
+use Rattle.disk_trait.specs.declared.ids.FileId.TheVariants as F
+use Rattle.disk_trait.specs.declared.disk.Disk.{Ghosts as DiskGhosts}
+use Rattle.disk_trait.specs.Names.{is_metadata}
+use Rattle.disk_trait.specs.Files.{Files}
+use Rattle.pool_name.specs.declared.namer.Namer.{Ghosts as NamerGhosts}
+use Rattle.intent_journal.specs.declared.changes.Change.{Change}
+use Rattle.intent_journal.specs.Changes.{applied, AreChanges}
+use Rattle.journal_view.specs.View.{told, uncertain}
+use Rattle.backup_rules.specs.declared.lines.Line.{Line}
+use Rattle.backup_index.specs.Index.{Index as HostIndex}
+use Rattle.merge_view.specs.Views.{Rows}
+use Rattle.pool_index.specs.Index.{Index, TellsByte, TellsBuckets}
+use Rattle.pool_changes.specs.Slots.{is_given}
+use Rattle.pool_changes.specs.Listed.{index_of}
+use Rattle.pool_changes.specs.Indexed.{after as relisted_after, relisted_by}
+use Rattle.pool_changes.specs.Written.{LeadsIndex}
+use Rattle.stored_trees.specs.Resolved.{resolved, AreTold}
+use Rattle.ref_counts.specs.Stored.{Backup as StoredBackup}
+use Rattle.ref_counts.specs.CountsFile.{counts_file}
+use Rattle.open_sessions.specs.declared.sessions.OpenDump.{OpenDump}
+use Rattle.office_catalog.specs.Held.{HoldsCatalog}
+use Rattle.office_catalog.specs.Known.{Known, with_line}
+use Rattle.office_model.specs.Office.{Office, Host, Backup, Names, IsSound, IsSoundHost, durable, backup_index}
+use Rattle.office_model.specs.Places.{slice_get-set_same}
+use Rattle.office_model.specs.Parts.{lines_of}
+use Rattle.office_model.specs.Pool.{Pool, with_tree}
+use Rattle.office_model.specs.events.Commit.{new_line, new_backup, with_commit}
+use Rattle.office_model.specs.laws.SoundLaws.{IsSound-closed}
+use Rattle.office_files.specs.Hosts.{index_of_host, IsShown, StandsHost}
+use Rattle.office_files.specs.Layouts.{IsHostFile}
+use Rattle.office_files.specs.Owners.{has_backup}
+use Rattle.office_files.specs.Pairs.{pair_at}
+use Rattle.office_files.specs.Pooled.{contents_of, IsListed}
+use Rattle.office_files.specs.Stands.{Stands}
+use Rattle.office_changes.specs.Commits.{IsListedWith}
+use Rattle.office_known.specs.KnownLaws.{stands_catalog}
+use Rattle.office_changes.specs.ChangeLaws.{is_of_host, is_of_index}
+use Rattle.office_changes.specs.PoolLaws.{listed_with, told_with}
+use Rattle.store_parts.specs.declared.parts.StoreParts.{StoreParts}
+use Rattle.store_parts.specs.Held.{given, IsKeptView}
+use Rattle.store_parts.specs.States.{slots, IsRunning}
+use Rattle.store_parts.specs.StoredLaws.{contents_written}
+use Rattle.store_commits.specs.declared.files.HostFiles.{HostFiles}
+use Rattle.store_commits.specs.declared.former.Folding.{Folding}
+use Rattle.store_commits.specs.declared.plan.Plan.{Plan}
+use Rattle.store_commits.specs.AcceptLaws.{with_added}
+use Rattle.store_commits.specs.Ids.{ids_in}
+use Rattle.store_commits.specs.Former.{dropped_of, IsFolded}
+use Rattle.store_commits.specs.Judged.{line_of}
+use Rattle.store_commits.specs.Planned.{IsPlanned, AreCounted}
+use Rattle.store_commits.specs.Written.{written}
+use Rattle.store_commits.specs.WrittenLaws.{IsFormer, AreOfIndex, at_other, at_pool_index, at_pool_bucket}
+use Rattle.store_commits.specs.CommittedLaws.{number_is, former_is, planned_changes, of_index}
+use Rattle.store_commits.specs.HostLaws.{new_stored}
+use Rattle.store_commits.specs.BoundLaws.{length-map_values}
+use Rattle.store_commits.specs.LineLaws.{index_committed}
+use Rattle.store_commits.specs.HostFileLaws.{index_after}
+use Rattle.store_commits.specs.HostAfterLaws.{IsBuiltOf, HostAfter, host_after}
+use Rattle.store_commits.specs.KeptLaws.{kept_after}
+use Rattle.store_commits.specs.OfficeLaws.{listed_rows, office_committed}
+use Rattle.store_commits.specs.ReadyLaws.{index_there}
+use Rattle.store_commits.specs.Committing.{office_after, IsMeant, IsStoredAfter}
+
+some_same : {A : Type 0} (a b : A) → Some a ≡ Some b → a ≡ b
+some_same a b e = cc
+
+module _ {D N S : Type 0} {d : DiskGhosts D} {n : NamerGhosts N S} where
+  module _ (parts : StoreParts D N S d n) (place : ℕ) (session : OpenDump) (now : ℕ) (plan : Plan) (office : Office) (names : Names)
+      (at : IsRunning parts office names) (planned : IsPlanned parts session now plan) (m : IsMeant parts place session office names at)
+      (sound : IsSound (office_after office place m.dump m.host now)) where
+    abbrev number : ℕ
+    number = m.dump.host
+
+    abbrev rows : Rows
+    rows = session.tree
+
+    abbrev new : Host
+    new = with_commit m.host m.dump now
+
+    abbrev next : Index
+    next = index_of (with_added (ids_in rows) (slots parts))
+
+    -- ---- what memory says of the host
+
+    index_is : planned.judged.index ≡ index_of_host number m.host
+    index_is =
+        some_same planned.judged.index (index_of_host number m.host)
+        (sym (subst (λ (h : ℕ). slice_get parts.catalog.hosts h ≡ Some planned.judged.index) m.is.host planned.judged.here)
+        ∙ ap (λ (k : Known). slice_get k.hosts number) at.catalog_is ∙ index_there office.hosts number m.host m.here)
+
+    file_is : planned.lines.file ≡ number
+    file_is = planned.judged.file ∙ ap (λ (i : HostIndex). i.host) index_is
+
+    next_is : planned.lines.line.number ≡ m.host.next
+    next_is = number_is parts session now plan planned ∙ ap (λ (i : HostIndex). i.next) index_is
+
+    line_is : planned.lines.line ≡ new_line m.host m.dump now
+    line_is = planned.judged.line ∙ (λ j. record {
+      number = (index_is j).next;
+      start = m.is.start j;
+      end = now;
+      kind = m.is.kind j;
+      filled = true;
+      keep = false;
+    })
+
+    dropped_is : planned.lines.dropped ≡ dropped_of m.host.rules (lines_of m.host.backups)
+    dropped_is = planned.judged.dropped ∙ ap (λ (i : HostIndex). dropped_of i.rules i.lines) index_is
+
+    -- ---- what was built
+
+    holds : HoldsCatalog at.all parts.catalog
+    holds = subst (HoldsCatalog at.all) (sym at.catalog_is)
+        (stands_catalog n.digest_of (index_of (slots parts)) at.backups at.all (durable office) at.stands)
+
+    index_built : IsHostFile (index_of_host number new) (Some planned.built.files.index)
+    index_built = subst (λ (i : HostIndex). IsHostFile i (Some planned.built.files.index))
+        ((λ j. with_line (line_is j) (not (is_some (dropped_is j))) (index_is j)) ∙ index_committed m.host m.dump now number)
+        (index_after at.all parts.catalog session.host (with_line planned.lines.line (not (is_some planned.lines.dropped))) planned.judged.index
+        plan.catalog planned.built.files.index holds planned.judged.here planned.built.proposes planned.built.index)
+
+    built : IsBuiltOf (told parts.journal) number m.host m.dump now rows planned.folding planned.counts planned.built.files
+    built = record {
+      index = index_built;
+      table = planned.built.table;
+      counts = (planned.built.counted.0, planned.built.counted.1 ∙ ap (λ (h : ℕ). counts_file h planned.counts) file_is);
+      former = planned.built.former;
+      is_former = subst (λ (k : ℕ). IsFormer k planned.built.files.former) next_is (former_is parts session now plan planned);
+      folded = subst (λ (h : ℕ). IsFolded (told parts.journal) h (dropped_of m.host.rules (lines_of m.host.backups)) rows planned.folding) file_is
+          (subst (λ (d : Option Line). IsFolded (told parts.journal) planned.lines.file d rows planned.folding) dropped_is planned.folded);
+      are_counted = subst (λ (h : ℕ). AreCounted (told parts.journal) h planned.folding rows planned.counts) file_is planned.are_counted;
+    }
+
+    -- ---- the files after it
+
+    abbrev image : Files
+    image = applied plan.changes at.all
+
+    abbrev pooled : List Change
+    pooled = planned.built.pooled
+
+    changes_are : plan.changes ≡ written pooled number m.host.next planned.built.files
+    changes_are = planned.built.changes ∙ (λ j. written pooled (file_is j) (next_is j) planned.built.files)
+
+    image_is : applied (written pooled number m.host.next planned.built.files) at.all ≡ image
+    image_is = ap (λ (changes : List Change). applied changes at.all) (sym changes_are)
+
+    pooled_are : AreOfIndex pooled
+    pooled_are = of_index parts.pool.in_one_file (index_of (slots parts)) (index_of (relisted_after plan.index (slots parts))) pooled planned.built.leads
+
+    contents_are : contents_of image ≡ contents_of at.all
+    contents_are = contents_written plan.changes at.all (planned_changes parts session now plan planned)
+
+    listed : IsListedWith rows (contents_of at.all) (index_of (slots parts)) next
+    listed = listed_rows n.digest_of (slots parts) (uncertain parts.journal) at.all at.fits rows m.is.tree_rows.told
+
+    listed_still : (id : PoolId) → IsListed (index_of (slots parts)) id → IsListed next id × (contents_of at.all id ≡ contents_of image id)
+    listed_still id was = (
+      listed_with rows (contents_of at.all) (index_of (slots parts)) next listed id was,
+      sym (ap (λ (c : PoolId → List ℕ). c id) contents_are),
+    )
+
+    fresh : IsShown (IsListed next) (contents_of image) (new_backup m.host m.dump now) (new_stored rows)
+    fresh = record {
+      filled = refl;
+      tree = m.is.tree ∙ ap (λ (c : PoolId → List ℕ). resolved c rows) (sym contents_are);
+      whole = m.is.tree_rows.whole;
+      told = subst (λ (c : PoolId → List ℕ). AreTold (IsListed next) c rows) (sym contents_are)
+          (told_with rows (contents_of at.all) (index_of (slots parts)) next listed (given (slots parts)) m.is.tree_rows.told);
+    }
+
+    few : length rows ≤ 1048576
+    few =
+        let tree = at.sound.dumps.trees place m.dump m.there in
+        let size : length m.dump.tree ≡ length rows = ap length m.is.tree ∙ length-map_values _ rows in
+        omega (arith, size, tree.few)
+
+    sound_new : IsSoundHost new
+    sound_new = sound.hosts.each number new (slice_get-set_same office.hosts number new (slice_get_within office.hosts number m.host m.here))
+
+    none_else : (k : ℕ) → is_some (backup_index m.host.backups k) ≡ false → at.all (F.Table number k) ≡ None
+    none_else k e = at.stands.nothing_else (F.Table number k) (ap (λ (h : Option Host). has_backup h k) m.here ∙ e)
+
+    abbrev found : (shown : List StoredBackup) × (slice_get at.backups number ≡ Some shown)
+        × StandsHost (IsListed (index_of (slots parts))) (contents_of at.all) at.all number m.host shown
+    found = pair_at (StandsHost (IsListed (index_of (slots parts))) (contents_of at.all) at.all) office.hosts at.backups at.stands.hosts number
+        m.host m.here
+
+    host_then : HostAfter (IsListed next) (contents_of image) image number m.host new found.0
+    host_then = subst (λ (i : Files). HostAfter (IsListed next) (contents_of image) i number m.host new found.0) image_is
+        (host_after (IsListed (index_of (slots parts))) (IsListed next) (contents_of at.all) (contents_of image) listed_still (told parts.journal)
+        at.all at.told_is number m.host m.dump now rows planned.folding planned.counts pooled planned.built.files pooled_are built
+        (at.sound.hosts.each number m.host m.here).backups.numbered sound_new.numbers few sound_new.backups.numbered fresh none_else found.0 found.2)
+
+    stays : (file : FileId) → is_metadata file ≡ true → is_of_host number file ≡ false → is_of_index file ≡ false → image file ≡ at.all file
+    stays file metadata out none =
+        ap (λ (i : Files). i file) (sym image_is)
+        ∙ at_other pooled number m.host.next planned.built.files at.all pooled_are built.is_former file out none
+
+    tells : TellsBuckets next image
+    tells = subst (λ (i : Files). TellsBuckets next i) image_is (record {
+      none = at_pool_index pooled number m.host.next planned.built.files at.all pooled_are built.is_former ∙ was.none;
+      each = λ byte within.
+          subst (TellsByte byte next)
+          (sym (at_pool_bucket pooled number m.host.next planned.built.files at.all pooled_are built.is_former byte)) (was.each byte within);
+      within = was.within;
+    })
+      where
+        relisted : relisted_after plan.index (slots parts) ≡ with_added (ids_in rows) (slots parts)
+        relisted = λ j. relisted_by (planned.built.of_ids.added_are j) (planned.built.of_ids.marked_are j) (planned.built.of_ids.unmarked_are j)
+            (planned.built.of_ids.removed_are j) (slots parts)
+
+        was : TellsBuckets next (applied pooled at.all)
+        was = subst (λ s. TellsBuckets (index_of s) (applied pooled at.all)) relisted (planned.built.leads.leads at.all at.tells)
+
+    abbrev with_pool : Pool → Office
+    with_pool pool = record (durable office) { hosts = slice_set office.hosts number new; pool = pool }
+
+    stands : Stands n.digest_of next (slice_set at.backups number host_then.after) image (with_pool (with_tree office.pool m.dump.tree))
+    stands = subst (λ tree. Stands n.digest_of next (slice_set at.backups number host_then.after) image (with_pool (with_tree office.pool tree)))
+        (sym m.is.tree)
+        (office_committed n.digest_of (slots parts) (uncertain parts.journal) at.all at.fits rows m.is.tree_rows.told at.backups image
+        (durable office) number m.host new host_then.after contents_are m.here refl stays host_then.beyond host_then.stands tells
+        (subst (λ tree. IsSound (with_pool (with_tree office.pool tree))) m.is.tree
+        (IsSound-closed (office_after office place m.dump m.host now) office.epoch sound)) at.stands)
+
+    pub stored_after : IsStoredAfter parts at.all (ids_in rows) plan.changes (office_after office place m.dump m.host now)
+    stored_after = record {
+      backups = slice_set at.backups number host_then.after;
+      stands = stands;
+      tells = tells;
+      view = kept_after office.hosts at.backups number m.host new found.0 host_then.after m.here found.1 host_then.still parts.views.kept at.view;
+    }

@@ -1,0 +1,70 @@
+-- What a commit of an open dump is to the model, and the files that stand for the office after it.
+--     office_after      the office after the commit
+--     IsMeant, meant      the dump of the model that an open dump at a place is, and its host
+--     IsStoredAfter      files that stand for an office after changes, by what parts at work hold
+use Rattle.std.specs.Prelude.{◌≡◌, ℕ, ◌<◌, false, List, Some, slice_get, slice_set}
+use Rattle.std.specs.List.{remove}
+use Rattle.std.proofs.Common.{sym}
+use Rattle.disk_trait.specs.declared.ids.PoolId.{PoolId}
+use Rattle.disk_trait.specs.declared.disk.Disk.{Ghosts as DiskGhosts}
+use Rattle.disk_trait.specs.Files.{Files}
+use Rattle.pool_name.specs.declared.namer.Namer.{Ghosts as NamerGhosts}
+use Rattle.intent_journal.specs.declared.changes.Change.{Change}
+use Rattle.intent_journal.specs.Changes.{applied}
+use Rattle.pool_index.specs.Index.{TellsIn}
+use Rattle.pool_changes.specs.Listed.{index_of}
+use Rattle.ref_counts.specs.Stored.{Backup as StoredBackup}
+use Rattle.open_sessions.specs.declared.sessions.OpenDump.{OpenDump}
+use Rattle.open_sessions.specs.Opened.{IsDump}
+use Rattle.office_model.specs.Office.{Office, Host, Dump, Names, durable, number_limit}
+use Rattle.office_model.specs.Pool.{with_tree}
+use Rattle.office_model.specs.events.Commit.{with_commit}
+use Rattle.office_files.specs.Pairs.{other_at}
+use Rattle.office_files.specs.Pooled.{contents_of}
+use Rattle.office_files.specs.Stands.{Stands}
+use Rattle.store_parts.specs.declared.parts.StoreParts.{StoreParts}
+use Rattle.store_parts.specs.Held.{given, IsKeptView}
+use Rattle.store_parts.specs.States.{slots, IsRunning}
+use Rattle.store_commits.specs.AcceptLaws.{with_added}
+
+-- the dump at a place becomes its host's newest backup
+abbrev pub office_after : Office → ℕ → Dump → Host → ℕ → Office
+office_after office place dump host now = record office {
+  hosts = slice_set office.hosts dump.host (with_commit host dump now);
+  pool = with_tree office.pool dump.tree;
+  dumps = remove office.dumps place;
+}
+
+module _ {D N S : Type 0} {d : DiskGhosts D} {n : NamerGhosts N S} where
+  -- the dump of the model that an open dump at a place is, and its host, which has a number left
+  pub record IsMeant (parts : StoreParts D N S d n) (place : ℕ) (session : OpenDump) (office : Office) (names : Names)
+      (at : IsRunning parts office names) : Type 0 where
+    pub dump : Dump
+    pub there : slice_get office.dumps place ≡ Some dump
+    pub is : IsDump (given (slots parts)) (contents_of at.all) dump session
+    pub host : Host
+    pub here : slice_get office.hosts dump.host ≡ Some host
+    pub number : host.next < number_limit
+
+  pub meant : (parts : StoreParts D N S d n) (place : ℕ) (session : OpenDump) (office : Office) (names : Names)
+      (at : IsRunning parts office names) → slice_get parts.sessions.dumps.items place ≡ Some session
+      → IsMeant parts place session office names at
+  meant parts place session office names at e =
+      let w = other_at parts.sessions.dumps.items office.dumps place session (sym at.sessions.dumps.counted) e in
+      let hosted = at.sound.dumps.hosted place w.0 w.1 in
+      record {
+        dump = w.0;
+        there = w.1;
+        is = at.sessions.dumps.each place w.0 session w.1 e;
+        host = hosted.host;
+        here = hosted.is_host;
+        number = hosted.has_number;
+      }
+
+  -- after the changes the files stand for the office, by the pool's index with these names in it, and what is kept is still a view
+  pub record IsStoredAfter (parts : StoreParts D N S d n) (all : Files) (ids : List PoolId) (changes : List Change) (after : Office)
+      : Type 0 where
+    pub backups : List (List StoredBackup)
+    pub stands : Stands n.digest_of (index_of (with_added ids (slots parts))) backups (applied changes all) (durable after)
+    pub tells : TellsIn false (index_of (with_added ids (slots parts))) (applied changes all)
+    pub view : IsKeptView parts.views.kept after.hosts backups

@@ -1,0 +1,259 @@
+-- What a commit that was planned and written leaves.
+--     leads_committed      its changes lead to files that stand for the office after it
+--     IsFinished      the parts behind accept_commit
+--     holds_committed      they hold the office after it
+--     runs_not_written, runs_committed      the event's answer after the write
+use Rattle.std.specs.Prelude.{◌≡◌, ◌≤◌, ◌<◌, ℕ, true, false, not, List, length, Some, Ok, Err, is_some, slice_get}
+use Rattle.std.specs.List.{remove}
+use Rattle.std.proofs.Common.{refl, sym, ap, ◌∙◌, subst, inr, arith}
+use Rattle.disk_trait.specs.declared.ids.PoolId.{PoolId}
+use Rattle.disk_trait.specs.declared.disk.Disk.{Ghosts as DiskGhosts}
+use Rattle.pool_name.specs.declared.namer.Namer.{Ghosts as NamerGhosts}
+use Rattle.intent_journal.specs.Changes.{AreChanges}
+use Rattle.journal_view.specs.View.{Quiet}
+use Rattle.backup_index.specs.Index.{Index}
+use Rattle.backup_views.specs.declared.kept.Views.{Views}
+use Rattle.pool_changes.specs.Slots.{claims_of}
+use Rattle.pool_changes.specs.Kept.{slots_of}
+use Rattle.pool_changes.specs.Indexed.{after as relisted_after, relisted_by}
+use Rattle.open_sessions.specs.declared.sessions.OpenDump.{OpenDump}
+use Rattle.open_sessions.specs.declared.sessions.Sessions.{Sessions}
+use Rattle.open_sessions.specs.Opened.{AreSessions, claims_of_dump}
+use Rattle.open_sessions.specs.SessionLaws.{claims_in_dumps-remove}
+use Rattle.open_sessions.specs.CallLaws.{AreSessions-dump_taken, claims_in-dump_taken}
+use Rattle.office_catalog.specs.Known.{Known, with_change, with_line}
+use Rattle.office_catalog.specs.Changed.{IsFor, after as known_after}
+use Rattle.office_model.specs.declared.session.SessionName.{SessionName}
+use Rattle.office_model.specs.declared.answer.Answer.TheVariants.{Committed}
+use Rattle.office_model.specs.declared.event.Event.TheVariants.{Commit}
+use Rattle.office_model.specs.declared.refusal.BrokenRule.TheVariants.{NoSession}
+use Rattle.office_model.specs.declared.refusal.Refusal.{Refusal}
+use Rattle.office_model.specs.Office.{Office, Names, IsSound, durable, dump_index}
+use Rattle.office_model.specs.Parts.{dump_at}
+use Rattle.office_model.specs.laws.Judging.{at_found}
+use Rattle.office_model.specs.laws.SoundLaws.{IsSound-carried}
+use Rattle.office_model.specs.events.Commit as CommitEvent
+use Rattle.office_files.specs.Hosts.{index_of_host}
+use Rattle.office_files.specs.Pooled.{contents_of}
+use Rattle.office_known.specs.KnownLaws.{known_of_office}
+use Rattle.store_parts.specs.declared.parts.StoreParts.{StoreParts}
+use Rattle.store_parts.specs.Held.{given, IsKeptView}
+use Rattle.store_parts.specs.States.{slots, IsRunning}
+use Rattle.store_parts.specs.Runs.{Runs}
+use Rattle.store_parts.specs.Writes.{Writes}
+use Rattle.store_parts.specs.WriteLaws.{LeadsTo, Holds, runs_write_refused, runs_written}
+use Rattle.store_dumps.specs.Claims.{LetsGo}
+use Rattle.store_commits.specs.declared.plan.Plan.{Plan}
+use Rattle.store_commits.specs.Ids.{ids_in}
+use Rattle.store_commits.specs.Former.{dropped_of}
+use Rattle.store_commits.specs.Judged.{line_of}
+use Rattle.store_commits.specs.AcceptLaws.{with_added, claims_added}
+use Rattle.store_commits.specs.Planned.{IsPlanned}
+use Rattle.store_commits.specs.CommittedLaws.{number_is, planned_changes}
+use Rattle.store_commits.specs.RunningLaws.{running_committed}
+use Rattle.store_commits.specs.Committing.{office_after, IsMeant, meant, IsStoredAfter}
+use Rattle.store_commits.specs.AfterLaws.{stored_after}
+use Rattle.store_commits.specs.KnownLaws.{index_found, catalog_committed}
+use Rattle.store_commits.specs.EventLaws.{place_of, place_is, there_within, plan_reads, planned_read, reads_then}
+
+module _ {D N S : Type 0} {d : DiskGhosts D} {n : NamerGhosts N S} where
+  -- the parts behind accept_commit
+  pub record IsFinished (place : ℕ) (plan : Plan) (mid new : StoreParts D N S d n) : Type 0 where
+    pub pool : (dump : OpenDump) → slice_get mid.sessions.dumps.items place ≡ Some dump → plan.rows ≡ dump.tree
+        → ((id : PoolId) → claims_of_dump dump id ≤ claims_of (relisted_after plan.index (slots mid) id))
+        → LetsGo (claims_of_dump dump) (relisted_after plan.index (slots mid)) (slots new)
+    pub form : new.pool.in_one_file ≡ false
+    pub catalog : new.catalog ≡ known_after plan.catalog mid.catalog
+    pub dumps : new.sessions.dumps.items ≡ remove mid.sessions.dumps.items place
+    pub restores : new.sessions.restores ≡ mid.sessions.restores
+    pub sequence : new.sessions.sequence ≡ mid.sessions.sequence
+    pub journal : new.journal ≡ mid.journal
+    pub views : new.views ≡ mid.views
+    pub halted : new.halted ≡ mid.halted
+
+  module _ (old : StoreParts D N S d n) (name : SessionName) (now place : ℕ) (session : OpenDump) (plan : Plan)
+      (found : Some place ≡ place_of old.sessions.dumps.items name) (there : slice_get old.sessions.dumps.items place ≡ Some session)
+      (planned : IsPlanned old session now plan) where
+    -- what the event is to an office that the parts hold
+    record IsStep (office : Office) (names : Names) (at : IsRunning old office names) : Type 0 where
+      pub m : IsMeant old place session office names at
+      pub judged : CommitEvent.carried name now office
+          ≡ Ok (record { answer = Committed m.host.next; after = office_after office place m.dump m.host now })
+      pub sound : IsSound (office_after office place m.dump m.host now)
+      pub stored : IsStoredAfter old at.all (ids_in session.tree) plan.changes (office_after office place m.dump m.host now)
+
+    step_of : (office : Office) (names : Names) (at : IsRunning old office names) → IsStep office names at
+    step_of office names at =
+        let m : IsMeant old place session office names at = meant old place session office names at there in
+        let is_at : dump_at office.dumps name ≡ Ok (record { index = place; value = m.dump }) =
+        at_found NoSession office.dumps (dump_index office.dumps name) place m.dump (place_is old name (Some place) found office names at)
+        m.there in
+        let judged : CommitEvent.carried name now office
+        ≡ Ok (record { answer = Committed m.host.next; after = office_after office place m.dump m.host now }) = rw (is_at, m.here) refl in
+        let sound : IsSound (office_after office place m.dump m.host now) =
+        IsSound-carried office names (Commit name now)
+        (record { answer = Committed m.host.next; after = office_after office place m.dump m.host now }) at.sound judged in
+        record {
+          m = m;
+          judged = judged;
+          sound = sound;
+          stored = stored_after old place session now plan office names at planned m sound;
+        }
+
+    leads_to : (office : Office) (names : Names) (at : IsRunning old office names) → IsStep office names at
+        → LeadsTo n.digest_of (Commit name now) plan.changes office names at.all
+    leads_to office names at s = record {
+      carried = record { answer = Committed s.m.host.next; after = office_after office place s.m.dump s.m.host now };
+      judged = s.judged;
+      stands = record { index = _; backups = s.stored.backups; stands = s.stored.stands };
+    }
+
+    pub leads_committed : (office : Office) (names : Names) (at : IsRunning old office names)
+        → LeadsTo n.digest_of (Commit name now) plan.changes office names at.all
+    leads_committed office names at = leads_to office names at (step_of office names at)
+
+    pub runs_write_failed : (new : StoreParts D N S d n) (refusal : Refusal) → Writes old plan.changes (Err refusal) new
+        → Runs old (Commit name now) (Err refusal) new
+    runs_write_failed new refusal w =
+        runs_write_refused old new (Commit name now) plan.changes refusal w leads_committed (λ office names. inr refl)
+
+    -- the host's index, which the catalog has
+    index_is : (office : Office) (names : Names) (at : IsRunning old office names) (m : IsMeant old place session office names at)
+        → planned.judged.index ≡ index_of_host m.dump.host m.host
+    index_is office names at m =
+        index_found office.hosts m.dump.host m.host planned.judged.index m.here
+        (ap (λ (k : Known). slice_get k.hosts m.dump.host) (sym at.catalog_is) ∙ ap (slice_get old.catalog.hosts) (sym m.is.host)
+        ∙ planned.judged.here)
+
+    catalog_after : (office : Office) (names : Names) (at : IsRunning old office names) (m : IsMeant old place session office names at)
+        → known_after plan.catalog old.catalog ≡ known_of_office (durable (office_after office place m.dump m.host now))
+    catalog_after office names at m =
+        planned.built.proposes.after_is
+        ∙ ap (λ (h : ℕ). with_line_at h) m.is.host
+        ∙ catalog_committed old.catalog (durable office) m.dump.host m.host m.dump now planned.lines.line planned.lines.dropped
+        at.catalog_is m.here
+        (planned.judged.line ∙ line) (planned.judged.dropped ∙ ap (λ (i : Index). dropped_of i.rules i.lines) index)
+      where
+        index : planned.judged.index ≡ index_of_host m.dump.host m.host
+        index = index_is office names at m
+
+        line : line_of planned.judged.index session now ≡ CommitEvent.new_line m.host m.dump now
+        line = λ i. record {
+          number = (index i).next;
+          start = m.is.start i;
+          end = now;
+          kind = m.is.kind i;
+          filled = true;
+          keep = false;
+        }
+
+        with_line_at : ℕ → Known
+        with_line_at h = with_change old.catalog h (with_line planned.lines.line (not (is_some planned.lines.dropped)))
+
+    number_after : (office : Office) (names : Names) (at : IsRunning old office names) (m : IsMeant old place session office names at)
+        → m.host.next ≡ plan.number
+    number_after office names at m =
+        sym (planned.built.number ∙ number_is old session now plan planned ∙ ap (λ (i : Index). i.next) (index_is office names at m))
+
+    module _ (mid new : StoreParts D N S d n) (done : Unit {0}) (w : Writes old plan.changes (Ok done) mid)
+        (f : IsFinished place plan mid new) where
+      relisted_is : relisted_after plan.index (slots mid) ≡ with_added (ids_in session.tree) (slots old)
+      relisted_is = let o = planned.built.of_ids in
+          λ i. relisted_by (o.added_are i) (o.marked_are i) (o.unmarked_are i) (o.removed_are i) (slots_of (w.pool_same i).names)
+
+      go : (office : Office) (names : Names) (at : IsRunning old office names)
+          → LetsGo (claims_of_dump session) (with_added (ids_in session.tree) (slots old)) (slots new)
+      go office names at =
+          subst (λ s. LetsGo (claims_of_dump session) s (slots new)) relisted_is
+          (f.pool session (ap (λ (s : Sessions). slice_get s.dumps.items place) w.sessions_same ∙ there) planned.built.rows_are
+          (λ id. enough id (ap (λ s. claims_of (s id)) relisted_is ∙ claims_added (ids_in session.tree) (slots old) id)))
+        where
+          enough : (id : PoolId) → claims_of (relisted_after plan.index (slots mid) id) ≡ claims_of (slots old id)
+              → claims_of_dump session id ≤ claims_of (relisted_after plan.index (slots mid) id)
+          enough id same = omega (arith, same, at.claimed id, claims_in_dumps-remove old.sessions.dumps.items id place session there)
+
+      dumps_are : new.sessions.dumps.items ≡ remove old.sessions.dumps.items place
+      dumps_are = f.dumps ∙ ap (λ (s : Sessions). remove s.dumps.items place) w.sessions_same
+
+      restores_are : new.sessions.restores ≡ old.sessions.restores
+      restores_are = f.restores ∙ ap (λ (s : Sessions). s.restores) w.sessions_same
+
+      sequence_is : new.sessions.sequence ≡ old.sessions.sequence
+      sequence_is = f.sequence ∙ ap (λ (s : Sessions). s.sequence) w.sessions_same
+
+      sessions_after : (office : Office) (names : Names) (at : IsRunning old office names)
+          → AreSessions (given (slots old)) (contents_of at.all) (record office { dumps = remove office.dumps place }) new.sessions
+      sessions_after office names at =
+          AreSessions-dump_taken old.sessions new.sessions restores_are (given (slots old)) (contents_of at.all) office at.sessions place
+          dumps_are sequence_is
+
+      running_after : (office : Office) (names : Names) (at : IsRunning old office names) (s : IsStep office names at)
+          → IsRunning new (office_after office place s.m.dump s.m.host now) names
+      running_after office names at s =
+          let taken = sessions_after office names at in
+          running_committed old mid new office (office_after office place s.m.dump s.m.host now) names at plan.changes done w
+          (planned_changes old session now plan planned) (ids_in session.tree) (claims_of_dump session) s.stored.backups
+          (record { go = go office names at }) f.form
+          (λ id. claims_in-dump_taken old.sessions new.sessions restores_are id place session there dumps_are)
+          s.stored.stands s.stored.tells
+          (record { dumps = taken.dumps; restores = taken.restores; sequence = taken.sequence })
+          (subst (λ (v : Views). IsKeptView v.kept (office_after office place s.m.dump s.m.host now).hosts s.stored.backups)
+          (sym (f.views ∙ w.views_same)) s.stored.view)
+          s.sound f.journal
+          (f.catalog ∙ ap (known_after plan.catalog) w.catalog_same ∙ catalog_after office names at s.m)
+          f.halted
+
+      holds_committed : (office : Office) (names : Names) (at : IsRunning old office names)
+          → Holds (Commit name now) (Committed plan.number) plan.changes office names at.all new
+      unfolding leads_to
+      holds_committed office names at =
+          let s = step_of office names at in
+          record {
+            leads = leads_to office names at s;
+            answer_is = ap (λ (k : ℕ). Committed k) (number_after office names at s.m);
+            running = running_after office names at s;
+          }
+
+      pub runs_finished : Runs old (Commit name now) (Ok (Committed plan.number)) new
+      runs_finished =
+          runs_written old mid new (Commit name now) (Committed plan.number) plan.changes done w f.journal holds_committed
+          (λ office names. refl)
+
+  -- behind the plan
+  module _ (old start : StoreParts D N S d n) (name : SessionName) (now place : ℕ) (plan : Plan)
+      (found : Some place ≡ place_of old.sessions.dumps.items name) (within : place < length old.sessions.dumps.items)
+      (quiet : Quiet old.journal start.journal) (others : start ≡ record old { journal = start.journal })
+      (planned : (session : OpenDump) → slice_get old.sessions.dumps.items place ≡ Some session → IsPlanned old session now plan) where
+    abbrev dump : OpenDump
+    dump = (there_within old.sessions.dumps.items place within).0
+
+    items : start.sessions.dumps.items ≡ old.sessions.dumps.items
+    items = ap (λ (p : StoreParts D N S d n). p.sessions.dumps.items) others
+
+    found_start : Some place ≡ place_of start.sessions.dumps.items name
+    found_start = found ∙ ap (λ (s : List OpenDump). place_of s name) (sym items)
+
+    there_start : slice_get start.sessions.dumps.items place ≡ Some dump
+    there_start = ap (λ (s : List OpenDump). slice_get s place) items ∙ (there_within old.sessions.dumps.items place within).1
+
+    planned_start : IsPlanned start dump now plan
+    planned_start = planned_read old start quiet others dump now plan (planned dump (there_within old.sessions.dumps.items place within).1)
+
+    pub changes_planned : AreChanges plan.changes
+    changes_planned = planned_changes start dump now plan planned_start
+
+    pub fits_planned : (known : Known) → known ≡ start.catalog → IsFor known plan.catalog
+    fits_planned known same = subst (λ (k : Known). IsFor k plan.catalog) (sym same) planned_start.built.fits
+
+    module _ (same : d.fault_count start.journal.disk ≡ d.fault_count old.journal.disk) where
+      pub runs_not_written : (new : StoreParts D N S d n) (refusal : Refusal) → Writes start plan.changes (Err refusal) new
+          → Runs old (Commit name now) (Err refusal) new
+      runs_not_written new refusal w =
+          reads_then old start new (Commit name now) (Err refusal) (plan_reads old start quiet others) same
+          (runs_write_failed start name now place dump plan found_start there_start planned_start new refusal w)
+
+      pub runs_committed : (mid new : StoreParts D N S d n) (done : Unit {0}) → Writes start plan.changes (Ok done) mid
+          → IsFinished place plan mid new → Runs old (Commit name now) (Ok (Committed plan.number)) new
+      runs_committed mid new done w f =
+          reads_then old start new (Commit name now) (Ok (Committed plan.number)) (plan_reads old start quiet others) same
+          (runs_finished start name now place dump plan found_start there_start planned_start mid new done w f)

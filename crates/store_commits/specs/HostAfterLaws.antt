@@ -1,0 +1,242 @@
+-- A host after a commit, by what was built of it.
+--     IsBuiltOf      the files that were built of a host and an open dump
+--     HostAfter      what stands in the files of the host then: its backups are shown as before, and the new one
+--     host_after      built files lead to it
+use Rattle.std.specs.Prelude.{◌≡◌, ◌≢◌, ◌⊎◌, ℕ, zero, suc, ◌+◌, ◌^◌, ◌<◌, ◌≤◌, ◌==◌, Bool, true, false, List, [], ◌∷◌, ◌++◌, length, Option, Some, None, is_some, slice_get, if◌then◌else◌}
+use Rattle.std.proofs.Common.{refl, sym, ap, ◌∙◌, subst, append_assoc, inl, inr, arith}
+use Rattle.std.proofs.lemmas.Bool.{true≢false, eq-eqb}
+use Rattle.disk_trait.specs.declared.ids.PoolId.{PoolId}
+use Rattle.disk_trait.specs.declared.ids.FileId.TheVariants as F
+use Rattle.disk_trait.specs.Files.{Files}
+use Rattle.intent_journal.specs.declared.changes.Change.{Change}
+use Rattle.intent_journal.specs.Changes.{applied}
+use Rattle.attr_tables.specs.declared.layouts.TableLayout.TheVariants.{Second}
+use Rattle.attr_tables.specs.Layout.{IsTable}
+use Rattle.attr_tables.specs.Tables.{table_file}
+use Rattle.backup_rules.specs.declared.lines.Line.{Line}
+use Rattle.backup_rules.specs.Fill.{stays_filled}
+use Rattle.merge_view.specs.Views.{Rows, reverse}
+use Rattle.ref_counts.specs.Numbers.{Items, total}
+use Rattle.ref_counts.specs.Layout.{IsCounts}
+use Rattle.ref_counts.specs.CountsFile.{counts_file}
+use Rattle.ref_counts.specs.Stored.{Backup as StoredBackup, stored, with_new, older_tables}
+use Rattle.ref_counts.specs.StoredLaws.{stored-before}
+use Rattle.office_model.specs.Office.{Host, Backup, Dump, AreNumbered, backup_index, number_limit}
+use Rattle.office_model.specs.Parts.{lines_of, filled_as, with_newest}
+use Rattle.office_model.specs.events.Commit.{new_backup, with_commit}
+use Rattle.office_files.specs.Layouts.{IsHostFile, IsTableFile, IsCountsFile}
+use Rattle.office_files.specs.Hosts.{index_of_host, IsShown, StandsHost}
+use Rattle.office_files.specs.Pairs.{AtEachPair, pairs_each, pairs_push, pairs_front, pairs_last, last_there, longer}
+use Rattle.office_changes.specs.ChangeLaws.{shown_given}
+use Rattle.office_changes.specs.CommitLaws.{with_newest-push, host_first_committed}
+use Rattle.store_commits.specs.declared.files.HostFiles.{HostFiles}
+use Rattle.store_commits.specs.declared.former.Folding.{Folding}
+use Rattle.store_commits.specs.Former.{dropped_of, IsFolded}
+use Rattle.store_commits.specs.Planned.{AreCounted, IsFormerFile}
+use Rattle.store_commits.specs.Written.{written}
+use Rattle.store_commits.specs.WrittenLaws.{IsFormer, AreOfIndex, at_host, at_table, at_counts}
+use Rattle.store_commits.specs.HostLaws.{HasLast, ends, new_stored, IsWritten, host_further, none_beyond}
+use Rattle.store_commits.specs.LineLaws.{dropped_newest}
+use Rattle.store_commits.specs.BoundLaws.{few_counted}
+use Rattle.store_commits.specs.CountsLaws.{IsFormerFolding, counts_first, counts_further}
+use Rattle.store_commits.specs.HostFileLaws.{table_after, folding_of, former_after, others_after, others_first}
+
+-- ---- lists whose last element changes, with one behind it
+
+pub record StillAt {A B : Type 0} (part : A → B) (b : A) (found : Option A) : Type 0 where
+  pub now : A
+  pub is : found ≡ Some now
+  pub same : part now ≡ part b
+
+still_at : {A B : Type 0} (part : A → B) (xs : List A) (x x' y : A) → part x' ≡ part x → (i : ℕ) (b : A) → slice_get (xs ++ x ∷ []) i ≡ Some b
+    → StillAt part b (slice_get (xs ++ x' ∷ y ∷ []) i)
+still_at part [] x x' y same zero b e =
+    let is : x ≡ b = cc in record { now = x'; is = refl; same = same ∙ ap part is }
+still_at part [] x x' y same (suc i) b e = absurd cc
+still_at part (z ∷ xs) x x' y same zero b e = let is : z ≡ b = cc in record { now = z; is = refl; same = ap part is }
+still_at part (z ∷ xs) x x' y same (suc i) b e = still_at part xs x x' y same i b e
+
+-- ---- what was built
+
+-- the files of a host for a dump with these rows
+pub record IsBuiltOf (told : Option Files) (number : ℕ) (host : Host) (dump : Dump) (now : ℕ) (rows : Rows) (folding : Option Folding)
+    (items : Items) (files : HostFiles) : Type 0 where
+  pub index : IsHostFile (index_of_host number (with_commit host dump now)) (Some files.index)
+  pub table : IsTable Second rows × (files.table ≡ table_file Second rows)
+  pub counts : IsCounts items × (files.counts ≡ counts_file number items)
+  pub former : IsFormerFile folding files.former
+  pub is_former : IsFormer host.next files.former
+  pub folded : IsFolded told number (dropped_of host.rules (lines_of host.backups)) rows folding
+  pub are_counted : AreCounted told number folding rows items
+
+-- a backup that is there is there still, and shows the same
+abbrev pub AreStill : List Backup → List StoredBackup → List Backup → List StoredBackup → Type 0
+AreStill backups shown backups' shown' = (i : ℕ) (b : Backup) (s : StoredBackup) → slice_get backups i ≡ Some b → slice_get shown i ≡ Some s
+    → StillAt (λ (b : Backup). b.line.number) b (slice_get backups' i) × StillAt (λ (s : StoredBackup). s.rows) s (slice_get shown' i)
+
+pub record HostAfter (given : PoolId → Type 0) (contents : PoolId → List ℕ) (image : Files) (number : ℕ) (host new : Host)
+    (shown : List StoredBackup) : Type 0 where
+  pub after : List StoredBackup
+  pub stands : StandsHost given contents image number new after
+  pub beyond : (n : ℕ) → is_some (backup_index new.backups n) ≡ false → image (F.Table number n) ≡ None
+  pub still : AreStill host.backups shown new.backups after
+
+module _ (given given' : PoolId → Type 0) (contents contents' : PoolId → List ℕ)
+    (same : (id : PoolId) → given id → given' id × (contents id ≡ contents' id)) (told : Option Files) (all : Files) (is_told : told ≡ Some all)
+    (number : ℕ) (host : Host) (dump : Dump) (now : ℕ) (rows : Rows) (folding : Option Folding) (items : Items) (pooled : List Change)
+    (files : HostFiles) (of_index : AreOfIndex pooled) (built : IsBuiltOf told number host dump now rows folding items files)
+    (before : AreNumbered host.next host.backups)
+    (limit : (with_commit host dump now).next ≤ number_limit) (few : length rows ≤ 1048576)
+    (numbered : AreNumbered (with_commit host dump now).next (with_commit host dump now).backups)
+    (fresh : IsShown given' contents' (new_backup host dump now) (new_stored rows))
+    (none : (n : ℕ) → is_some (backup_index host.backups n) ≡ false → all (F.Table number n) ≡ None) where
+  abbrev image : Files
+  image = applied (written pooled number host.next files) all
+
+  abbrev new : Host
+  new = with_commit host dump now
+
+  index : IsHostFile (index_of_host number new) (image (F.Host number))
+  index = subst (IsHostFile (index_of_host number new)) (sym (at_host pooled number host.next files all of_index built.is_former)) built.index
+
+  table : IsTableFile rows (image (F.Table number host.next))
+  table = table_after pooled number host.next files all of_index built.is_former rows built.table.0 built.table.1
+
+  counts_at : (count : PoolId → ℕ) → IsCountsFile number count (Some (counts_file number items)) → IsCountsFile number count (image (F.Counts number))
+  counts_at count = subst (IsCountsFile number count)
+      (sym (at_counts pooled number host.next files all of_index built.is_former ∙ ap (λ (b : List ℕ). Some b) built.counts.1))
+
+  -- the first backup
+  module _ (shown : List StoredBackup) (stands : StandsHost given contents all number host shown) (was : host.backups ≡ []) where
+    none_folded : folding ≡ None
+    none_folded = subst (λ (b : List Backup). IsFolded told number (dropped_of host.rules (lines_of b)) rows folding) was built.folded
+
+    none_shown : shown ≡ []
+    none_shown = no_more shown (stands.shown.counted ∙ ap length was)
+      where
+        no_more : (xs : List StoredBackup) → length xs ≡ 0 → xs ≡ []
+        no_more [] e = refl
+        no_more (x ∷ xs) e = absurd (omega (arith, e))
+
+    one_backup : new.backups ≡ new_backup host dump now ∷ []
+    one_backup = ap (λ (b : List Backup). with_newest host.rules b (new_backup host dump now)) was
+
+    not_found : (n : ℕ) → is_some (backup_index new.backups n) ≡ false → n ≢ host.next
+    not_found n e same =
+        true≢false (sym (found (host.next == n) (eq-eqb host.next n (sym same)))
+        ∙ ap (λ (b : List Backup). is_some (backup_index b n)) (sym one_backup) ∙ e)
+      where
+        found : (b : Bool) → b ≡ true → is_some {T = ℕ} (if b then Some 0 else None) ≡ true
+        found b is = ap (λ (b : Bool). is_some {T = ℕ} (if b then Some 0 else None)) is
+
+    host_first : HostAfter given' contents' image number host new shown
+    host_first = record {
+      after = new_stored rows ∷ [];
+      stands = host_first_committed given' contents' image number new (new_backup host dump now) (new_stored rows) one_backup fresh index table
+          (counts_at (λ id. total id (stored (new_stored rows ∷ [])))
+          (counts_first told all number items rows is_told
+          (subst (λ (f : Option Folding). AreCounted told number f rows items) none_folded built.are_counted) built.counts.0
+          (subst (λ (s : List StoredBackup). IsCountsFile number (λ id. total id (stored s)) (all (F.Counts number))) none_shown stands.counts) few));
+      beyond = λ n e.
+          others_first pooled number host.next files all of_index built.is_former folding n none_folded built.former (not_found n e)
+          ∙ none n (ap (λ (b : List Backup). is_some (backup_index b n)) was);
+      still = λ i b s e f. nothing i b (ap (λ (b : List Backup). slice_get b i) (sym was) ∙ e);
+    }
+      where
+        nothing : (i : ℕ) (b : Backup) {A : Type 0} → slice_get [] i ≡ Some b → A
+        nothing i b e = absurd cc
+
+  -- a further one
+  module _ (older : List Backup) (newest : Backup) (were : host.backups ≡ older ++ newest ∷ []) (olds : List StoredBackup) (last : StoredBackup)
+      (stands : StandsHost given contents all number host (olds ++ last ∷ [])) where
+    abbrev stays : Bool
+    stays = stays_filled host.rules newest.line
+
+    abbrev kept : StoredBackup
+    kept = record { filled = stays; rows = last.rows }
+
+    abbrev IsTableAt : Backup → Rows → Type 0
+    IsTableAt b rows = IsTableFile rows (all (F.Table number b.line.number))
+
+    table_last : IsTableFile last.rows (all (F.Table number newest.line.number))
+    table_last =
+        pairs_last IsTableAt older newest (older_tables olds last) last.rows
+        (subst (λ (l : List Backup). AtEachPair (λ i. IsTableAt) l (older_tables olds last ++ last.rows ∷ [])) were
+        (subst (λ (l : List Rows). AtEachPair (λ i. IsTableAt) host.backups l) (stored-before olds last) stands.tables))
+
+    folded : IsFolded told number (if stays then None else Some newest.line) rows folding
+    folded = subst (λ (d : Option Line). IsFolded told number d rows folding)
+        (ap (λ (b : List Backup). dropped_of host.rules (lines_of b)) were ∙ dropped_newest host.rules older newest) built.folded
+
+    fold : IsFormerFolding stays last.rows rows folding
+    fold = folding_of told all number newest.line stays last.rows rows folding is_told table_last folded
+
+    below : newest.line.number < host.next
+    below = before.below (length older) newest (ap (λ (l : List Backup). slice_get l (length older)) were ∙ last_there older newest)
+
+    pushed : new.backups ≡ (older ++ filled_as stays newest ∷ []) ++ new_backup host dump now ∷ []
+    pushed = ap (λ (b : List Backup). with_newest host.rules b (new_backup host dump now)) were
+        ∙ with_newest-push host.rules older newest (new_backup host dump now)
+
+    shown_after : AtEachPair (λ i. IsShown given' contents') new.backups (with_new olds last stays (new_stored rows))
+    shown_after =
+        let was : AtEachPair (λ i. IsShown given contents) (older ++ newest ∷ []) (olds ++ last ∷ []) =
+        subst (λ (l : List Backup). AtEachPair (λ i. IsShown given contents) l (olds ++ last ∷ [])) were stands.shown in
+        let front = pairs_each (λ i. IsShown given contents) (λ i. IsShown given' contents') older olds
+        (λ i x y e f. shown_given given given' contents contents' same x y) (pairs_front (IsShown given contents) older newest olds last was) in
+        let is = shown_given given given' contents contents' same newest last (pairs_last (IsShown given contents) older newest olds last was) in
+        let two = pairs_push (IsShown given' contents') (older ++ filled_as stays newest ∷ []) (olds ++ kept ∷ [])
+        (pairs_push (IsShown given' contents') older olds front (filled_as stays newest) kept
+        (record { filled = refl; tree = is.tree; whole = is.whole; told = is.told })) (new_backup host dump now) (new_stored rows) fresh in
+        subst (λ (l : List Backup). AtEachPair (λ i. IsShown given' contents') l (with_new olds last stays (new_stored rows))) (sym pushed)
+        (subst (λ (l : List StoredBackup). AtEachPair (λ i. IsShown given' contents')
+        ((older ++ filled_as stays newest ∷ []) ++ new_backup host dump now ∷ []) l) (append_assoc olds (kept ∷ []) (new_stored rows ∷ [])) two)
+
+    is_written : IsWritten all image number host dump now newest olds last rows
+    is_written = record {
+      index = index;
+      table = table;
+      former = former_after pooled number host.next files all of_index built.is_former told newest.line stays last.rows rows folding table_last
+          built.former folded fold (λ e. omega (arith, e, below));
+      others = λ n a b.
+          others_after pooled number host.next files all of_index built.is_former told newest.line stays rows folding n built.former folded a b;
+      counts = counts_at (λ id. total id (stored (with_new olds last stays (new_stored rows))))
+          (counts_further told all number items folding rows olds last stays is_told built.are_counted built.counts.0 fold stands.counts
+          (few_counted given contents host.next host.backups (olds ++ last ∷ []) before (omega (arith, limit)) stands.shown)
+          (few_counted given' contents' new.next new.backups (with_new olds last stays (new_stored rows)) numbered limit shown_after));
+    }
+
+    host_last : HostAfter given' contents' image number host new (olds ++ last ∷ [])
+    host_last = record {
+      after = with_new olds last stays (new_stored rows);
+      stands = host_further given given' contents contents' same all image number host dump now newest older olds last rows were numbered is_written
+          fresh stands;
+      beyond = none_beyond given given' contents contents' same all image number host dump now newest older olds last rows were numbered is_written
+          none;
+      still = λ i b s e f. (
+        subst (λ (l : List Backup). StillAt (λ (b : Backup). b.line.number) b (slice_get l i))
+            (sym (pushed ∙ append_assoc older (filled_as stays newest ∷ []) (new_backup host dump now ∷ [])))
+            (still_at (λ (b : Backup). b.line.number) older newest (filled_as stays newest) (new_backup host dump now) refl i b
+            (ap (λ (l : List Backup). slice_get l i) (sym were) ∙ e)),
+        still_at (λ (s : StoredBackup). s.rows) olds last kept (new_stored rows) refl i s f,
+      );
+    }
+
+  host_with : (shown : List StoredBackup) → StandsHost given contents all number host shown → HasLast host.backups
+      → (shown ≡ []) ⊎ HasLast shown → HostAfter given' contents' image number host new shown
+  host_with shown stands was (inl none) = absurd (more_there was.front was.last (sym (ap length was.is) ∙ sym stands.shown.counted ∙ ap length none))
+    where
+      more_there : (xs : List Backup) (x : Backup) → length (xs ++ x ∷ []) ≡ 0 → ⊥
+      more_there xs x e = let all = longer xs x in omega (arith, e, all)
+  host_with shown stands was (inr more) =
+      subst (λ (s : List StoredBackup). HostAfter given' contents' image number host new s) (sym more.is)
+      (host_last was.front was.last was.is more.front more.last
+      (subst (λ (s : List StoredBackup). StandsHost given contents all number host s) more.is stands))
+
+  pub host_after : (shown : List StoredBackup) → StandsHost given contents all number host shown
+      → HostAfter given' contents' image number host new shown
+  host_after shown stands = step (ends host.backups)
+    where
+      step : (host.backups ≡ []) ⊎ HasLast host.backups → HostAfter given' contents' image number host new shown
+      step (inl was) = host_first shown stands was
+      step (inr was) = host_with shown stands was (ends shown)
