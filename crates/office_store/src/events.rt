@@ -189,10 +189,10 @@ impl<D: Disk, N: Namer> Store<D, N> {
     }
 }
 
-/// Open dumps. They are in memory alone, and gone after a crash.
+/// Open dumps. They are in memory alone, and gone after a crash, until a commit makes them backups.
 impl<D: Disk, N: Namer> Store<D, N> {
     ghost use Rattle.backup_rules.specs.declared.lines.Kind.TheVariants.{Full};
-    ghost use Rattle.office_model.specs.declared.event.Event.TheVariants.{OpenDump, Put, Remove, Abort};
+    ghost use Rattle.office_model.specs.declared.event.Event.TheVariants.{OpenDump, Put, Remove, Commit, Abort};
     ghost use Rattle.office_store.specs.Serves.{Serves};
 
     /// Opens a full dump of a host, and gives its name. Refused if there is no such host, or a dump of it is open.
@@ -241,6 +241,22 @@ impl<D: Disk, N: Namer> Store<D, N> {
             return Err(Refusal::Halted);
         }
         store_dumps::remove(&mut self.parts, alloc, dump, path)
+    }
+
+    /// Makes an open dump its host's newest backup, and answers its number. After Ok it is durable; after `DiskFault` of the
+    /// write the store is halted, and a crash leaves all of it or nothing. Refused if there is no such dump.
+    pub fn commit(
+        &mut self,
+        alloc: Global,
+        dump: SessionName,
+        now: Moment,
+    ) -> Result<Answer, Refusal>
+        ensures { Serves self.old (Commit dump now) result self.new }
+    {
+        if self.is_halted() {
+            return Err(Refusal::Halted);
+        }
+        store_commits::commit_dump(&mut self.parts, alloc, dump, now)
     }
 
     /// Gives up an open dump. Refused if there is no such dump.

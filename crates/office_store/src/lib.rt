@@ -11,7 +11,7 @@
 //! | [`Store::hosts`], `backups`, `due`, `stats` | questions that memory answers |
 //! | `add_host`, `set_rules`, `contact`, `keep` | changes of the catalog |
 //! | `lookup`, `list`, `read_file` | reads of backups |
-//! | `open_dump_full`, `put`, `remove`, `abort` | open dumps |
+//! | `open_dump_full`, `put`, `remove`, `commit`, `abort` | open dumps |
 //! | [`Store::open`], `reopen`, `close` | openings |
 //!
 //! ```text
