@@ -30,6 +30,7 @@ enum Ask {
     Full(&'static str),
     Put(u64),
     Remove(u64),
+    Commit(u64),
     Abort(u64),
     List(&'static str),
     Lookup(&'static str),
@@ -66,21 +67,39 @@ const SCRIPT: &[(Ask, &str)] = &[
     (Ask::Remove(0), "NoPath"),
     (Ask::Put(1), "done"),
     (Ask::Put(2), "NoSession"),
-    (Ask::Backups("pc1"), "next 0 dump true"),
+    (Ask::Commit(3), "NoSession"),
+    (Ask::Backups("pc1"), "0 next 0 dump true"),
     (Ask::Stats, "2 0 2 0 0"),
     (Ask::Abort(0), "done"),
     (Ask::Abort(0), "NoSession"),
     (Ask::Remove(0), "NoSession"),
-    (Ask::Backups("pc1"), "next 0 dump false"),
+    (Ask::Backups("pc1"), "0 next 0 dump false"),
+    (Ask::Commit(0), "NoSession"),
     (Ask::List("pc1"), "NoBackup"),
     (Ask::Lookup("pc1"), "NoBackup"),
     (Ask::Read("pc3"), "NoHost"),
+    (Ask::Commit(1), "number 0"),
+    (Ask::Commit(1), "NoSession"),
+    (Ask::Backups("pc2"), "1 next 1 dump false"),
+    (Ask::Keep("pc2"), "done"),
+    (Ask::List("pc2"), "1 entries"),
+    (Ask::Lookup("pc2"), "entry"),
+    (Ask::Read("pc2"), "5 bytes"),
+    (Ask::Full("pc2"), "1-2"),
+    (Ask::Remove(2), "NoPath"),
+    (Ask::Commit(2), "number 1"),
+    (Ask::Backups("pc2"), "2 next 2 dump false"),
+    (Ask::Read("pc2"), "5 bytes"),
+    (Ask::Stats, "2 2 0 0 1"),
     (Ask::Reopen, "epoch 2"),
+    (Ask::Read("pc2"), "5 bytes"),
+    (Ask::Backups("pc2"), "2 next 2 dump false"),
+    (Ask::Commit(1), "NoSession"),
     (Ask::Abort(1), "NoSession"),
     (Ask::Hosts, "pc1 pc2 "),
     (Ask::Contact("pc1", false), "good 2 bad 2"),
     (Ask::Full("pc2"), "2-0"),
-    (Ask::Stats, "2 0 1 0 0"),
+    (Ask::Stats, "2 2 1 0 1"),
 ];
 
 fn expect(holds: bool, text: &'static str) -> Result<(), Fail> {
@@ -143,6 +162,10 @@ fn other_event(alloc: Global, ask: Ask) -> Result<Event, Fail> {
         Ask::Remove(sequence) => Ok(Event::Remove {
             dump: dump(sequence),
             path: path(alloc)?,
+        }),
+        Ask::Commit(sequence) => Ok(Event::Commit {
+            dump: dump(sequence),
+            now: moment(),
         }),
         Ask::Abort(sequence) => Ok(Event::Abort {
             dump: dump(sequence),
@@ -229,6 +252,7 @@ fn call(
         Event::OpenDump { host, kind: _, now } => store.open_dump_full(alloc, host, *now),
         Event::Put { dump, path, item } => store.put(alloc, *dump, path, item),
         Event::Remove { dump, path } => store.remove(alloc, *dump, path),
+        Event::Commit { dump, now } => store.commit(alloc, *dump, *now),
         Event::Abort { dump } => store.abort(alloc, *dump),
         _ => call_host(store, alloc, event),
     }
@@ -254,10 +278,15 @@ fn answer_text(alloc: Global, answer: Answer) -> Result<String, Fail> {
             s.hosts, s.backups, s.dumps, s.restores, s.files
         )?),
         Answer::Hosts(list) => names_text(alloc, list.as_slice()),
-        Answer::Backups { lines, next, dump } => {
-            expect(lines.as_slice().is_empty(), "a backup")?;
-            Ok(format!(in alloc; "next {next} dump {}", dump.is_some())?)
-        }
+        Answer::Backups { lines, next, dump } => Ok(format!(in alloc;
+            "{} next {next} dump {}",
+            lines.as_slice().len(),
+            dump.is_some()
+        )?),
+        Answer::Committed(number) => Ok(format!(in alloc; "number {number}")?),
+        Answer::Entries(entries) => Ok(format!(in alloc; "{} entries", entries.as_slice().len())?),
+        Answer::Entry(_) => Ok(String::from_str(alloc, "entry")?),
+        Answer::Content(bytes) => Ok(format!(in alloc; "{} bytes", bytes.as_slice().len())?),
         Answer::Reopened(epoch) => Ok(format!(in alloc; "epoch {epoch}")?),
         _ => Err(Fail::new("another answer")),
     }
