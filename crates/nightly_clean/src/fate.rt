@@ -5,7 +5,7 @@ ghost use Rattle.nightly_clean.specs.Cleanings.{is_wanted};
 
 /// What becomes of a content when its bucket is cleaned, if anything does.
 #[derive(Clone, Copy, Debug, PartialEq, Eq)]
-pub(crate) enum Fate {
+pub enum Fate {
     /// Nothing calls for it, and it gains the mark.
     Gains,
     /// Something calls for it, and it loses the mark.

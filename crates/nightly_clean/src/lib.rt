@@ -16,6 +16,7 @@ mod cleaning;
 mod fate;
 
 pub use cleaning::{Cleaning, clean};
+pub use fate::Fate;
 
 #[cfg(test)]
 mod tests;

@@ -3,6 +3,8 @@
 --     IsTableOf table found      the file of a table, or none
 --     IsChangedTo change before after      a file that a change leaves, removes or writes
 --     IsDeletion      the host's index, its tables by the changes of a deletion, and its counts
+--     lines_left      the lines of the backups that are left
+--     as_backups, are_whole, left_shown      what backups show, and what those show that are left
 --     deleted_left      what the model leaves of backups, one of which is deleted
 --     host_shortened, beyond_deletion      the host after it, and no other table
 use Rattle.std.specs.Prelude.{◌≡◌, ℕ, zero, suc, ◌+◌, ◌-◌, ◌<◌, ◌≢◌, ◌==◌, ◌&&◌, ◌||◌, Bool, true, false, List, [], ◌∷◌, length, map, Option, Some, None, is_some, slice_get, slice_set, if◌then◌else◌}
@@ -66,11 +68,11 @@ module _ {A B : Type 0} (R : A → B → Type 0) where
   rest_of : (x : A) (xs : List A) (y : B) (ys : List B) → AtEachPair (λ i. R) (x ∷ xs) (y ∷ ys) → AtEachPair (λ i. R) xs ys
   rest_of x xs y ys pairs = record { counted = let same = pairs.counted in omega arith; each = λ i a b e f. pairs.each (suc i) a b e f }
 
-length_lines : (all : List Backup) → length (lines_of all) ≡ length all
+pub length_lines : (all : List Backup) → length (lines_of all) ≡ length all
 length_lines [] = refl
 length_lines (b ∷ all) = ap suc (length_lines all)
 
-length_rows : (shown : List StoredBackup) → length (rows_of shown) ≡ length shown
+pub length_rows : (shown : List StoredBackup) → length (rows_of shown) ≡ length shown
 length_rows [] = refl
 length_rows (s ∷ shown) = ap suc (length_rows shown)
 
@@ -81,7 +83,7 @@ module _ (given : PoolId → Type 0) (contents : PoolId → List ℕ) where
   Shown = IsShown given contents
 
   -- shown backups are told by the lines and the rows
-  as_backups : (all : List Backup) (shown : List StoredBackup) → AtEachPair (λ i. Shown) all shown
+  pub as_backups : (all : List Backup) (shown : List StoredBackup) → AtEachPair (λ i. Shown) all shown
       → shown ≡ backups (lines_of all) (rows_of shown)
   as_backups [] [] pairs = refl
   as_backups [] (s ∷ shown) pairs = absurd (let same = pairs.counted in omega arith)
@@ -91,12 +93,12 @@ module _ (given : PoolId → Type 0) (contents : PoolId → List ℕ) where
       let rest = as_backups all shown (rest_of Shown b all s shown pairs) in
       λ i. (record { filled = here i; rows = s.rows }) ∷ rest i
 
-  are_whole : (all : List Backup) (shown : List StoredBackup) → AtEachPair (λ i. Shown) all shown → AreWhole shown
+  pub are_whole : (all : List Backup) (shown : List StoredBackup) → AtEachPair (λ i. Shown) all shown → AreWhole shown
   are_whole all [] pairs = tt
   are_whole [] (s ∷ shown) pairs = absurd (let same = pairs.counted in omega arith)
   are_whole (b ∷ all) (s ∷ shown) pairs = ((first_of Shown b all s shown pairs).whole, are_whole all shown (rest_of Shown b all s shown pairs))
 
-  left_shown : (numbers : List ℕ) (all : List Backup) (shown : List StoredBackup) → AtEachPair (λ i. Shown) all shown
+  pub left_shown : (numbers : List ℕ) (all : List Backup) (shown : List StoredBackup) → AtEachPair (λ i. Shown) all shown
       → AtEachPair (λ i. Shown) (left_backups numbers all) (backups (left_lines numbers (lines_of all)) (left_trees numbers (lines_of all) (rows_of shown)))
   left_shown numbers [] [] pairs = no_pairs (λ i. Shown)
   left_shown numbers [] (s ∷ shown) pairs = absurd (let same = pairs.counted in omega arith)
@@ -120,7 +122,7 @@ module _ (given : PoolId → Type 0) (contents : PoolId → List ℕ) where
           (backups (left_lines numbers (lines_of all)) (left_trees numbers (lines_of all) (rows_of shown)))
           (record { filled = refl; tree = is.tree; whole = is.whole; told = is.told }) rest
 
-lines_left : (numbers : List ℕ) (all : List Backup) → lines_of (left_backups numbers all) ≡ left_lines numbers (lines_of all)
+pub lines_left : (numbers : List ℕ) (all : List Backup) → lines_of (left_backups numbers all) ≡ left_lines numbers (lines_of all)
 lines_left numbers [] = refl
 lines_left numbers (b ∷ all) = step (is_gone numbers b.line.number) (are_gone numbers (lines_of all)) (lines_left numbers all)
   where

@@ -1,1 +1,3 @@
 pub mod DeletionLaws
+pub mod ExpiryLaws
+pub mod OfficeLaws

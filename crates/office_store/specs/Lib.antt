@@ -1,2 +1,5 @@
+pub mod EndLaws
+pub mod Moves
+pub mod MovesLaws
 pub mod Serves
 pub mod ServesLaws

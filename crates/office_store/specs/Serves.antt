@@ -1,19 +1,18 @@
 -- What an event of a store promises, whatever state the store was in.
 --     is_reopen event      whether it is a reopening
---     MayRecover digest_of state event found      what an opening finds after a crash since its start
+--     MayRecover digest_of state event found      what an opening finds after a crash during it
 --     Serves old event reply new      it was answered by a step, and a crash meanwhile left no more than that
-use Rattle.std.specs.Prelude.{◌≡◌, ℕ, Bool, true, false, List, Err}
+use Rattle.std.specs.Prelude.{◌≡◌, ℕ, Bool, true, false, List, Err, IfOk}
 use Rattle.fault_counts.specs.Counts.{Counted}
 use Rattle.disk_trait.specs.declared.disk.Disk.{Ghosts as DiskGhosts}
 use Rattle.disk_trait.specs.Files.{Files}
 use Rattle.pool_name.specs.declared.namer.Namer.{Ghosts as NamerGhosts}
-use Rattle.journal_view.specs.Found.{Finds}
-use Rattle.journal_view.specs.View.{moment}
+use Rattle.journal_view.specs.View.{FindsOnly}
 use Rattle.office_model.specs.declared.event.Event.{Event}
 use Rattle.office_model.specs.declared.event.Event.TheVariants.{AddHost, SetRules, OpenDump, Put, Remove, Commit, Abort, List as ListEvent, Lookup, ReadFile, OpenRead, ReadNext, CloseRead, Keep, Delete, Expire, Contact, Due, Clean, Sweep, Stats, Hosts, Backups, Reopen}
 use Rattle.office_model.specs.declared.refusal.Refusal.TheVariants.{DiskFault}
 use Rattle.office_model.specs.Meaning.{Reply}
-use Rattle.office_model.specs.Step.{State, Running, Halted, meaning_of}
+use Rattle.office_model.specs.Step.{State, Running, Halted, IsAnswerTo, meaning_of}
 use Rattle.store_parts.specs.Held.{IsEither}
 use Rattle.store_parts.specs.States.{InState}
 use Rattle.store_parts.specs.Runs.{Steps, MayRecover as MayRecoverOf}
@@ -58,11 +57,11 @@ abbrev pub MayRecover : (List ℕ → List ℕ) → State → Event → Files �
 MayRecover digest_of state event found = LeftBy digest_of (is_reopen event) state event found
 
 module _ {D N S : Type 0} {d : DiskGhosts D} {n : NamerGhosts N S} where
-  -- The store answered an event: from each state that it was in by a step to a state that it is in; and whatever a crash since
-  -- the event's start leaves, an opening finds an office of that step.
+  -- The store answered an event: from each state that it was in by a step to a state that it is in; and a crash meanwhile leaves
+  -- what an opening finds to be an office of that step. Over any disk an answer is of the event's kind.
   pub record Serves (old : Store D N S d n) (event : Event) (reply : Reply) (new : Store D N S d n) : Type 0 where
     pub steps : (state : State) → InState old.parts state → Steps state event reply new.parts
     pub crash : (state : State) → InState old.parts state
-        → (image : Files) → d.left_since new.parts.journal.disk (moment old.parts.journal) image
-        → Finds (MayRecover n.digest_of state event) image
+        → FindsOnly old.parts.journal new.parts.journal (MayRecover n.digest_of state event)
+    pub in_kind : IfOk reply (IsAnswerTo event)
     pub counted : Counted (d.fault_count old.parts.journal.disk) (d.fault_count new.parts.journal.disk) (reply ≡ Err DiskFault)

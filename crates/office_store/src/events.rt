@@ -4,7 +4,7 @@ ghost use Rattle.std.specs.Prelude.{◌≡◌, ◌||◌};
 
 use crate::store::Store;
 use attr_records::{HostName, Item, PathName};
-use backup_rules::{RuleChange, Rules};
+use backup_rules::{Kind, RuleChange, Rules};
 use disk_trait::Disk;
 use office_model::{Answer, Refusal, SessionName};
 use pool_name::Namer;
@@ -191,23 +191,25 @@ impl<D: Disk, N: Namer> Store<D, N> {
 
 /// Open dumps. They are in memory alone, and gone after a crash, until a commit makes them backups.
 impl<D: Disk, N: Namer> Store<D, N> {
-    ghost use Rattle.backup_rules.specs.declared.lines.Kind.TheVariants.{Full};
     ghost use Rattle.office_model.specs.declared.event.Event.TheVariants.{OpenDump, Put, Remove, Commit, Abort};
     ghost use Rattle.office_store.specs.Serves.{Serves};
 
-    /// Opens a full dump of a host, and gives its name. Refused if there is no such host, or a dump of it is open.
-    pub fn open_dump_full(
+    /// Opens a dump of a host, and gives its name: a full one begins with the empty tree, an incremental with the tree of the
+    /// host's newest backup. Refused if there is no such host, an incremental's host has no backup, a dump of it is open, or
+    /// no number is left; `DiskFault` comes if the backup couldn't be read. After a refusal nothing has changed.
+    pub fn open_dump(
         &mut self,
         alloc: Global,
         host: &HostName,
+        kind: Kind,
         now: Moment,
     ) -> Result<Answer, Refusal>
-        ensures { Serves self.old (OpenDump host.now Full now) result self.new }
+        ensures { Serves self.old (OpenDump host.now kind now) result self.new }
     {
         if self.is_halted() {
             return Err(Refusal::Halted);
         }
-        store_dumps::open_dump_full(&mut self.parts, alloc, host, now)
+        store_dumps::open_dump(&mut self.parts, alloc, host, kind, now)
     }
 
     /// Puts a node at a path of an open dump, in the place of what is there; the bytes of a file are staged, if the pool hasn't
@@ -267,5 +269,97 @@ impl<D: Disk, N: Namer> Store<D, N> {
             return Err(Refusal::Halted);
         }
         store_dumps::abort(&mut self.parts, alloc, dump)
+    }
+}
+
+/// Restores. They are in memory alone, and gone after a crash.
+impl<D: Disk, N: Namer> Store<D, N> {
+    ghost use Rattle.office_model.specs.declared.event.Event.TheVariants.{OpenRead, ReadNext, CloseRead};
+    ghost use Rattle.office_store.specs.Serves.{Serves};
+
+    /// Opens a restore of a backup, and gives its name. It holds the backup's tree and claims its contents, so that neither a
+    /// deletion nor a cleaning changes what it gives. Refused if there is no such host or backup.
+    pub fn open_read(
+        &mut self,
+        alloc: Global,
+        host: &HostName,
+        number: u32,
+    ) -> Result<Answer, Refusal>
+        ensures { Serves self.old (OpenRead host.now number) result self.new }
+    {
+        if self.is_halted() {
+            return Err(Refusal::Halted);
+        }
+        store_restores::open_read(&mut self.parts, alloc, host, number)
+    }
+
+    /// The next frame of a restore, and behind the last one the end again. Refused if there is no such restore; after a
+    /// refusal the same frame is next.
+    pub fn read_next(&mut self, alloc: Global, restore: SessionName) -> Result<Answer, Refusal>
+        ensures { Serves self.old (ReadNext restore) result self.new }
+    {
+        if self.is_halted() {
+            return Err(Refusal::Halted);
+        }
+        store_restores::read_next(&mut self.parts, alloc, restore)
+    }
+
+    /// Gives up a restore. Refused if there is no such one.
+    pub fn close_read(&mut self, restore: SessionName) -> Result<Answer, Refusal>
+        ensures { Serves self.old (CloseRead restore) result self.new }
+    {
+        if self.is_halted() {
+            return Err(Refusal::Halted);
+        }
+        store_restores::close_read(&mut self.parts, restore)
+    }
+}
+
+/// The end of backups, and of contents that no backup holds. After Ok each is durable; after `DiskFault` of a commit the store
+/// is halted.
+impl<D: Disk, N: Namer> Store<D, N> {
+    ghost use Rattle.office_model.specs.declared.event.Event.TheVariants.{Delete, Expire, Clean, Sweep};
+    ghost use Rattle.office_store.specs.Serves.{Serves};
+
+    /// Deletes a backup. Every other one shows what it showed. Refused if there is no such host or backup, or it is kept.
+    pub fn delete(&mut self, alloc: Global, host: &HostName, number: u32) -> Result<Answer, Refusal>
+        ensures { Serves self.old (Delete host.now number) result self.new }
+    {
+        if self.is_halted() {
+            return Err(Refusal::Halted);
+        }
+        store_deletions::delete(&mut self.parts, alloc, host, number)
+    }
+
+    /// Deletes the backups of a host that its keeping rules name at a moment, and gives how many. Refused if there is no such
+    /// host.
+    pub fn expire(&mut self, alloc: Global, host: &HostName, now: Moment) -> Result<Answer, Refusal>
+        ensures { Serves self.old (Expire host.now now) result self.new }
+    {
+        if self.is_halted() {
+            return Err(Refusal::Halted);
+        }
+        store_deletions::expire(&mut self.parts, alloc, host, now)
+    }
+
+    /// Cleans a bucket of the pool: a content that nothing holds gains a mark, and leaves if it had one; one that is held loses
+    /// it. Refused if there is no such bucket.
+    pub fn clean(&mut self, alloc: Global, bucket: u8) -> Result<Answer, Refusal>
+        ensures { Serves self.old (Clean bucket) result self.new }
+    {
+        if self.is_halted() {
+            return Err(Refusal::Halted);
+        }
+        store_cleaning::clean(&mut self.parts, alloc, bucket)
+    }
+
+    /// Removes the files of the pool that nothing lists.
+    pub fn sweep(&mut self) -> Result<Answer, Refusal>
+        ensures { Serves self.old Sweep result self.new }
+    {
+        if self.is_halted() {
+            return Err(Refusal::Halted);
+        }
+        store_cleaning::sweep(&mut self.parts)
     }
 }

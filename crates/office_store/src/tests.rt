@@ -2,9 +2,9 @@ ghost use Rattle.std.specs.Prelude.{◌≤◌};
 
 use crate::Store;
 use attr_records::{Attr, File, HostName, Item, PathName};
-use backup_rules::{Kind, RuleChange, Rules, Setting};
+use backup_rules::{Kind, Line, RuleChange, Rules, Setting};
 use disk_trait::{Bytes, Choice, Disk, DiskRoom, MemoryDisk};
-use office_model::{Answer, Event, Port, Refusal, SessionName};
+use office_model::{Answer, Event, Frame, Port, Refusal, SessionName};
 use pool_name::Md5Namer;
 use std::alloc::Global;
 use std::test::Fail;
@@ -19,7 +19,7 @@ const ROOM: DiskRoom = DiskRoom {
 
 const CHOICES: [Choice; 3] = [Choice::Written, Choice::Absent, Choice::One(0x4F)];
 
-/// What is asked. Hosts are named, dumps go by their number in the first epoch.
+/// What is asked. Hosts are named, dumps go by their number in the first epoch, restores in the second.
 #[derive(Clone, Copy)]
 enum Ask {
     Host(&'static str),
@@ -28,17 +28,25 @@ enum Ask {
     Keep(&'static str),
     Due(&'static str),
     Full(&'static str),
-    Put(u64),
-    Remove(u64),
+    Incr(&'static str),
+    Put(u64, &'static str, &'static str),
+    Remove(u64, &'static str),
     Commit(u64),
     Abort(u64),
-    List(&'static str),
-    Lookup(&'static str),
-    Read(&'static str),
+    List(&'static str, u32),
+    Lookup(&'static str, u32, &'static str),
+    Read(&'static str, u32, &'static str),
     Stats,
     Hosts,
     Backups(&'static str),
     Reopen,
+    Restore(&'static str, u32),
+    Next(u64),
+    Close(u64),
+    Delete(&'static str, u32),
+    Expire(&'static str),
+    Clean(u8),
+    Sweep,
 }
 
 /// What is asked of a blank office, and the replies.
@@ -61,45 +69,109 @@ const SCRIPT: &[(Ask, &str)] = &[
     (Ask::Full("pc1"), "SessionOpen"),
     (Ask::Full("pc2"), "1-1"),
     (Ask::Full("pc3"), "NoHost"),
-    (Ask::Remove(0), "NoPath"),
-    (Ask::Put(0), "done"),
-    (Ask::Remove(0), "done"),
-    (Ask::Remove(0), "NoPath"),
-    (Ask::Put(1), "done"),
-    (Ask::Put(2), "NoSession"),
+    (Ask::Remove(0, "a"), "NoPath"),
+    (Ask::Put(0, "a", "hello"), "done"),
+    (Ask::Remove(0, "a"), "done"),
+    (Ask::Remove(0, "a"), "NoPath"),
+    (Ask::Put(1, "a", "hello"), "done"),
+    (Ask::Put(2, "a", "hello"), "NoSession"),
     (Ask::Commit(3), "NoSession"),
-    (Ask::Backups("pc1"), "0 next 0 dump true"),
+    (Ask::Backups("pc1"), "0 filled 0 next 0 dump true"),
     (Ask::Stats, "2 0 2 0 0"),
     (Ask::Abort(0), "done"),
     (Ask::Abort(0), "NoSession"),
-    (Ask::Remove(0), "NoSession"),
-    (Ask::Backups("pc1"), "0 next 0 dump false"),
+    (Ask::Remove(0, "a"), "NoSession"),
+    (Ask::Backups("pc1"), "0 filled 0 next 0 dump false"),
     (Ask::Commit(0), "NoSession"),
-    (Ask::List("pc1"), "NoBackup"),
-    (Ask::Lookup("pc1"), "NoBackup"),
-    (Ask::Read("pc3"), "NoHost"),
+    (Ask::List("pc1", 0), "NoBackup"),
+    (Ask::Lookup("pc1", 0, "a"), "NoBackup"),
+    (Ask::Read("pc3", 0, "a"), "NoHost"),
     (Ask::Commit(1), "number 0"),
     (Ask::Commit(1), "NoSession"),
-    (Ask::Backups("pc2"), "1 next 1 dump false"),
+    (Ask::Backups("pc2"), "1 filled 1 next 1 dump false"),
     (Ask::Keep("pc2"), "done"),
-    (Ask::List("pc2"), "1 entries"),
-    (Ask::Lookup("pc2"), "entry"),
-    (Ask::Read("pc2"), "5 bytes"),
+    (Ask::List("pc2", 0), "1 entries"),
+    (Ask::Lookup("pc2", 0, "a"), "entry"),
+    (Ask::Read("pc2", 0, "a"), "5 bytes"),
     (Ask::Full("pc2"), "1-2"),
-    (Ask::Remove(2), "NoPath"),
+    (Ask::Remove(2, "a"), "NoPath"),
     (Ask::Commit(2), "number 1"),
-    (Ask::Backups("pc2"), "2 next 2 dump false"),
-    (Ask::Read("pc2"), "5 bytes"),
+    (Ask::Backups("pc2"), "2 filled 2 next 2 dump false"),
+    (Ask::Read("pc2", 0, "a"), "5 bytes"),
     (Ask::Stats, "2 2 0 0 1"),
+    (Ask::Incr("pc1"), "NoBackup"),
+    (Ask::Incr("pc3"), "NoHost"),
+    (Ask::Full("pc1"), "1-3"),
+    (Ask::Incr("pc1"), "NoBackup"),
+    (Ask::Put(3, "a", "hello"), "done"),
+    (Ask::Put(3, "b", "farewell"), "done"),
+    (Ask::Put(3, "c", "same"), "done"),
+    (Ask::Commit(3), "number 0"),
+    (Ask::Incr("pc1"), "1-4"),
+    (Ask::Incr("pc1"), "SessionOpen"),
+    (Ask::Put(4, "a", "changed"), "done"),
+    (Ask::Remove(4, "b"), "done"),
+    (Ask::Commit(4), "number 1"),
+    (Ask::Read("pc1", 1, "a"), "7 bytes"),
+    (Ask::Incr("pc1"), "1-5"),
+    (Ask::Remove(5, "b"), "NoPath"),
+    (Ask::Put(5, "d", "new"), "done"),
+    (Ask::Commit(5), "number 2"),
+    (Ask::Backups("pc1"), "3 filled 2 next 3 dump false"),
+    (Ask::Incr("pc1"), "1-6"),
+    (Ask::Abort(6), "done"),
+    (Ask::Stats, "2 5 0 0 5"),
     (Ask::Reopen, "epoch 2"),
-    (Ask::Read("pc2"), "5 bytes"),
-    (Ask::Backups("pc2"), "2 next 2 dump false"),
+    (Ask::List("pc1", 2), "3 entries"),
+    (Ask::Read("pc1", 2, "a"), "7 bytes"),
+    (Ask::Read("pc1", 2, "b"), "NoPath"),
+    (Ask::Read("pc1", 2, "d"), "3 bytes"),
+    (Ask::List("pc1", 1), "2 entries"),
+    (Ask::Read("pc1", 1, "a"), "7 bytes"),
+    (Ask::Read("pc1", 1, "b"), "NoPath"),
+    (Ask::Read("pc1", 1, "c"), "4 bytes"),
+    (Ask::Read("pc1", 1, "d"), "NoPath"),
+    (Ask::List("pc1", 0), "3 entries"),
+    (Ask::Read("pc1", 0, "a"), "5 bytes"),
+    (Ask::Read("pc1", 0, "b"), "8 bytes"),
+    (Ask::Read("pc2", 0, "a"), "5 bytes"),
+    (Ask::Backups("pc2"), "2 filled 2 next 2 dump false"),
     (Ask::Commit(1), "NoSession"),
     (Ask::Abort(1), "NoSession"),
     (Ask::Hosts, "pc1 pc2 "),
     (Ask::Contact("pc1", false), "good 2 bad 2"),
     (Ask::Full("pc2"), "2-0"),
-    (Ask::Stats, "2 2 1 0 1"),
+    (Ask::Incr("pc1"), "2-1"),
+    (Ask::Stats, "2 5 2 0 5"),
+    (Ask::Restore("pc1", 7), "NoBackup"),
+    (Ask::Restore("pc1", 0), "restore 2-2"),
+    (Ask::Delete("pc1", 0), "done"),
+    (Ask::Delete("pc1", 0), "NoBackup"),
+    (Ask::Delete("pc2", 0), "Kept"),
+    (Ask::Read("pc1", 1, "a"), "7 bytes"),
+    (Ask::Clean(6), "0 marked 0 unmarked 0 removed"),
+    (Ask::Next(2), "entry a"),
+    (Ask::Next(2), "piece of 5"),
+    (Ask::Next(2), "entry b"),
+    (Ask::Next(2), "piece of 8"),
+    (Ask::Next(2), "entry c"),
+    (Ask::Next(2), "piece of 4"),
+    (Ask::Next(2), "end of 3"),
+    (Ask::Next(2), "end of 3"),
+    (Ask::Close(2), "done"),
+    (Ask::Close(2), "NoSession"),
+    (Ask::Next(2), "NoSession"),
+    (Ask::Clean(6), "1 marked 0 unmarked 0 removed"),
+    (Ask::Clean(6), "0 marked 0 unmarked 1 removed"),
+    (Ask::Clean(16), "BadBucket"),
+    (Ask::Sweep, "done"),
+    (Ask::Stats, "2 4 2 0 4"),
+    (Ask::Expire("pc1"), "expired 0"),
+    (Ask::Expire("pc3"), "NoHost"),
+    (Ask::Reopen, "epoch 3"),
+    (Ask::List("pc1", 1), "2 entries"),
+    (Ask::Read("pc1", 1, "c"), "4 bytes"),
+    (Ask::Read("pc2", 0, "a"), "5 bytes"),
 ];
 
 fn expect(holds: bool, text: &'static str) -> Result<(), Fail> {
@@ -114,12 +186,16 @@ fn dump(sequence: u64) -> SessionName {
     SessionName { epoch: 1, sequence }
 }
 
+fn restore(sequence: u64) -> SessionName {
+    SessionName { epoch: 2, sequence }
+}
+
 fn host(alloc: Global, name: &str) -> Result<HostName, Fail> {
     Ok(HostName::read(alloc, name.as_bytes())?)
 }
 
-fn path(alloc: Global) -> Result<PathName, Fail> {
-    Ok(PathName::read(alloc, b"a")?)
+fn path(alloc: Global, text: &str) -> Result<PathName, Fail> {
+    Ok(PathName::read(alloc, text.as_bytes())?)
 }
 
 fn fill(cycle: u32) -> Result<RuleChange, Fail> {
@@ -128,40 +204,74 @@ fn fill(cycle: u32) -> Result<RuleChange, Fail> {
     Ok(change)
 }
 
-fn file(alloc: Global) -> Result<Item, Fail> {
+fn file(alloc: Global, text: &str) -> Result<Item, Fail> {
     Ok(Item::File(File {
         attr: Attr::file_default(),
         group: 0,
-        bytes: Bytes::from_slice(alloc, b"hello")?,
+        bytes: Bytes::from_slice(alloc, text.as_bytes())?,
     }))
+}
+
+fn open_event(alloc: Global, name: &str, kind: Kind) -> Result<Event, Fail> {
+    Ok(Event::OpenDump {
+        host: host(alloc, name)?,
+        kind,
+        now: moment(),
+    })
+}
+
+/// An event of a restore, or one that ends what is kept.
+fn end_event(alloc: Global, ask: Ask) -> Result<Event, Fail> {
+    match ask {
+        Ask::Restore(name, number) => Ok(Event::OpenRead {
+            host: host(alloc, name)?,
+            number,
+        }),
+        Ask::Next(sequence) => Ok(Event::ReadNext {
+            restore: restore(sequence),
+        }),
+        Ask::Close(sequence) => Ok(Event::CloseRead {
+            restore: restore(sequence),
+        }),
+        Ask::Delete(name, number) => Ok(Event::Delete {
+            host: host(alloc, name)?,
+            number,
+        }),
+        Ask::Expire(name) => Ok(Event::Expire {
+            host: host(alloc, name)?,
+            now: moment(),
+        }),
+        Ask::Clean(bucket) => Ok(Event::Clean { bucket }),
+        _ => Ok(Event::Sweep),
+    }
 }
 
 /// An event of a backup, of a dump, or of the whole office.
 fn other_event(alloc: Global, ask: Ask) -> Result<Event, Fail> {
     match ask {
-        Ask::List(name) => Ok(Event::List {
+        Ask::List(name, number) => Ok(Event::List {
             host: host(alloc, name)?,
-            number: 0,
+            number,
             directory: None,
         }),
-        Ask::Lookup(name) => Ok(Event::Lookup {
+        Ask::Lookup(name, number, at) => Ok(Event::Lookup {
             host: host(alloc, name)?,
-            number: 0,
-            path: path(alloc)?,
+            number,
+            path: path(alloc, at)?,
         }),
-        Ask::Read(name) => Ok(Event::ReadFile {
+        Ask::Read(name, number, at) => Ok(Event::ReadFile {
             host: host(alloc, name)?,
-            number: 0,
-            path: path(alloc)?,
+            number,
+            path: path(alloc, at)?,
         }),
-        Ask::Put(sequence) => Ok(Event::Put {
+        Ask::Put(sequence, at, text) => Ok(Event::Put {
             dump: dump(sequence),
-            path: path(alloc)?,
-            item: file(alloc)?,
+            path: path(alloc, at)?,
+            item: file(alloc, text)?,
         }),
-        Ask::Remove(sequence) => Ok(Event::Remove {
+        Ask::Remove(sequence, at) => Ok(Event::Remove {
             dump: dump(sequence),
-            path: path(alloc)?,
+            path: path(alloc, at)?,
         }),
         Ask::Commit(sequence) => Ok(Event::Commit {
             dump: dump(sequence),
@@ -172,7 +282,8 @@ fn other_event(alloc: Global, ask: Ask) -> Result<Event, Fail> {
         }),
         Ask::Stats => Ok(Event::Stats),
         Ask::Hosts => Ok(Event::Hosts),
-        _ => Ok(Event::Reopen),
+        Ask::Reopen => Ok(Event::Reopen),
+        _ => end_event(alloc, ask),
     }
 }
 
@@ -204,57 +315,12 @@ fn event_of(alloc: Global, ask: Ask) -> Result<Event, Fail> {
                 weekday: 1,
             },
         }),
-        Ask::Full(name) => Ok(Event::OpenDump {
-            host: host(alloc, name)?,
-            kind: Kind::Full,
-            now: moment(),
-        }),
+        Ask::Full(name) => open_event(alloc, name, Kind::Full),
+        Ask::Incr(name) => open_event(alloc, name, Kind::Incr),
         Ask::Backups(name) => Ok(Event::Backups {
             host: host(alloc, name)?,
         }),
         _ => other_event(alloc, ask),
-    }
-}
-
-/// The method of an event that changes a host or asks of one.
-fn call_host(
-    store: &mut Store<MemoryDisk, Md5Namer>,
-    alloc: Global,
-    event: &Event,
-) -> Result<Answer, Refusal> {
-    match event {
-        Event::AddHost { host, rules } => store.add_host(alloc, host, rules),
-        Event::SetRules { host, change } => store.set_rules(alloc, host, change),
-        Event::Contact { host, good } => store.contact(alloc, host, *good),
-        Event::Keep { host, number, on } => store.keep(alloc, host, *number, *on),
-        Event::Due { host, now, local } => store.due(host, *now, local),
-        Event::Backups { host } => store.backups(alloc, host),
-        Event::Hosts => store.hosts(alloc),
-        Event::Stats => store.stats(),
-        _ => store.reopen(alloc),
-    }
-}
-
-/// The method of an event.
-fn call(
-    store: &mut Store<MemoryDisk, Md5Namer>,
-    alloc: Global,
-    event: &Event,
-) -> Result<Answer, Refusal> {
-    match event {
-        Event::List {
-            host,
-            number,
-            directory,
-        } => store.list(alloc, host, *number, directory.as_ref()),
-        Event::Lookup { host, number, path } => store.lookup(alloc, host, *number, path),
-        Event::ReadFile { host, number, path } => store.read_file(alloc, host, *number, path),
-        Event::OpenDump { host, kind: _, now } => store.open_dump_full(alloc, host, *now),
-        Event::Put { dump, path, item } => store.put(alloc, *dump, path, item),
-        Event::Remove { dump, path } => store.remove(alloc, *dump, path),
-        Event::Commit { dump, now } => store.commit(alloc, *dump, *now),
-        Event::Abort { dump } => store.abort(alloc, *dump),
-        _ => call_host(store, alloc, event),
     }
 }
 
@@ -265,6 +331,27 @@ fn names_text(alloc: Global, names: &[HostName]) -> Result<String, Fail> {
         text.push_str(&format!(in alloc; "{name} ")?)?;
     }
     Ok(text)
+}
+
+fn count_filled(lines: &[Line]) -> u32 {
+    let mut count = 0u32;
+    for line in lines {
+        if line.filled {
+            count = count.saturating_add(1);
+        }
+    }
+    count
+}
+
+fn frame_text(alloc: Global, frame: Frame) -> Result<String, Fail> {
+    match frame {
+        Frame::Entry { path, node: _ } => {
+            let path = String::from_utf8_lossy(alloc, path.as_slice())?;
+            Ok(format!(in alloc; "entry {path}")?)
+        }
+        Frame::Piece(bytes) => Ok(format!(in alloc; "piece of {}", bytes.as_slice().len())?),
+        Frame::End(count) => Ok(format!(in alloc; "end of {count}")?),
+    }
 }
 
 fn answer_text(alloc: Global, answer: Answer) -> Result<String, Fail> {
@@ -279,8 +366,9 @@ fn answer_text(alloc: Global, answer: Answer) -> Result<String, Fail> {
         )?),
         Answer::Hosts(list) => names_text(alloc, list.as_slice()),
         Answer::Backups { lines, next, dump } => Ok(format!(in alloc;
-            "{} next {next} dump {}",
+            "{} filled {} next {next} dump {}",
             lines.as_slice().len(),
+            count_filled(lines.as_slice()),
             dump.is_some()
         )?),
         Answer::Committed(number) => Ok(format!(in alloc; "number {number}")?),
@@ -288,7 +376,14 @@ fn answer_text(alloc: Global, answer: Answer) -> Result<String, Fail> {
         Answer::Entry(_) => Ok(String::from_str(alloc, "entry")?),
         Answer::Content(bytes) => Ok(format!(in alloc; "{} bytes", bytes.as_slice().len())?),
         Answer::Reopened(epoch) => Ok(format!(in alloc; "epoch {epoch}")?),
-        _ => Err(Fail::new("another answer")),
+        Answer::Restore(name) => Ok(format!(in alloc; "restore {name}")?),
+        Answer::Next(frame) => frame_text(alloc, frame),
+        Answer::Expired(count) => Ok(format!(in alloc; "expired {count}")?),
+        Answer::Cleaned {
+            marked,
+            unmarked,
+            removed,
+        } => Ok(format!(in alloc; "{marked} marked {unmarked} unmarked {removed} removed")?),
     }
 }
 
@@ -318,7 +413,7 @@ fn a_store_answers_as_the_office_in_memory_does(rt: HostRuntime) -> Result<(), F
     let mut store = store_failing(alloc, Vec::new(alloc))?;
     for (ask, reply) in SCRIPT.iter() {
         let event = event_of(alloc, *ask)?;
-        let got = text_of(alloc, call(&mut store, alloc, &event))?;
+        let got = text_of(alloc, store.apply(alloc, &event))?;
         assert_eq!(rt; got.as_str(), *reply, "the store");
         let model = text_of(alloc, office.call(alloc, &event))?;
         assert_eq!(rt; model.as_str(), *reply, "the office in memory");

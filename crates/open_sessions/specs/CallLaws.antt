@@ -11,6 +11,7 @@ use Rattle.office_model.specs.Office.{Office, Dump, Restore}
 use Rattle.office_files.specs.Pairs.{AtEachPair, pairs_push}
 use Rattle.open_sessions.specs.declared.sessions.OpenDump.{OpenDump}
 use Rattle.open_sessions.specs.declared.sessions.OpenRestore.{OpenRestore}
+use Rattle.open_sessions.specs.declared.sessions.Place.{Place}
 use Rattle.open_sessions.specs.declared.sessions.Sessions.{Sessions}
 use Rattle.open_sessions.specs.Opened.{IsDump, IsRestore, AreSessions, claims_of_dump, claims_in_dumps, claims_in_restores, claims_in}
 use Rattle.open_sessions.specs.SessionLaws.{pairs_set, pairs_remove, claims_in_dumps-push, claims_in_dumps-set, claims_in_dumps-remove, claims_in_restores-push, claims_in_restores-set, claims_in_restores-remove}
@@ -127,11 +128,11 @@ module _ (old new : Sessions) (same : new.dumps ≡ old.dumps) where
         let e = ap (λ restores. claims_in_restores restores id) items in
         omega (arith, same_dumps, e, claims_in_restores-push old.restores.items id session)
 
-    pub claims_in-restore_moved : (i : ℕ) (was : OpenRestore) (position : ℕ) → slice_get old.restores.items i ≡ Some was
-        → new.restores.items ≡ slice_set old.restores.items i (record was { position = position }) → claims_in new id ≡ claims_in old id
-    claims_in-restore_moved i was position there items =
+    pub claims_in-restore_moved : (i : ℕ) (was : OpenRestore) (place : Place) → slice_get old.restores.items i ≡ Some was
+        → new.restores.items ≡ slice_set old.restores.items i (record was { place = place }) → claims_in new id ≡ claims_in old id
+    claims_in-restore_moved i was place there items =
         let e = ap (λ restores. claims_in_restores restores id) items in
-        omega (arith, same_dumps, e, claims_in_restores-set old.restores.items id i was (record was { position = position }) there)
+        omega (arith, same_dumps, e, claims_in_restores-set old.restores.items id i was (record was { place = place }) there)
 
     pub claims_in-restore_taken : (i : ℕ) (session : OpenRestore) → slice_get old.restores.items i ≡ Some session
         → new.restores.items ≡ remove old.restores.items i → claims_in new id + occurrences id session.rows ≡ claims_in old id

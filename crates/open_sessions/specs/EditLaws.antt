@@ -2,7 +2,7 @@
 --     AreRowsOf-with_node, AreRowsOf-without      rows after an edit
 --     IsDump-with_node, IsDump-without      a dump after an edit
 --     claims-with_node, claims-without      and its claims
---     IsDump-opened, IsRestore-opened, IsRestore-moved      a dump that begins, a restore that begins, and one at another position
+--     IsDump-opened, IsRestore-opened, IsRestore-moved      a dump that begins, a restore that begins, and one at another place
 use Rattle.std.specs.Prelude.{◌≡◌, ℕ, ◌+◌, Bool, true, false, not, cond, List, [], ◌∷◌}
 use Rattle.std.specs.declared.cmp.Ordering.{Ordering}
 use Rattle.std.specs.declared.cmp.Ordering.TheVariants.{Less, Equal, Greater}
@@ -27,6 +27,10 @@ use Rattle.office_model.specs.events.OpenDump.{new_dump}
 use Rattle.office_model.specs.events.OpenRead.{new_restore}
 use Rattle.open_sessions.specs.declared.sessions.OpenDump.{OpenDump}
 use Rattle.open_sessions.specs.declared.sessions.OpenRestore.{OpenRestore}
+use Rattle.open_sessions.specs.declared.sessions.Place.{Place}
+use Rattle.open_sessions.specs.declared.sessions.Place.TheVariants.{Entry}
+use Rattle.open_sessions.specs.Places.{IsAt}
+use Rattle.open_sessions.specs.PlaceLaws.{IsAt-start}
 use Rattle.open_sessions.specs.Opened.{base_of, AreRowsOf, IsDump, IsRestore, claims_of_dump}
 use Rattle.open_sessions.specs.SessionLaws.{node_occurrences, found_occurrences, occurrences-with_node, occurrences-without}
 
@@ -149,11 +153,17 @@ module _ (given : PoolId → Type 0) (contents : PoolId → List ℕ) where
   }
 
   -- a restore of these rows
-  pub IsRestore-opened : (session : OpenRestore) → session.position ≡ 0 → AreRowsOf given contents session.rows
+  pub IsRestore-opened : (session : OpenRestore) → session.place ≡ Entry 0 → AreRowsOf given contents session.rows
       → IsRestore given contents (new_restore session.name (resolved contents session.rows)) session
-  IsRestore-opened session start of = record { name = refl; tree = refl; rows = of; position = start }
+  IsRestore-opened session start of = record {
+    name = refl;
+    tree = refl;
+    rows = of;
+    place = subst (IsAt (resolved contents session.rows) 0) (sym start) (IsAt-start (resolved contents session.rows));
+  }
 
-  -- at another position
-  pub IsRestore-moved : (restore : Restore) (session : OpenRestore) (position : ℕ) → IsRestore given contents restore session
-      → IsRestore given contents (record restore { position = position }) (record session { position = position })
-  IsRestore-moved restore session position is = record { name = is.name; tree = is.tree; rows = is.rows; position = refl }
+  -- at another place
+  pub IsRestore-moved : (restore : Restore) (session : OpenRestore) (position : ℕ) (place : Place) → IsAt restore.tree position place
+      → IsRestore given contents restore session
+      → IsRestore given contents (record restore { position = position }) (record session { place = place })
+  IsRestore-moved restore session position place at is = record { name = is.name; tree = is.tree; rows = is.rows; place = at }

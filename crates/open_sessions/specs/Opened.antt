@@ -14,6 +14,7 @@ use Rattle.office_files.specs.Pairs.{AtEachPair}
 use Rattle.open_sessions.specs.declared.sessions.OpenDump.{OpenDump}
 use Rattle.open_sessions.specs.declared.sessions.OpenRestore.{OpenRestore}
 use Rattle.open_sessions.specs.declared.sessions.Sessions.{Sessions}
+use Rattle.open_sessions.specs.Places.{IsAt}
 
 -- the rows that the dump began with
 abbrev pub base_of : OpenDump → Rows
@@ -38,7 +39,7 @@ pub record IsRestore (given : PoolId → Type 0) (contents : PoolId → List ℕ
   pub name : session.name ≡ restore.name
   pub tree : restore.tree ≡ resolved contents session.rows
   pub rows : AreRowsOf given contents session.rows
-  pub position : session.position ≡ restore.position
+  pub place : IsAt restore.tree restore.position session.place
 
 pub record AreSessions (given : PoolId → Type 0) (contents : PoolId → List ℕ) (office : Office) (sessions : Sessions) : Type 0 where
   pub dumps : AtEachPair (λ i. IsDump given contents) office.dumps sessions.dumps.items

@@ -301,7 +301,7 @@ module _ (given : PoolId → Type 0) (contents : PoolId → List ℕ) where
       name = is.name;
       tree = is.tree ∙ resolved-named session.rows kept is.rows;
       rows = AreRowsOf-named session.rows kept is.rows;
-      position = is.position;
+      place = is.place;
     }
 
     module _ (office : Office) (sessions : Sessions) where

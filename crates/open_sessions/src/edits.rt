@@ -6,7 +6,7 @@ ghost use Rattle.attr_tables.specs.Records.{IsSound, is_dir};
 ghost use Rattle.merge_view.specs.Views.{is_mark};
 ghost use Rattle.dump_session.specs.Rules.{IsReason, HasRoom, IsWholeTree};
 
-use crate::sessions::{OpenDump, OpenRestore, Sessions};
+use crate::sessions::{OpenDump, Sessions};
 use attr_records::{PathName, PutRule};
 use attr_tables::Record;
 use dump_session::{PutFault, RemoveFault};
@@ -69,16 +69,5 @@ impl Sessions {
         ensures sequence { self.new.sequence ≡ self.old.sequence }
     {
         self.dumps[index].tree.remove(alloc, path)
-    }
-
-    /// Notes how many frames of a restore were given by now.
-    pub fn set_position(&mut self, index: usize, position: u64)
-        requires { index < length self.old.restores.items }
-        ensures set { (restore : OpenRestore) → slice_get self.old.restores.items index ≡ Some restore
-            → self.new.restores.items ≡ slice_set self.old.restores.items index (record restore { position = position }) }
-        ensures dumps { self.new.dumps ≡ self.old.dumps }
-        ensures sequence { self.new.sequence ≡ self.old.sequence }
-    {
-        self.restores[index].position = position;
     }
 }

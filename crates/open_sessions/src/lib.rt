@@ -8,11 +8,11 @@
 //! | Type | What it is |
 //! |---|---|
 //! | [`OpenDump`] | a dump that isn't committed yet: its host, its base and its edits |
-//! | [`OpenRestore`] | a restore, with the rows of its backup and how many frames it gave |
+//! | [`OpenRestore`] | a restore, with the rows of its backup, and its [`Place`], by which it finds the next frame at once |
 //! | [`Sessions`] | all of them, and the number of the next one |
 //!
 //! `specs/Opened` says what they are to an office of the model, `specs/SessionLaws` and `specs/EditLaws` how look-ups,
-//! claims and edits of both go together.
+//! claims and edits of both go together, and `specs/PlaceLaws` what a restore gives from each place.
 //!
 //! ```text
 //! let mut sessions = Sessions::new(alloc);
@@ -25,8 +25,9 @@
 
 mod calls;
 mod edits;
+mod places;
 mod sessions;
 #[cfg(test)]
 mod tests;
 
-pub use sessions::{OpenDump, OpenRestore, Sessions};
+pub use sessions::{OpenDump, OpenRestore, Place, Sessions};

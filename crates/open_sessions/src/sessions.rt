@@ -4,6 +4,7 @@ ghost use Rattle.std.specs.Prelude.{⊤};
 
 use attr_tables::Table;
 use backup_rules::Kind;
+use disk_trait::Bytes;
 use dump_session::Session;
 use office_model::SessionName;
 use std::sync::Arc;
@@ -23,14 +24,29 @@ pub struct OpenDump {
     pub tree: Session,
 }
 
+/// Where an open restore stands.
+#[derive(Drop)]
+pub enum Place {
+    /// The next frame is the entry of this row, or the end if it is behind the last.
+    Entry(usize),
+    /// The next frame is the first piece of the content of this row's file.
+    Content(usize),
+    /// The next frame is a piece of this row's file: its content, and how many bytes of it were given.
+    Piece {
+        row: usize,
+        content: Bytes,
+        given: usize,
+    },
+}
+
 /// An open restore of a backup.
 #[derive(Drop)]
 pub struct OpenRestore {
     pub name: SessionName,
     /// The rows of the backup.
     pub rows: Table,
-    /// How many frames were given.
-    pub position: u64,
+    /// What it gives next.
+    pub place: Place,
 }
 
 /// All that is open, in the order of opening.

@@ -1,6 +1,6 @@
 ghost use Rattle.std.specs.Prelude.{◌≡◌, ◌+◌, ◌<◌, ◌^◌, OnOk};
 
-use crate::{OpenDump, OpenRestore, Sessions};
+use crate::{OpenDump, OpenRestore, Place, Sessions};
 use attr_records::{Attr, Dir, PathName};
 use attr_tables::{Record, Table};
 use backup_rules::Kind;
@@ -62,7 +62,7 @@ fn opened(alloc: Global) -> Result<Sessions, Fail> {
     sessions.open_restore(OpenRestore {
         name: name_of(2),
         rows: Table::new(alloc),
-        position: 0,
+        place: Place::Entry(0),
     })?;
     Ok(sessions)
 }
@@ -138,6 +138,6 @@ fn a_restore_is_found_until_it_is_taken(rt: HostRuntime) -> Result<(), Fail> {
         return Err(Fail::new("no restore"));
     };
     let restore = sessions.take_restore(index);
-    expect(restore.position == 0, "another restore")?;
+    expect(restore.name.sequence == 2, "another restore")?;
     expect(sessions.restore_at(name_of(2)).is_none(), "a taken restore")
 }

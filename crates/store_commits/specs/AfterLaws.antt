@@ -22,9 +22,11 @@ use Rattle.pool_changes.specs.Listed.{index_of}
 use Rattle.pool_changes.specs.Indexed.{after as relisted_after, relisted_by}
 use Rattle.pool_changes.specs.Written.{LeadsIndex}
 use Rattle.stored_trees.specs.Resolved.{resolved, AreTold}
+use Rattle.ref_counts.specs.Numbers.{Items}
 use Rattle.ref_counts.specs.Stored.{Backup as StoredBackup}
 use Rattle.ref_counts.specs.CountsFile.{counts_file}
 use Rattle.open_sessions.specs.declared.sessions.OpenDump.{OpenDump}
+use Rattle.open_sessions.specs.SessionLaws.{pairs_set}
 use Rattle.office_catalog.specs.Held.{HoldsCatalog}
 use Rattle.office_catalog.specs.Known.{Known, with_line}
 use Rattle.office_model.specs.Office.{Office, Host, Backup, Names, IsSound, IsSoundHost, durable, backup_index}
@@ -36,7 +38,7 @@ use Rattle.office_model.specs.laws.SoundLaws.{IsSound-closed}
 use Rattle.office_files.specs.Hosts.{index_of_host, IsShown, StandsHost}
 use Rattle.office_files.specs.Layouts.{IsHostFile}
 use Rattle.office_files.specs.Owners.{has_backup}
-use Rattle.office_files.specs.Pairs.{pair_at}
+use Rattle.office_files.specs.Pairs.{other_at, pair_at}
 use Rattle.office_files.specs.Pooled.{contents_of, IsListed}
 use Rattle.office_files.specs.Stands.{Stands}
 use Rattle.office_changes.specs.Commits.{IsListedWith}
@@ -44,7 +46,7 @@ use Rattle.office_known.specs.KnownLaws.{stands_catalog}
 use Rattle.office_changes.specs.ChangeLaws.{is_of_host, is_of_index}
 use Rattle.office_changes.specs.PoolLaws.{listed_with, told_with}
 use Rattle.store_parts.specs.declared.parts.StoreParts.{StoreParts}
-use Rattle.store_parts.specs.Held.{given, IsKeptView}
+use Rattle.store_parts.specs.Held.{given, AreCounts, IsKeptView}
 use Rattle.store_parts.specs.States.{slots, IsRunning}
 use Rattle.store_parts.specs.StoredLaws.{contents_written}
 use Rattle.store_commits.specs.declared.files.HostFiles.{HostFiles}
@@ -54,7 +56,7 @@ use Rattle.store_commits.specs.AcceptLaws.{with_added}
 use Rattle.store_commits.specs.Ids.{ids_in}
 use Rattle.store_commits.specs.Former.{dropped_of, IsFolded}
 use Rattle.store_commits.specs.Judged.{line_of}
-use Rattle.store_commits.specs.Planned.{IsPlanned, AreCounted}
+use Rattle.store_commits.specs.Planned.{IsPlanned}
 use Rattle.store_commits.specs.Written.{written}
 use Rattle.store_commits.specs.WrittenLaws.{IsFormer, AreOfIndex, at_other, at_pool_index, at_pool_bucket}
 use Rattle.store_commits.specs.CommittedLaws.{number_is, former_is, planned_changes, of_index}
@@ -114,6 +116,20 @@ module _ {D N S : Type 0} {d : DiskGhosts D} {n : NamerGhosts N S} where
     dropped_is : planned.lines.dropped ≡ dropped_of m.host.rules (lines_of m.host.backups)
     dropped_is = planned.judged.dropped ∙ ap (λ (i : HostIndex). dropped_of i.rules i.lines) index_is
 
+    -- ---- what the host had
+
+    abbrev found : (shown : List StoredBackup) × (slice_get at.backups number ≡ Some shown)
+        × StandsHost (IsListed (index_of (slots parts))) (contents_of at.all) at.all number m.host shown
+    found = pair_at (StandsHost (IsListed (index_of (slots parts))) (contents_of at.all) at.all) office.hosts at.backups at.stands.hosts number
+        m.host m.here
+
+    -- its counts
+    abbrev had : (items : Items) × (slice_get parts.counts number ≡ Some items)
+    had = other_at at.backups parts.counts number found.0 (sym at.counted.counted) found.1
+
+    had_counted : AreCounts had.0 found.0
+    had_counted = at.counted.each number had.0 found.0 had.1 found.1
+
     -- ---- what was built
 
     holds : HoldsCatalog at.all parts.catalog
@@ -126,7 +142,7 @@ module _ {D N S : Type 0} {d : DiskGhosts D} {n : NamerGhosts N S} where
         (index_after at.all parts.catalog session.host (with_line planned.lines.line (not (is_some planned.lines.dropped))) planned.judged.index
         plan.catalog planned.built.files.index holds planned.judged.here planned.built.proposes planned.built.index)
 
-    built : IsBuiltOf (told parts.journal) number m.host m.dump now rows planned.folding planned.counts planned.built.files
+    built : IsBuiltOf (told parts.journal) number m.host m.dump now rows planned.folding had.0 planned.counts planned.built.files
     built = record {
       index = index_built;
       table = planned.built.table;
@@ -135,7 +151,7 @@ module _ {D N S : Type 0} {d : DiskGhosts D} {n : NamerGhosts N S} where
       is_former = subst (λ (k : ℕ). IsFormer k planned.built.files.former) next_is (former_is parts session now plan planned);
       folded = subst (λ (h : ℕ). IsFolded (told parts.journal) h (dropped_of m.host.rules (lines_of m.host.backups)) rows planned.folding) file_is
           (subst (λ (d : Option Line). IsFolded (told parts.journal) planned.lines.file d rows planned.folding) dropped_is planned.folded);
-      are_counted = subst (λ (h : ℕ). AreCounted (told parts.journal) h planned.folding rows planned.counts) file_is planned.are_counted;
+      are_counted = planned.are_counted had.0 (ap (slice_get parts.counts) m.is.host ∙ had.1);
     }
 
     -- ---- the files after it
@@ -188,16 +204,12 @@ module _ {D N S : Type 0} {d : DiskGhosts D} {n : NamerGhosts N S} where
     none_else : (k : ℕ) → is_some (backup_index m.host.backups k) ≡ false → at.all (F.Table number k) ≡ None
     none_else k e = at.stands.nothing_else (F.Table number k) (ap (λ (h : Option Host). has_backup h k) m.here ∙ e)
 
-    abbrev found : (shown : List StoredBackup) × (slice_get at.backups number ≡ Some shown)
-        × StandsHost (IsListed (index_of (slots parts))) (contents_of at.all) at.all number m.host shown
-    found = pair_at (StandsHost (IsListed (index_of (slots parts))) (contents_of at.all) at.all) office.hosts at.backups at.stands.hosts number
-        m.host m.here
-
-    host_then : HostAfter (IsListed next) (contents_of image) image number m.host new found.0
-    host_then = subst (λ (i : Files). HostAfter (IsListed next) (contents_of image) i number m.host new found.0) image_is
+    host_then : HostAfter (IsListed next) (contents_of image) image number m.host new planned.counts found.0
+    host_then = subst (λ (i : Files). HostAfter (IsListed next) (contents_of image) i number m.host new planned.counts found.0) image_is
         (host_after (IsListed (index_of (slots parts))) (IsListed next) (contents_of at.all) (contents_of image) listed_still (told parts.journal)
-        at.all at.told_is number m.host m.dump now rows planned.folding planned.counts pooled planned.built.files pooled_are built
-        (at.sound.hosts.each number m.host m.here).backups.numbered sound_new.numbers few sound_new.backups.numbered fresh none_else found.0 found.2)
+        at.all at.told_is number m.host m.dump now rows planned.folding had.0 planned.counts pooled planned.built.files pooled_are built
+        (at.sound.hosts.each number m.host m.here).backups.numbered sound_new.numbers few sound_new.backups.numbered fresh none_else
+        found.0 found.2 had_counted)
 
     stays : (file : FileId) → is_metadata file ≡ true → is_of_host number file ≡ false → is_of_index file ≡ false → image file ≡ at.all file
     stays file metadata out none =
@@ -231,10 +243,12 @@ module _ {D N S : Type 0} {d : DiskGhosts D} {n : NamerGhosts N S} where
         (subst (λ tree. IsSound (with_pool (with_tree office.pool tree))) m.is.tree
         (IsSound-closed (office_after office place m.dump m.host now) office.epoch sound)) at.stands)
 
-    pub stored_after : IsStoredAfter parts at.all (ids_in rows) plan.changes (office_after office place m.dump m.host now)
+    pub stored_after : IsStoredAfter parts at.all (ids_in rows) plan.changes (slice_set parts.counts number planned.counts)
+        (office_after office place m.dump m.host now)
     stored_after = record {
       backups = slice_set at.backups number host_then.after;
       stands = stands;
       tells = tells;
+      counted = pairs_set AreCounts parts.counts at.backups at.counted number planned.counts host_then.after host_then.counted;
       view = kept_after office.hosts at.backups number m.host new found.0 host_then.after m.here found.1 host_then.still parts.views.kept at.view;
     }

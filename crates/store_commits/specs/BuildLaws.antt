@@ -55,10 +55,12 @@ module _ {D N S : Type 0} {d : DiskGhosts D} {n : NamerGhosts N S} where
       → IsFormerFile folding files.former → IsCounts counts × (files.counts ≡ counts_file lines.file counts)
       → changes ≡ written taken lines.file lines.line.number files
       → IsBuilt parts host lines folding counts rows
-      (record { number = lines.line.number; catalog = catalog; index = new; rows = rows; changes = changes })
+      (record { number = lines.line.number; host = host; catalog = catalog; index = new; rows = rows; counts = counts; changes = changes })
   built_of parts host lines folding counts rows asked filled catalog index new taken changes files is_filled proposes fits same of given leads is_taken bytes table former counted changes_are = record {
     number = refl;
+    host_is = refl;
     rows_are = refl;
+    counts_are = refl;
     proposes = subst (λ (b : Bool). Proposes parts.catalog (with_change parts.catalog host (with_line lines.line b)) (HostFile host ∷ []) catalog)
         (turned (is_some lines.dropped) filled is_filled) proposes;
     fits = fits;

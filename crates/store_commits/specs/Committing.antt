@@ -13,6 +13,7 @@ use Rattle.intent_journal.specs.declared.changes.Change.{Change}
 use Rattle.intent_journal.specs.Changes.{applied}
 use Rattle.pool_index.specs.Index.{TellsIn}
 use Rattle.pool_changes.specs.Listed.{index_of}
+use Rattle.ref_counts.specs.Numbers.{Items}
 use Rattle.ref_counts.specs.Stored.{Backup as StoredBackup}
 use Rattle.open_sessions.specs.declared.sessions.OpenDump.{OpenDump}
 use Rattle.open_sessions.specs.Opened.{IsDump}
@@ -23,7 +24,7 @@ use Rattle.office_files.specs.Pairs.{other_at}
 use Rattle.office_files.specs.Pooled.{contents_of}
 use Rattle.office_files.specs.Stands.{Stands}
 use Rattle.store_parts.specs.declared.parts.StoreParts.{StoreParts}
-use Rattle.store_parts.specs.Held.{given, IsKeptView}
+use Rattle.store_parts.specs.Held.{given, AreCountsOf, IsKeptView}
 use Rattle.store_parts.specs.States.{slots, IsRunning}
 use Rattle.store_commits.specs.AcceptLaws.{with_added}
 
@@ -61,10 +62,12 @@ module _ {D N S : Type 0} {d : DiskGhosts D} {n : NamerGhosts N S} where
         number = hosted.has_number;
       }
 
-  -- after the changes the files stand for the office, by the pool's index with these names in it, and what is kept is still a view
-  pub record IsStoredAfter (parts : StoreParts D N S d n) (all : Files) (ids : List PoolId) (changes : List Change) (after : Office)
-      : Type 0 where
+  -- After the changes the files stand for the office, by the pool's index with these names in it, and what is kept is still a
+  -- view; these are the counts of its backups.
+  pub record IsStoredAfter (parts : StoreParts D N S d n) (all : Files) (ids : List PoolId) (changes : List Change)
+      (counts : List Items) (after : Office) : Type 0 where
     pub backups : List (List StoredBackup)
     pub stands : Stands n.digest_of (index_of (with_added ids (slots parts))) backups (applied changes all) (durable after)
     pub tells : TellsIn false (index_of (with_added ids (slots parts))) (applied changes all)
+    pub counted : AreCountsOf counts backups
     pub view : IsKeptView parts.views.kept after.hosts backups

@@ -2,12 +2,11 @@
 --     IsFormerFolding stays last rows folding      what becomes of the former newest's rows
 --     counts_first      the counts of a first backup
 --     counts_further      those of a further one
+--     counts_written      their file
 use Rattle.std.specs.Prelude.{◌≡◌, ℕ, ◌+◌, ◌-◌, ◌^◌, ◌≤◌, ◌<◌, Bool, true, false, List, [], ◌∷◌, ◌++◌, length}
 use Rattle.std.specs.Prelude.{Option, Some, None, if◌then◌else◌}
 use Rattle.std.proofs.Common.{refl, sym, ap, ◌∙◌, subst, arith}
 use Rattle.disk_trait.specs.declared.ids.PoolId.{PoolId}
-use Rattle.disk_trait.specs.declared.ids.FileId.TheVariants.{Counts as CountsFile}
-use Rattle.disk_trait.specs.Files.{Files}
 use Rattle.merge_view.specs.Views.{Rows, reverse}
 use Rattle.stored_trees.specs.Occurrences.{occurrences}
 use Rattle.ref_counts.specs.Numbers.{Items, number, total, capped}
@@ -17,11 +16,11 @@ use Rattle.ref_counts.specs.StoredLaws.{stored-before, stored-with_new}
 use Rattle.ref_counts.specs.Layout.{IsCounts}
 use Rattle.ref_counts.specs.CountsFile.{counts_file}
 use Rattle.office_files.specs.Layouts.{IsCountsFile}
+use Rattle.store_parts.specs.Held.{AreCounts}
 use Rattle.store_commits.specs.declared.former.Folding.{Folding}
 use Rattle.store_commits.specs.BoundLaws.{few_occurrences}
-use Rattle.store_commits.specs.Counting.{HasCounts}
 use Rattle.store_commits.specs.HostLaws.{new_stored}
-use Rattle.store_commits.specs.Planned.{counted_of, AreCounted}
+use Rattle.store_commits.specs.Planned.{counted_of, IsCountedBy}
 
 -- what becomes of the former newest: it stays whole, or its rows are folded against the new ones
 abbrev pub IsFormerFolding : Bool → Rows → Rows → Option Folding → Type 0
@@ -130,42 +129,24 @@ further id olds last rows false (Some folding) n former is were few =
 
 -- ---- the counts of a host
 
--- the number of each content, by what the files told
-counted_each : (told : Option Files) (all : Files) (host : ℕ) (items : Items) (folding : Option Folding) (rows : Rows) (count : PoolId → ℕ)
-    → told ≡ Some all → AreCounted told host folding rows items → (before : IsCountsFile host count (all (CountsFile host)))
-    → (id : PoolId) → number items id ≡ counted_of (number before.items id) folding rows id
-counted_each told all host items folding rows count tells counted before id =
-    counted all before.items tells (record { fits = before.fits; is = before.is }) id
+-- of the first backup of a host
+pub counts_first : (items olds : Items) (rows : Rows) → IsCountedBy olds None rows items → AreCounts olds [] → length rows ≤ 1048576
+    → AreCounts items (new_stored rows ∷ [])
+counts_first items olds rows counted before few = λ id.
+    let size = few_occurrences id rows in
+    counted id ∙ ap (λ n. capped (n + capped (occurrences id rows))) (before id)
+    ∙ first_number (occurrences id rows) (omega (arith, size, few))
 
--- the first backup of a host
-pub counts_first : (told : Option Files) (all : Files) (host : ℕ) (items : Items) (rows : Rows) → told ≡ Some all
-    → AreCounted told host None rows items → IsCounts items → IsCountsFile host (λ id. total id (stored [])) (all (CountsFile host))
-    → length rows ≤ 1048576
-    → IsCountsFile host (λ id. total id (stored (new_stored rows ∷ []))) (Some (counts_file host items))
-counts_first told all host items rows tells counted fits before few = record {
-  items = items;
-  fits = fits;
-  each = λ id.
-      let size = few_occurrences id rows in
-      counted_each told all host items None rows (λ id. total id (stored [])) tells counted before id
-      ∙ ap (λ n. capped (n + capped (occurrences id rows))) (before.each id)
-      ∙ first_number (occurrences id rows) (omega (arith, size, few));
-  is = refl;
-}
-
--- a further one: by what becomes of the former newest
-pub counts_further : (told : Option Files) (all : Files) (host : ℕ) (items : Items) (folding : Option Folding) (rows : Rows)
-    (olds : List StoredBackup) (last : StoredBackup) (stays : Bool) → told ≡ Some all → AreCounted told host folding rows items
-    → IsCounts items → IsFormerFolding stays last.rows rows folding
-    → IsCountsFile host (λ id. total id (stored (olds ++ last ∷ []))) (all (CountsFile host))
-    → ((id : PoolId) → total id (stored (olds ++ last ∷ [])) < 2 ^ 64)
+-- of a further one: by what becomes of the former newest
+pub counts_further : (items old_items : Items) (folding : Option Folding) (rows : Rows) (olds : List StoredBackup) (last : StoredBackup)
+    (stays : Bool) → IsCountedBy old_items folding rows items → IsFormerFolding stays last.rows rows folding
+    → AreCounts old_items (olds ++ last ∷ []) → ((id : PoolId) → total id (stored (olds ++ last ∷ [])) < 2 ^ 64)
     → ((id : PoolId) → total id (stored (with_new olds last stays (new_stored rows))) < 2 ^ 64)
-    → IsCountsFile host (λ id. total id (stored (with_new olds last stays (new_stored rows)))) (Some (counts_file host items))
-counts_further told all host items folding rows olds last stays tells counted fits former before were few = record {
-  items = items;
-  fits = fits;
-  each = λ id.
-      counted_each told all host items folding rows (λ id. total id (stored (olds ++ last ∷ []))) tells counted before id
-      ∙ further id olds last rows stays folding (number before.items id) former (before.each id) (were id) (few id);
-  is = refl;
-}
+    → AreCounts items (with_new olds last stays (new_stored rows))
+counts_further items old_items folding rows olds last stays counted former before were few = λ id.
+    counted id ∙ further id olds last rows stays folding (number old_items id) former (before id) (were id) (few id)
+
+-- and their file
+pub counts_written : (host : ℕ) (items : Items) (backups : List StoredBackup) → IsCounts items → AreCounts items backups
+    → IsCountsFile host (λ id. total id (stored backups)) (Some (counts_file host items))
+counts_written host items backups fits are = record { items = items; fits = fits; each = are; is = refl }

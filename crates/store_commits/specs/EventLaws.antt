@@ -1,7 +1,5 @@
 -- A plan that was made, or refused, is no step yet.
---     plan_reads      parts that were planned with are as before, but for the journal
---     planned_read      and the plan is one of theirs
---     reads_then      what read first, and then answered, answered
+--     planned_read      of parts that were planned with, and are as before but for the journal, the plan is one of theirs
 --     runs_no_session, runs_not_planned      refusals before anything is written
 use Rattle.std.specs.Prelude.{◌≡◌, ◌⊎◌, ℕ, zero, suc, ◌<◌, List, [], ◌∷◌, length, Option, Some, None, Ok, Err, IsErrOf, slice_get}
 use Rattle.std.specs.List.{position_from}
@@ -12,34 +10,33 @@ use Rattle.disk_trait.specs.Files.{Files}
 use Rattle.pool_name.specs.declared.namer.Namer.{Ghosts as NamerGhosts}
 use Rattle.intent_journal.specs.declared.journal.Journal.{Journal}
 use Rattle.journal_view.specs.View.{Quiet}
-use Rattle.journal_view.specs.ViewLaws.{FindsOnly-then}
 use Rattle.merge_view.specs.Views.{Rows}
 use Rattle.ref_counts.specs.Numbers.{Items}
 use Rattle.open_sessions.specs.declared.sessions.OpenDump.{OpenDump}
 use Rattle.open_sessions.specs.SessionLaws.{dump_index-sessions}
 use Rattle.office_model.specs.Session.{is_same_session}
 use Rattle.office_model.specs.declared.session.SessionName.{SessionName}
-use Rattle.office_model.specs.declared.event.Event.{Event}
 use Rattle.office_model.specs.declared.event.Event.TheVariants.{Commit}
 use Rattle.office_model.specs.declared.refusal.BrokenRule.TheVariants.{NoSession}
 use Rattle.office_model.specs.declared.refusal.Refusal.{Refusal}
 use Rattle.office_model.specs.declared.refusal.Refusal.TheVariants.{Broken, DiskFault, Memory}
 use Rattle.office_model.specs.Office.{Office, Names, dump_index}
-use Rattle.office_model.specs.Meaning.{Carried, Judged, Reply, ReadsAndCommits}
+use Rattle.office_model.specs.Meaning.{Carried, Judged, ReadsAndCommits}
 use Rattle.office_model.specs.Step.{Running, IsStep, MayFault, meaning_of}
+use Rattle.office_model.specs.History.{IsUndamaged}
 use Rattle.office_model.specs.UsedNames.{AreDistinct}
 use Rattle.office_files.specs.Pooled.{contents_of}
 use Rattle.store_parts.specs.declared.parts.StoreParts.{StoreParts}
-use Rattle.store_parts.specs.Held.{given, IsKeptView}
+use Rattle.store_parts.specs.Held.{given}
 use Rattle.store_parts.specs.States.{slots, IsRunning}
-use Rattle.store_parts.specs.Runs.{MayRecover, Runs, Reads}
-use Rattle.store_parts.specs.RunLaws.{running_reads, crash_quiet, runs_refused, reads_still, counted_still}
+use Rattle.store_parts.specs.Runs.{Runs}
+use Rattle.store_parts.specs.RunLaws.{running_reads, crash_quiet, runs_refused, reads_still, reads_behind, counted_still}
 use Rattle.store_parts.specs.StepLaws.{step_memory}
 use Rattle.store_commits.specs.declared.former.Folding.{Folding}
 use Rattle.store_commits.specs.declared.judge.Lines.{Lines}
 use Rattle.store_commits.specs.declared.plan.Plan.{Plan}
 use Rattle.store_commits.specs.Former.{IsFolded}
-use Rattle.store_commits.specs.Planned.{AreCounted, IsBuilt, IsPlanned, IsPlanFault}
+use Rattle.store_commits.specs.Planned.{IsBuilt, IsPlanned, IsPlanFault}
 use Rattle.store_commits.specs.ReadyLaws.{running_ready}
 
 -- where memory looks
@@ -65,6 +62,10 @@ step_planned office names name now refusal distinct (inr e) =
     subst (λ (r : Refusal). IsStep (Running office names) (Commit name now) (Err r) (Running office names)) (sym e)
     (step_memory office names (Commit name now) distinct)
 
+undamaged_planned : (refusal : Refusal) → (refusal ≡ DiskFault) ⊎ (refusal ≡ Memory) → IsUndamaged (Err refusal)
+undamaged_planned refusal (inl e) = subst (λ (r : Refusal). IsUndamaged (Err r)) (sym e) tt
+undamaged_planned refusal (inr e) = subst (λ (r : Refusal). IsUndamaged (Err r)) (sym e) tt
+
 module _ {D N S : Type 0} {d : DiskGhosts D} {n : NamerGhosts N S} where
   pub place_is : (old : StoreParts D N S d n) (name : SessionName) (place : Option ℕ) → place ≡ place_of old.sessions.dumps.items name
       → (office : Office) (names : Names) → IsRunning old office names → dump_index office.dumps name ≡ place
@@ -77,24 +78,14 @@ module _ {D N S : Type 0} {d : DiskGhosts D} {n : NamerGhosts N S} where
       runs_refused old old (Commit name now) NoSession (reads_still old)
       (λ office names at. rw (place_is old name None e office names at) refl) (counted_still _ _ (λ e. e))
 
-  pub plan_reads : (old mid : StoreParts D N S d n) → Quiet old.journal mid.journal → mid ≡ record old { journal = mid.journal }
-      → Reads old mid
-  plan_reads old mid quiet others = record {
-    quiet = quiet;
-    pool_same = ap (λ (p : StoreParts D N S d n). p.pool) others;
-    catalog_same = ap (λ (p : StoreParts D N S d n). p.catalog) others;
-    sessions_same = ap (λ (p : StoreParts D N S d n). p.sessions) others;
-    halted_same = ap (λ (p : StoreParts D N S d n). p.halted) others;
-    view = λ office names at.
-        subst (λ (p : StoreParts D N S d n). IsKeptView p.views.kept office.hosts at.backups) (sym others) at.view;
-  }
-
   built_read : (old : StoreParts D N S d n) (journal : Journal D d) (host : ℕ) (lines : Lines) (folding : Option Folding) (counts : Items)
       (rows : Rows) (plan : Plan) → IsBuilt old host lines folding counts rows plan
       → IsBuilt (record old { journal = journal }) host lines folding counts rows plan
   built_read old journal host lines folding counts rows plan b = record {
     number = b.number;
+    host_is = b.host_is;
     rows_are = b.rows_are;
+    counts_are = b.counts_are;
     proposes = b.proposes;
     fits = b.fits;
     pooled = b.pooled;
@@ -119,21 +110,10 @@ module _ {D N S : Type 0} {d : DiskGhosts D} {n : NamerGhosts N S} where
         counts = p.counts;
         folded = subst (λ (t : Option Files). IsFolded t p.lines.file p.lines.dropped session.tree p.folding) (sym quiet.told_same)
             p.folded;
-        are_counted = subst (λ (t : Option Files). AreCounted t p.lines.file p.folding session.tree p.counts) (sym quiet.told_same)
-            p.are_counted;
+        are_counted = p.are_counted;
+        within = p.within;
         built = built_read old mid.journal session.host p.lines p.folding p.counts session.tree plan p.built;
       })
-
-  pub reads_then : (old mid new : StoreParts D N S d n) (event : Event) (reply : Reply) → Reads old mid
-      → d.fault_count mid.journal.disk ≡ d.fault_count old.journal.disk → Runs mid event reply new → Runs old event reply new
-  reads_then old mid new event reply reads same runs = record {
-    steps = λ office names at. runs.steps office names (running_reads old mid office names at reads);
-    crash = λ office names at.
-        FindsOnly-then (MayRecover n.digest_of office ((meaning_of event).carried office names)) old.journal mid.journal new.journal
-        (crash_quiet old mid office names at reads ((meaning_of event).carried office names))
-        (runs.crash office names (running_reads old mid office names at reads));
-    counted = subst (λ (k : ℕ). Counted k (d.fault_count new.journal.disk) (reply ≡ Err DiskFault)) same runs.counted;
-  }
 
   -- the plan was refused
   pub runs_not_planned : (old mid : StoreParts D N S d n) (name : SessionName) (now place : ℕ) (refusal : Refusal)
@@ -143,15 +123,17 @@ module _ {D N S : Type 0} {d : DiskGhosts D} {n : NamerGhosts N S} where
       → Runs old (Commit name now) (Err refusal) mid
   runs_not_planned old mid name now place refusal within quiet others kind counted =
       let w = there_within old.sessions.dumps.items place within in
-      let reads = plan_reads old mid quiet others in
+      let reads = reads_behind old mid quiet others in
       record {
         steps = λ office names at. record {
           next = Running office names;
           step = step_planned office names name now refusal at.used.distinct
               (kind w.0 w.1 at.all at.told_is (running_ready old place w.0 office names at w.1));
+          undamaged = undamaged_planned refusal (kind w.0 w.1 at.all at.told_is (running_ready old place w.0 office names at w.1));
           in_state = running_reads old mid office names at reads;
         };
         crash = λ office names at. crash_quiet old mid office names at reads ((meaning_of (Commit name now)).carried office names);
+        in_kind = tt;
         counted = record {
           later = counted.later;
           rose = λ e. counted.rose (let same : refusal ≡ DiskFault = cc in ap (λ (r : Refusal). Err r) same);

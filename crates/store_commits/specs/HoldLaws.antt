@@ -3,7 +3,7 @@
 --     IsFinished      the parts behind accept_commit
 --     holds_committed      they hold the office after it
 --     runs_not_written, runs_committed      the event's answer after the write
-use Rattle.std.specs.Prelude.{◌≡◌, ◌≤◌, ◌<◌, ℕ, true, false, not, List, length, Some, Ok, Err, is_some, slice_get}
+use Rattle.std.specs.Prelude.{◌≡◌, ◌≤◌, ◌<◌, ℕ, true, false, not, List, length, Some, Ok, Err, is_some, slice_get, slice_set}
 use Rattle.std.specs.List.{remove}
 use Rattle.std.proofs.Common.{refl, sym, ap, ◌∙◌, subst, inr, arith}
 use Rattle.disk_trait.specs.declared.ids.PoolId.{PoolId}
@@ -13,6 +13,7 @@ use Rattle.intent_journal.specs.Changes.{AreChanges}
 use Rattle.journal_view.specs.View.{Quiet}
 use Rattle.backup_index.specs.Index.{Index}
 use Rattle.backup_views.specs.declared.kept.Views.{Views}
+use Rattle.ref_counts.specs.Numbers.{Items}
 use Rattle.pool_changes.specs.Slots.{claims_of}
 use Rattle.pool_changes.specs.Kept.{slots_of}
 use Rattle.pool_changes.specs.Indexed.{after as relisted_after, relisted_by}
@@ -37,10 +38,11 @@ use Rattle.office_files.specs.Hosts.{index_of_host}
 use Rattle.office_files.specs.Pooled.{contents_of}
 use Rattle.office_known.specs.KnownLaws.{known_of_office}
 use Rattle.store_parts.specs.declared.parts.StoreParts.{StoreParts}
-use Rattle.store_parts.specs.Held.{given, IsKeptView}
+use Rattle.store_parts.specs.Held.{given, AreCountsOf, IsKeptView}
 use Rattle.store_parts.specs.States.{slots, IsRunning}
 use Rattle.store_parts.specs.Runs.{Runs}
 use Rattle.store_parts.specs.Writes.{Writes}
+use Rattle.store_parts.specs.RunLaws.{reads_behind, runs_behind}
 use Rattle.store_parts.specs.WriteLaws.{LeadsTo, Holds, runs_write_refused, runs_written}
 use Rattle.store_dumps.specs.Claims.{LetsGo}
 use Rattle.store_commits.specs.declared.plan.Plan.{Plan}
@@ -54,7 +56,7 @@ use Rattle.store_commits.specs.RunningLaws.{running_committed}
 use Rattle.store_commits.specs.Committing.{office_after, IsMeant, meant, IsStoredAfter}
 use Rattle.store_commits.specs.AfterLaws.{stored_after}
 use Rattle.store_commits.specs.KnownLaws.{index_found, catalog_committed}
-use Rattle.store_commits.specs.EventLaws.{place_of, place_is, there_within, plan_reads, planned_read, reads_then}
+use Rattle.store_commits.specs.EventLaws.{place_of, place_is, there_within, planned_read}
 
 module _ {D N S : Type 0} {d : DiskGhosts D} {n : NamerGhosts N S} where
   -- the parts behind accept_commit
@@ -64,6 +66,7 @@ module _ {D N S : Type 0} {d : DiskGhosts D} {n : NamerGhosts N S} where
         → LetsGo (claims_of_dump dump) (relisted_after plan.index (slots mid)) (slots new)
     pub form : new.pool.in_one_file ≡ false
     pub catalog : new.catalog ≡ known_after plan.catalog mid.catalog
+    pub counts : new.counts ≡ slice_set mid.counts plan.host plan.counts
     pub dumps : new.sessions.dumps.items ≡ remove mid.sessions.dumps.items place
     pub restores : new.sessions.restores ≡ mid.sessions.restores
     pub sequence : new.sessions.sequence ≡ mid.sessions.sequence
@@ -80,7 +83,8 @@ module _ {D N S : Type 0} {d : DiskGhosts D} {n : NamerGhosts N S} where
       pub judged : CommitEvent.carried name now office
           ≡ Ok (record { answer = Committed m.host.next; after = office_after office place m.dump m.host now })
       pub sound : IsSound (office_after office place m.dump m.host now)
-      pub stored : IsStoredAfter old at.all (ids_in session.tree) plan.changes (office_after office place m.dump m.host now)
+      pub stored : IsStoredAfter old at.all (ids_in session.tree) plan.changes (slice_set old.counts m.dump.host planned.counts)
+          (office_after office place m.dump m.host now)
 
     step_of : (office : Office) (names : Names) (at : IsRunning old office names) → IsStep office names at
     step_of office names at =
@@ -115,7 +119,7 @@ module _ {D N S : Type 0} {d : DiskGhosts D} {n : NamerGhosts N S} where
     pub runs_write_failed : (new : StoreParts D N S d n) (refusal : Refusal) → Writes old plan.changes (Err refusal) new
         → Runs old (Commit name now) (Err refusal) new
     runs_write_failed new refusal w =
-        runs_write_refused old new (Commit name now) plan.changes refusal w leads_committed (λ office names. inr refl)
+        runs_write_refused old new (Commit name now) plan.changes refusal w leads_committed (λ office names at. inr refl)
 
     -- the host's index, which the catalog has
     index_is : (office : Office) (names : Names) (at : IsRunning old office names) (m : IsMeant old place session office names at)
@@ -187,6 +191,12 @@ module _ {D N S : Type 0} {d : DiskGhosts D} {n : NamerGhosts N S} where
           AreSessions-dump_taken old.sessions new.sessions restores_are (given (slots old)) (contents_of at.all) office at.sessions place
           dumps_are sequence_is
 
+      counts_after : (office : Office) (names : Names) (at : IsRunning old office names) (m : IsMeant old place session office names at)
+          → new.counts ≡ slice_set old.counts m.dump.host planned.counts
+      counts_after office names at m =
+          let host : plan.host ≡ m.dump.host = planned.built.host_is ∙ m.is.host in
+          f.counts ∙ (λ i. slice_set (w.counts_same i) (host i) (planned.built.counts_are i))
+
       running_after : (office : Office) (names : Names) (at : IsRunning old office names) (s : IsStep office names at)
           → IsRunning new (office_after office place s.m.dump s.m.host now) names
       running_after office names at s =
@@ -199,6 +209,7 @@ module _ {D N S : Type 0} {d : DiskGhosts D} {n : NamerGhosts N S} where
           (record { dumps = taken.dumps; restores = taken.restores; sequence = taken.sequence })
           (subst (λ (v : Views). IsKeptView v.kept (office_after office place s.m.dump s.m.host now).hosts s.stored.backups)
           (sym (f.views ∙ w.views_same)) s.stored.view)
+          (subst (λ (c : List Items). AreCountsOf c s.stored.backups) (sym (counts_after office names at s.m)) s.stored.counted)
           s.sound f.journal
           (f.catalog ∙ ap (known_after plan.catalog) w.catalog_same ∙ catalog_after office names at s.m)
           f.halted
@@ -217,7 +228,7 @@ module _ {D N S : Type 0} {d : DiskGhosts D} {n : NamerGhosts N S} where
       pub runs_finished : Runs old (Commit name now) (Ok (Committed plan.number)) new
       runs_finished =
           runs_written old mid new (Commit name now) (Committed plan.number) plan.changes done w f.journal holds_committed
-          (λ office names. refl)
+          (λ office names. refl) refl
 
   -- behind the plan
   module _ (old start : StoreParts D N S d n) (name : SessionName) (now place : ℕ) (plan : Plan)
@@ -245,15 +256,20 @@ module _ {D N S : Type 0} {d : DiskGhosts D} {n : NamerGhosts N S} where
     pub fits_planned : (known : Known) → known ≡ start.catalog → IsFor known plan.catalog
     fits_planned known same = subst (λ (k : Known). IsFor k plan.catalog) (sym same) planned_start.built.fits
 
+    pub within_planned : (counts : List Items) → counts ≡ start.counts → plan.host < length counts
+    within_planned counts same =
+        subst (λ (c : List Items). plan.host < length c) (sym same)
+        (subst (λ (h : ℕ). h < length start.counts) (sym planned_start.built.host_is) planned_start.within)
+
     module _ (same : d.fault_count start.journal.disk ≡ d.fault_count old.journal.disk) where
       pub runs_not_written : (new : StoreParts D N S d n) (refusal : Refusal) → Writes start plan.changes (Err refusal) new
           → Runs old (Commit name now) (Err refusal) new
       runs_not_written new refusal w =
-          reads_then old start new (Commit name now) (Err refusal) (plan_reads old start quiet others) same
+          runs_behind old start new (Commit name now) (Err refusal) (reads_behind old start quiet others) same
           (runs_write_failed start name now place dump plan found_start there_start planned_start new refusal w)
 
       pub runs_committed : (mid new : StoreParts D N S d n) (done : Unit {0}) → Writes start plan.changes (Ok done) mid
           → IsFinished place plan mid new → Runs old (Commit name now) (Ok (Committed plan.number)) new
       runs_committed mid new done w f =
-          reads_then old start new (Commit name now) (Ok (Committed plan.number)) (plan_reads old start quiet others) same
+          runs_behind old start new (Commit name now) (Ok (Committed plan.number)) (reads_behind old start quiet others) same
           (runs_finished start name now place dump plan found_start there_start planned_start mid new done w f)

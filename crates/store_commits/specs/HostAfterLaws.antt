@@ -29,16 +29,17 @@ use Rattle.office_files.specs.Hosts.{index_of_host, IsShown, StandsHost}
 use Rattle.office_files.specs.Pairs.{AtEachPair, pairs_each, pairs_push, pairs_front, pairs_last, last_there, longer}
 use Rattle.office_changes.specs.ChangeLaws.{shown_given}
 use Rattle.office_changes.specs.CommitLaws.{with_newest-push, host_first_committed}
+use Rattle.store_parts.specs.Held.{AreCounts}
 use Rattle.store_commits.specs.declared.files.HostFiles.{HostFiles}
 use Rattle.store_commits.specs.declared.former.Folding.{Folding}
 use Rattle.store_commits.specs.Former.{dropped_of, IsFolded}
-use Rattle.store_commits.specs.Planned.{AreCounted, IsFormerFile}
+use Rattle.store_commits.specs.Planned.{IsCountedBy, IsFormerFile}
 use Rattle.store_commits.specs.Written.{written}
 use Rattle.store_commits.specs.WrittenLaws.{IsFormer, AreOfIndex, at_host, at_table, at_counts}
 use Rattle.store_commits.specs.HostLaws.{HasLast, ends, new_stored, IsWritten, host_further, none_beyond}
 use Rattle.store_commits.specs.LineLaws.{dropped_newest}
 use Rattle.store_commits.specs.BoundLaws.{few_counted}
-use Rattle.store_commits.specs.CountsLaws.{IsFormerFolding, counts_first, counts_further}
+use Rattle.store_commits.specs.CountsLaws.{IsFormerFolding, counts_first, counts_further, counts_written}
 use Rattle.store_commits.specs.HostFileLaws.{table_after, folding_of, former_after, others_after, others_first}
 
 -- ---- lists whose last element changes, with one behind it
@@ -60,14 +61,14 @@ still_at part (z ∷ xs) x x' y same (suc i) b e = still_at part xs x x' y same 
 
 -- the files of a host for a dump with these rows
 pub record IsBuiltOf (told : Option Files) (number : ℕ) (host : Host) (dump : Dump) (now : ℕ) (rows : Rows) (folding : Option Folding)
-    (items : Items) (files : HostFiles) : Type 0 where
+    (old_items items : Items) (files : HostFiles) : Type 0 where
   pub index : IsHostFile (index_of_host number (with_commit host dump now)) (Some files.index)
   pub table : IsTable Second rows × (files.table ≡ table_file Second rows)
   pub counts : IsCounts items × (files.counts ≡ counts_file number items)
   pub former : IsFormerFile folding files.former
   pub is_former : IsFormer host.next files.former
   pub folded : IsFolded told number (dropped_of host.rules (lines_of host.backups)) rows folding
-  pub are_counted : AreCounted told number folding rows items
+  pub are_counted : IsCountedBy old_items folding rows items
 
 -- a backup that is there is there still, and shows the same
 abbrev pub AreStill : List Backup → List StoredBackup → List Backup → List StoredBackup → Type 0
@@ -75,16 +76,18 @@ AreStill backups shown backups' shown' = (i : ℕ) (b : Backup) (s : StoredBacku
     → StillAt (λ (b : Backup). b.line.number) b (slice_get backups' i) × StillAt (λ (s : StoredBackup). s.rows) s (slice_get shown' i)
 
 pub record HostAfter (given : PoolId → Type 0) (contents : PoolId → List ℕ) (image : Files) (number : ℕ) (host new : Host)
-    (shown : List StoredBackup) : Type 0 where
+    (items : Items) (shown : List StoredBackup) : Type 0 where
   pub after : List StoredBackup
   pub stands : StandsHost given contents image number new after
+  pub counted : AreCounts items after
   pub beyond : (n : ℕ) → is_some (backup_index new.backups n) ≡ false → image (F.Table number n) ≡ None
   pub still : AreStill host.backups shown new.backups after
 
 module _ (given given' : PoolId → Type 0) (contents contents' : PoolId → List ℕ)
     (same : (id : PoolId) → given id → given' id × (contents id ≡ contents' id)) (told : Option Files) (all : Files) (is_told : told ≡ Some all)
-    (number : ℕ) (host : Host) (dump : Dump) (now : ℕ) (rows : Rows) (folding : Option Folding) (items : Items) (pooled : List Change)
-    (files : HostFiles) (of_index : AreOfIndex pooled) (built : IsBuiltOf told number host dump now rows folding items files)
+    (number : ℕ) (host : Host) (dump : Dump) (now : ℕ) (rows : Rows) (folding : Option Folding)
+    (old_items items : Items) (pooled : List Change)
+    (files : HostFiles) (of_index : AreOfIndex pooled) (built : IsBuiltOf told number host dump now rows folding old_items items files)
     (before : AreNumbered host.next host.backups)
     (limit : (with_commit host dump now).next ≤ number_limit) (few : length rows ≤ 1048576)
     (numbered : AreNumbered (with_commit host dump now).next (with_commit host dump now).backups)
@@ -107,7 +110,8 @@ module _ (given given' : PoolId → Type 0) (contents contents' : PoolId → Lis
       (sym (at_counts pooled number host.next files all of_index built.is_former ∙ ap (λ (b : List ℕ). Some b) built.counts.1))
 
   -- the first backup
-  module _ (shown : List StoredBackup) (stands : StandsHost given contents all number host shown) (was : host.backups ≡ []) where
+  module _ (shown : List StoredBackup) (stands : StandsHost given contents all number host shown) (counted : AreCounts old_items shown)
+      (was : host.backups ≡ []) where
     none_folded : folding ≡ None
     none_folded = subst (λ (b : List Backup). IsFolded told number (dropped_of host.rules (lines_of b)) rows folding) was built.folded
 
@@ -129,14 +133,18 @@ module _ (given given' : PoolId → Type 0) (contents contents' : PoolId → Lis
         found : (b : Bool) → b ≡ true → is_some {T = ℕ} (if b then Some 0 else None) ≡ true
         found b is = ap (λ (b : Bool). is_some {T = ℕ} (if b then Some 0 else None)) is
 
-    host_first : HostAfter given' contents' image number host new shown
+    counted_first : AreCounts items (new_stored rows ∷ [])
+    counted_first =
+        counts_first items old_items rows (subst (λ (f : Option Folding). IsCountedBy old_items f rows items) none_folded built.are_counted)
+        (subst (AreCounts old_items) none_shown counted) few
+
+    host_first : HostAfter given' contents' image number host new items shown
     host_first = record {
       after = new_stored rows ∷ [];
       stands = host_first_committed given' contents' image number new (new_backup host dump now) (new_stored rows) one_backup fresh index table
           (counts_at (λ id. total id (stored (new_stored rows ∷ [])))
-          (counts_first told all number items rows is_told
-          (subst (λ (f : Option Folding). AreCounted told number f rows items) none_folded built.are_counted) built.counts.0
-          (subst (λ (s : List StoredBackup). IsCountsFile number (λ id. total id (stored s)) (all (F.Counts number))) none_shown stands.counts) few));
+          (counts_written number items (new_stored rows ∷ []) built.counts.0 counted_first));
+      counted = counted_first;
       beyond = λ n e.
           others_first pooled number host.next files all of_index built.is_former folding n none_folded built.former (not_found n e)
           ∙ none n (ap (λ (b : List Backup). is_some (backup_index b n)) was);
@@ -148,7 +156,7 @@ module _ (given given' : PoolId → Type 0) (contents contents' : PoolId → Lis
 
   -- a further one
   module _ (older : List Backup) (newest : Backup) (were : host.backups ≡ older ++ newest ∷ []) (olds : List StoredBackup) (last : StoredBackup)
-      (stands : StandsHost given contents all number host (olds ++ last ∷ [])) where
+      (stands : StandsHost given contents all number host (olds ++ last ∷ [])) (counted : AreCounts old_items (olds ++ last ∷ [])) where
     abbrev stays : Bool
     stays = stays_filled host.rules newest.line
 
@@ -192,6 +200,12 @@ module _ (given given' : PoolId → Type 0) (contents contents' : PoolId → Lis
         (subst (λ (l : List StoredBackup). AtEachPair (λ i. IsShown given' contents')
         ((older ++ filled_as stays newest ∷ []) ++ new_backup host dump now ∷ []) l) (append_assoc olds (kept ∷ []) (new_stored rows ∷ [])) two)
 
+    counted_further : AreCounts items (with_new olds last stays (new_stored rows))
+    counted_further =
+        counts_further items old_items folding rows olds last stays built.are_counted fold counted
+        (few_counted given contents host.next host.backups (olds ++ last ∷ []) before (omega (arith, limit)) stands.shown)
+        (few_counted given' contents' new.next new.backups (with_new olds last stays (new_stored rows)) numbered limit shown_after)
+
     is_written : IsWritten all image number host dump now newest olds last rows
     is_written = record {
       index = index;
@@ -201,16 +215,15 @@ module _ (given given' : PoolId → Type 0) (contents contents' : PoolId → Lis
       others = λ n a b.
           others_after pooled number host.next files all of_index built.is_former told newest.line stays rows folding n built.former folded a b;
       counts = counts_at (λ id. total id (stored (with_new olds last stays (new_stored rows))))
-          (counts_further told all number items folding rows olds last stays is_told built.are_counted built.counts.0 fold stands.counts
-          (few_counted given contents host.next host.backups (olds ++ last ∷ []) before (omega (arith, limit)) stands.shown)
-          (few_counted given' contents' new.next new.backups (with_new olds last stays (new_stored rows)) numbered limit shown_after));
+          (counts_written number items (with_new olds last stays (new_stored rows)) built.counts.0 counted_further);
     }
 
-    host_last : HostAfter given' contents' image number host new (olds ++ last ∷ [])
+    host_last : HostAfter given' contents' image number host new items (olds ++ last ∷ [])
     host_last = record {
       after = with_new olds last stays (new_stored rows);
       stands = host_further given given' contents contents' same all image number host dump now newest older olds last rows were numbered is_written
           fresh stands;
+      counted = counted_further;
       beyond = none_beyond given given' contents contents' same all image number host dump now newest older olds last rows were numbered is_written
           none;
       still = λ i b s e f. (
@@ -222,21 +235,23 @@ module _ (given given' : PoolId → Type 0) (contents contents' : PoolId → Lis
       );
     }
 
-  host_with : (shown : List StoredBackup) → StandsHost given contents all number host shown → HasLast host.backups
-      → (shown ≡ []) ⊎ HasLast shown → HostAfter given' contents' image number host new shown
-  host_with shown stands was (inl none) = absurd (more_there was.front was.last (sym (ap length was.is) ∙ sym stands.shown.counted ∙ ap length none))
+  host_with : (shown : List StoredBackup) → StandsHost given contents all number host shown → AreCounts old_items shown
+      → HasLast host.backups → (shown ≡ []) ⊎ HasLast shown → HostAfter given' contents' image number host new items shown
+  host_with shown stands counted was (inl none) =
+      absurd (more_there was.front was.last (sym (ap length was.is) ∙ sym stands.shown.counted ∙ ap length none))
     where
       more_there : (xs : List Backup) (x : Backup) → length (xs ++ x ∷ []) ≡ 0 → ⊥
       more_there xs x e = let all = longer xs x in omega (arith, e, all)
-  host_with shown stands was (inr more) =
-      subst (λ (s : List StoredBackup). HostAfter given' contents' image number host new s) (sym more.is)
+  host_with shown stands counted was (inr more) =
+      subst (λ (s : List StoredBackup). HostAfter given' contents' image number host new items s) (sym more.is)
       (host_last was.front was.last was.is more.front more.last
-      (subst (λ (s : List StoredBackup). StandsHost given contents all number host s) more.is stands))
+      (subst (λ (s : List StoredBackup). StandsHost given contents all number host s) more.is stands)
+      (subst (AreCounts old_items) more.is counted))
 
-  pub host_after : (shown : List StoredBackup) → StandsHost given contents all number host shown
-      → HostAfter given' contents' image number host new shown
-  host_after shown stands = step (ends host.backups)
+  pub host_after : (shown : List StoredBackup) → StandsHost given contents all number host shown → AreCounts old_items shown
+      → HostAfter given' contents' image number host new items shown
+  host_after shown stands counted = step (ends host.backups)
     where
-      step : (host.backups ≡ []) ⊎ HasLast host.backups → HostAfter given' contents' image number host new shown
-      step (inl was) = host_first shown stands was
-      step (inr was) = host_with shown stands was (ends shown)
+      step : (host.backups ≡ []) ⊎ HasLast host.backups → HostAfter given' contents' image number host new items shown
+      step (inl was) = host_first shown stands counted was
+      step (inr was) = host_with shown stands counted was (ends shown)

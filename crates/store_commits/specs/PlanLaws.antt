@@ -1,5 +1,5 @@
 -- What a plan, or its refusal, comes to.
-use Rattle.std.specs.Prelude.{◌≡◌, ◌⊎◌, ℕ, List, Option, Some, Result, Ok, Err, IfOk, IfErr, IsErrOf, slice_get}
+use Rattle.std.specs.Prelude.{◌≡◌, ◌⊎◌, ◌<◌, ℕ, length, List, Option, Some, Result, Ok, Err, IfOk, IfErr, IsErrOf, slice_get}
 use Rattle.std.proofs.Common.{sym, ◌∙◌, subst, inl, inr}
 use Rattle.fault_counts.specs.Counts.{Counted}
 use Rattle.disk_trait.specs.declared.disk.Disk.{Ghosts as DiskGhosts}
@@ -39,7 +39,9 @@ module _ {D N S : Type 0} {d : DiskGhosts D} {n : NamerGhosts N S} where
       → IsBuilt parts host lines folding counts rows plan
   built_before parts journal host lines folding counts rows plan b = record {
     number = b.number;
+    host_is = b.host_is;
     rows_are = b.rows_are;
+    counts_are = b.counts_are;
     proposes = b.proposes;
     fits = b.fits;
     pooled = b.pooled;
@@ -58,36 +60,38 @@ module _ {D N S : Type 0} {d : DiskGhosts D} {n : NamerGhosts N S} where
       (there : slice_get parts.sessions.dumps.items at ≡ Some dump) (lines : Lines) (rows : Rows)
       (judged : IsJudged parts.catalog.hosts dump now lines) (rows_are : rows ≡ dump.tree) where
     pub planned_of : (folding : Option Folding) (counts : Items) (result : Result Plan Refusal)
-        → IsFolded (told parts.journal) lines.file lines.dropped rows folding → AreCounted (told parts.journal) lines.file folding rows counts
+        → IsFolded (told parts.journal) lines.file lines.dropped rows folding → AreCounted parts.counts dump.host folding rows counts
+        → dump.host < length parts.counts
         → IfOk result (IsBuilt (record parts { journal = journal }) dump.host lines folding counts rows)
         → IfOk result (λ plan. (session : OpenDump) → slice_get parts.sessions.dumps.items at ≡ Some session → IsPlanned parts session now plan)
-    planned_of folding counts (Err refusal) folded counted built = tt
-    planned_of folding counts (Ok plan) folded counted built = λ session e.
+    planned_of folding counts (Err refusal) folded counted within built = tt
+    planned_of folding counts (Ok plan) folded counted within built = λ session e.
         subst (λ (s : OpenDump). IsPlanned parts s now plan) (one_there parts.sessions.dumps.items at dump session there e) (record {
           lines = lines;
           judged = judged;
           folding = folding;
           counts = counts;
           folded = subst (λ (r : Rows). IsFolded (told parts.journal) lines.file lines.dropped r folding) rows_are folded;
-          are_counted = subst (λ (r : Rows). AreCounted (told parts.journal) lines.file folding r counts) rows_are counted;
+          are_counted = subst (λ (r : Rows). AreCounted parts.counts dump.host folding r counts) rows_are counted;
+          within = within;
           built = subst (λ (r : Rows). IsBuilt parts dump.host lines folding counts r plan) rows_are
               (built_before parts journal dump.host lines folding counts rows plan built);
         })
 
     -- the host that was judged is the one that is ready
-    ready_index : (all : Files) (ready : IsReady parts dump all) → IsTold all lines.file lines.dropped
+    ready_index : (all : Files) (ready : IsReady parts dump all) → IsTold all parts.counts dump.host lines.file lines.dropped
     ready_index all ready =
         let same : ready.index ≡ judged.index = one_there parts.catalog.hosts dump.host ready.index judged.index ready.here judged.here in
-        subst (λ (l : Option Line). IsTold all lines.file l) (sym judged.dropped)
-        (subst (λ (k : ℕ). IsTold all k (dropped_of judged.index.rules judged.index.lines)) (sym judged.file)
-        (subst (λ (i : Index). IsTold all i.host (dropped_of i.rules i.lines)) same ready.tells))
+        subst (λ (l : Option Line). IsTold all parts.counts dump.host lines.file l) (sym judged.dropped)
+        (subst (λ (k : ℕ). IsTold all parts.counts dump.host k (dropped_of judged.index.rules judged.index.lines)) (sym judged.file)
+        (subst (λ (i : Index). IsTold all parts.counts dump.host i.host (dropped_of i.rules i.lines)) same ready.tells))
 
     ready_of : (session : OpenDump) → slice_get parts.sessions.dumps.items at ≡ Some session → (all : Files) → IsReady parts session all
         → IsReady parts dump all
     ready_of session e all ready =
         subst (λ (s : OpenDump). IsReady parts s all) (sym (one_there parts.sessions.dumps.items at dump session there e)) ready
 
-    pub gather_refused : (refusal : Refusal) → IsGatherFault (told parts.journal) lines.file lines.dropped refusal
+    pub gather_refused : (refusal : Refusal) → IsGatherFault (told parts.journal) parts.counts dump.host lines.file lines.dropped refusal
         → (session : OpenDump) → slice_get parts.sessions.dumps.items at ≡ Some session → IsPlanFault parts session refusal
     gather_refused refusal fault session e all is ready = fault all is (ready_index all (ready_of session e all ready))
 

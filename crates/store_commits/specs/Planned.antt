@@ -1,9 +1,10 @@
 -- What a commit is planned to do, as the parts of a store tell it.
 --     counted_of      how often the tables name a content then
+--     AreCounted      the host's counts then, by those in memory
 --     IsBuilt, IsPlanned      the plan of a commit of an open dump
-use Rattle.std.specs.Prelude.{◌≡◌, ◌⊎◌, ℕ, ◌+◌, ◌-◌, ◌<◌, List, [], ◌∷◌, Option, Some, None, is_some, not, slice_get}
+use Rattle.std.specs.Prelude.{◌≡◌, ◌⊎◌, ℕ, ◌+◌, ◌-◌, ◌<◌, List, [], ◌∷◌, length, Option, Some, None, is_some, not, slice_get}
 use Rattle.disk_trait.specs.declared.ids.PoolId.{PoolId}
-use Rattle.disk_trait.specs.declared.ids.FileId.TheVariants.{Host as HostFile, Table as TableFile, Counts as CountsFile}
+use Rattle.disk_trait.specs.declared.ids.FileId.TheVariants.{Host as HostFile, Table as TableFile}
 use Rattle.disk_trait.specs.declared.disk.Disk.{Ghosts as DiskGhosts}
 use Rattle.disk_trait.specs.Files.{Files}
 use Rattle.pool_name.specs.declared.namer.Namer.{Ghosts as NamerGhosts}
@@ -38,7 +39,6 @@ use Rattle.store_commits.specs.declared.plan.Plan.{Plan}
 use Rattle.store_commits.specs.Judged.{IsJudged}
 use Rattle.store_commits.specs.Ids.{ids_in}
 use Rattle.store_commits.specs.Written.{written}
-use Rattle.store_commits.specs.Counting.{HasCounts}
 use Rattle.store_commits.specs.Former.{dropped_of, IsFolded}
 
 -- by the number before
@@ -47,10 +47,13 @@ counted_of n None rows id = capped (n + capped (occurrences id rows))
 counted_of n (Some folding) rows id =
     capped (capped ((n - capped (occurrences id folding.rows)) + capped (occurrences id folding.entries)) + capped (occurrences id rows))
 
--- the counts after it, by those that the files tell
-abbrev pub AreCounted : Option Files → ℕ → Option Folding → Rows → Items → Type 0
-AreCounted told host folding rows items = (all : Files) (olds : Items) → told ≡ Some all → HasCounts host olds (all (CountsFile host))
-    → (id : PoolId) → number items id ≡ counted_of (number olds id) folding rows id
+-- the counts after it, by those before it
+abbrev pub IsCountedBy : Items → Option Folding → Rows → Items → Type 0
+IsCountedBy olds folding rows items = (id : PoolId) → number items id ≡ counted_of (number olds id) folding rows id
+
+-- of a host, by those in memory
+abbrev pub AreCounted : List Items → ℕ → Option Folding → Rows → Items → Type 0
+AreCounted counts place folding rows items = (olds : Items) → slice_get counts place ≡ Some olds → IsCountedBy olds folding rows items
 
 -- the former newest's new table
 abbrev pub IsFormerFile : Option Folding → Option Former → Type 0
@@ -62,23 +65,25 @@ IsFormerFile (Some folding) former = IsTable Second folding.entries
 abbrev pub IsBytesOf : List Change → List ℕ → Type 0
 IsBytesOf changes bytes = (change : Change) → changes ≡ change ∷ [] → change.bytes ≡ Some bytes
 
--- What a fault of reading comes to: if the files tell the host's counts and a table for the former newest, it is one of the
--- disk, or want of memory.
-pub record IsTold (all : Files) (host : ℕ) (dropped : Option Line) : Type 0 where
+-- What a fault of reading comes to: if the host's counts are in memory, and the files tell a table for the former newest, it
+-- is one of the disk, or want of memory.
+pub record IsTold (all : Files) (counts : List Items) (place host : ℕ) (dropped : Option Line) : Type 0 where
   pub items : Items
-  pub has : HasCounts host items (all (CountsFile host))
+  pub has : slice_get counts place ≡ Some items
   pub table : (line : Line) → dropped ≡ Some line → (rows : Rows) × IsTableFile rows (all (TableFile host line.number))
 
-abbrev pub IsGatherFault : Option Files → ℕ → Option Line → Refusal → Type 0
-IsGatherFault told host dropped refusal =
-    (all : Files) → told ≡ Some all → IsTold all host dropped → (refusal ≡ DiskFault) ⊎ (refusal ≡ Memory)
+abbrev pub IsGatherFault : Option Files → List Items → ℕ → ℕ → Option Line → Refusal → Type 0
+IsGatherFault told counts place host dropped refusal =
+    (all : Files) → told ≡ Some all → IsTold all counts place host dropped → (refusal ≡ DiskFault) ⊎ (refusal ≡ Memory)
 
 module _ {D N S : Type 0} {d : DiskGhosts D} {n : NamerGhosts N S} where
   -- what is written, by what was judged and gathered
   pub record IsBuilt (parts : StoreParts D N S d n) (host : ℕ) (lines : Lines) (folding : Option Folding) (counts : Items) (rows : Rows)
       (plan : Plan) : Type 0 where
     pub number : plan.number ≡ lines.line.number
+    pub host_is : plan.host ≡ host
     pub rows_are : plan.rows ≡ rows
+    pub counts_are : plan.counts ≡ counts
     pub proposes : Proposes parts.catalog (with_change parts.catalog host (with_line lines.line (not (is_some lines.dropped))))
         (HostFile host ∷ []) plan.catalog
     pub fits : IsFor parts.catalog plan.catalog
@@ -100,7 +105,8 @@ module _ {D N S : Type 0} {d : DiskGhosts D} {n : NamerGhosts N S} where
     pub folding : Option Folding
     pub counts : Items
     pub folded : IsFolded (told parts.journal) lines.file lines.dropped session.tree folding
-    pub are_counted : AreCounted (told parts.journal) lines.file folding session.tree counts
+    pub are_counted : AreCounted parts.counts session.host folding session.tree counts
+    pub within : session.host < length parts.counts
     pub built : IsBuilt parts session.host lines folding counts session.tree plan
 
   -- What a refusal of a plan comes to: if the dump's host is there with a number left, the files tell what is read, and the
@@ -109,7 +115,7 @@ module _ {D N S : Type 0} {d : DiskGhosts D} {n : NamerGhosts N S} where
     pub index : Index
     pub here : slice_get parts.catalog.hosts session.host ≡ Some index
     pub number : index.next < 4294967296
-    pub tells : IsTold all index.host (dropped_of index.rules index.lines)
+    pub tells : IsTold all parts.counts session.host index.host (dropped_of index.rules index.lines)
     pub given : AreGiven (slots parts) (ids_in session.tree)
 
   abbrev pub IsPlanFault : StoreParts D N S d n → OpenDump → Refusal → Type 0

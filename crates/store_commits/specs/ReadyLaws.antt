@@ -1,9 +1,9 @@
 -- A commit of an open dump is ready, by parts at work: the host is there with a number left, and its files tell what is read.
 --     index_there      the index at the place of a host
---     host_told      the files of a host tell its counts, and the table of the backup that is dropped
+--     host_told      a host's counts are in memory, and its files tell the table of the backup that is dropped
 --     running_ready      what a plan reads is there
 use Rattle.std.specs.Prelude.{◌≡◌, ℕ, zero, suc, ◌+◌, ◌-◌, List, [], ◌∷◌, length, Some, slice_get}
-use Rattle.std.proofs.Common.{refl, ap, ◌∙◌, subst, arith}
+use Rattle.std.proofs.Common.{refl, sym, ap, ◌∙◌, subst, arith}
 use Rattle.disk_trait.specs.declared.ids.PoolId.{PoolId}
 use Rattle.disk_trait.specs.declared.ids.FileId.TheVariants.{Table as TableFile}
 use Rattle.disk_trait.specs.declared.disk.Disk.{Ghosts as DiskGhosts}
@@ -13,6 +13,7 @@ use Rattle.backup_rules.specs.declared.lines.Line.{Line}
 use Rattle.backup_views.specs.Stored.{IsTableFile}
 use Rattle.merge_view.specs.Views.{Rows}
 use Rattle.pool_changes.specs.Listed.{index_of}
+use Rattle.ref_counts.specs.Numbers.{Items}
 use Rattle.ref_counts.specs.Stored.{Backup as StoredBackup, stored}
 use Rattle.office_catalog.specs.Known.{Known}
 use Rattle.office_model.specs.Office.{Office, Host, Backup, Names}
@@ -20,7 +21,7 @@ use Rattle.office_model.specs.Parts.{lines_of}
 use Rattle.office_known.specs.KnownLaws.{indices_from}
 use Rattle.office_files.specs.Hosts.{index_of_host, StandsHost}
 use Rattle.office_files.specs.Layouts.{IsTableFile as IsOfficeTable}
-use Rattle.office_files.specs.Pairs.{pair_at}
+use Rattle.office_files.specs.Pairs.{other_at, pair_at}
 use Rattle.office_files.specs.Pooled.{contents_of, IsListed}
 use Rattle.open_sessions.specs.declared.sessions.OpenDump.{OpenDump}
 use Rattle.store_parts.specs.declared.parts.StoreParts.{StoreParts}
@@ -71,10 +72,11 @@ module _ (given : PoolId → Type 0) (contents : PoolId → List ℕ) (files : F
             (record { layout = pair.2.layout; fits = pair.2.fits; is = pair.2.is }),
       )
 
-  pub host_told : IsTold files number (dropped_of host.rules (lines_of host.backups))
-  host_told = record {
-    items = stands.counts.items;
-    has = record { fits = stands.counts.fits; is = stands.counts.is };
+  pub host_told : (counts : List Items) (place : ℕ) (items : Items) → slice_get counts place ≡ Some items
+      → IsTold files counts place number (dropped_of host.rules (lines_of host.backups))
+  host_told counts place items has = record {
+    items = items;
+    has = has;
     table = λ line e.
         table_at (length (lines_of host.backups) - 1) line (if_some host.rules (last_line (lines_of host.backups)) line e).0;
   }
@@ -88,11 +90,13 @@ module _ {D N S : Type 0} {d : DiskGhosts D} {n : NamerGhosts N S} where
       let m = meant parts place session office names at e in
       let pair = pair_at (StandsHost (IsListed (index_of (slots parts))) (contents_of at.all) at.all) office.hosts at.backups
       at.stands.hosts m.dump.host m.host m.here in
+      let counts = other_at at.backups parts.counts m.dump.host pair.0 (sym at.counted.counted) pair.1 in
       record {
         index = index_of_host m.dump.host m.host;
         here = ap (slice_get parts.catalog.hosts) m.is.host ∙ ap (λ (k : Known). slice_get k.hosts m.dump.host) at.catalog_is
             ∙ index_there office.hosts m.dump.host m.host m.here;
         number = m.number;
-        tells = host_told (IsListed (index_of (slots parts))) (contents_of at.all) at.all m.dump.host m.host pair.0 pair.2;
+        tells = host_told (IsListed (index_of (slots parts))) (contents_of at.all) at.all m.dump.host m.host pair.0 pair.2 parts.counts
+            session.host counts.0 (ap (slice_get parts.counts) m.is.host ∙ counts.1);
         given = given_ids (slots parts) (contents_of at.all) session.tree m.is.tree_rows.told;
       }

@@ -27,7 +27,7 @@ use Rattle.office_files.specs.Pooled.{contents_of}
 use Rattle.office_files.specs.Stands.{Stands}
 use Rattle.office_known.specs.KnownLaws.{known_of_office}
 use Rattle.store_parts.specs.declared.parts.StoreParts.{StoreParts}
-use Rattle.store_parts.specs.Held.{given, IsKeptView}
+use Rattle.store_parts.specs.Held.{given, AreCountsOf, IsKeptView}
 use Rattle.store_parts.specs.States.{slots, IsRunning}
 use Rattle.store_parts.specs.Writes.{Writes}
 use Rattle.store_parts.specs.StoredLaws.{contents_written}
@@ -75,9 +75,9 @@ module _ {D N S : Type 0} {d : DiskGhosts D} {n : NamerGhosts N S} where
         → Stands n.digest_of (index_of (with_added ids (slots old))) backups (applied changes at.all) (durable after)
         → TellsIn false (index_of (with_added ids (slots old))) (applied changes at.all)
         → AreSessions (given (slots old)) (contents_of at.all) after new.sessions
-        → IsKeptView new.views.kept after.hosts backups → IsSound after
+        → IsKeptView new.views.kept after.hosts backups → AreCountsOf new.counts backups → IsSound after
         → new.journal ≡ mid.journal → new.catalog ≡ known_of_office (durable after) → new.halted ≡ mid.halted → IsRunning new after names
-    running_committed accepted form claims stands tells sessions view sound journal catalog halted = record {
+    running_committed accepted form claims stands tells sessions view counted sound journal catalog halted = record {
       working = record {
         ready = halted ∙ written.stays (λ e. absurd cc) ∙ at.ready;
         stored = record {
@@ -100,6 +100,7 @@ module _ {D N S : Type 0} {d : DiskGhosts D} {n : NamerGhosts N S} where
           digest = at.digest;
           catalog_is = catalog;
         };
+        counted = counted;
         sessions = AreSessions-claimed (given (slots old)) (contents_of at.all) (given (slots new)) (contents_of (applied changes at.all))
             after new.sessions
             (λ id g some. (

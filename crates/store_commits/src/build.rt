@@ -88,9 +88,11 @@ pub(crate) fn build<D: Disk, N: Namer>(
     match assemble(index.take_changes(alloc), lines.file, number, files) {
         Ok(changes) => Ok(Plan {
             number,
+            host,
             catalog,
             index,
             rows,
+            counts: gathered.counts,
             changes,
         }),
         Err(_) => Err(Refusal::Memory),

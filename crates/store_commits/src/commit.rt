@@ -17,7 +17,7 @@ use std::alloc::Global;
 use store_parts::StoreParts;
 use stream_traits::Moment;
 
-/// Plans the commit of the open dump at a place. Tables and counts are read; nothing changes.
+/// Plans the commit of the open dump at a place. Tables are read; nothing changes.
 pub fn plan_commit<D: Disk, N: Namer>(
     parts: &mut StoreParts<D, N>,
     alloc: Global,
@@ -44,7 +44,15 @@ pub fn plan_commit<D: Disk, N: Namer>(
         Ok(rows) => rows,
         Err(_) => return Err(Refusal::Memory),
     };
-    match gather(alloc, &mut parts.journal, lines.file, lines.dropped, &rows) {
+    match gather(
+        alloc,
+        &mut parts.journal,
+        &parts.counts,
+        host,
+        lines.file,
+        lines.dropped,
+        &rows,
+    ) {
         Ok(gathered) => build(parts, alloc, host, lines, rows, gathered),
         Err(refusal) => Err(refusal),
     }

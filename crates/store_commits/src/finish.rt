@@ -1,6 +1,6 @@
 //! What is in memory behind a commit.
 
-ghost use Rattle.std.specs.Prelude.{◌≡◌, ◌≤◌, ◌<◌, ℕ, false, Some, length, slice_get};
+ghost use Rattle.std.specs.Prelude.{◌≡◌, ◌≤◌, ◌<◌, ℕ, false, Some, length, slice_get, slice_set};
 ghost use Rattle.std.specs.List.{remove};
 ghost use Rattle.disk_trait.specs.declared.ids.PoolId.{PoolId};
 ghost use Rattle.pool_changes.specs.Slots.{claims_of};
@@ -17,16 +17,19 @@ use pool_name::Namer;
 use store_dumps::release_rows;
 use store_parts::StoreParts;
 
-/// Makes in memory what was committed: the pool and the catalog change, and the dump is taken out with its claims. Takes no
+/// Makes in memory what was committed: the pool, the catalog and the host's counts change, and the dump is taken out with its
+/// claims. Takes no
 /// memory. To be called after the plan's changes are written, with the place of the dump that was planned.
 pub fn accept_commit<D: Disk, N: Namer>(parts: &mut StoreParts<D, N>, at: usize, plan: Plan)
     requires within { at < length parts.old.sessions.dumps.items }
     requires fits { IsFor parts.old.catalog plan.catalog }
+    requires counted { plan.host < length parts.old.counts }
     ensures pool { (dump : OpenDump) → slice_get parts.old.sessions.dumps.items at ≡ Some dump → plan.rows ≡ dump.tree
         → ((id : PoolId) → claims_of_dump dump id ≤ claims_of (relisted_after plan.index (slots parts.old) id))
         → LetsGo (claims_of_dump dump) (relisted_after plan.index (slots parts.old)) (slots parts.new) }
     ensures form { parts.new.pool.in_one_file ≡ false }
     ensures catalog { parts.new.catalog ≡ known_after plan.catalog parts.old.catalog }
+    ensures counts { parts.new.counts ≡ slice_set parts.old.counts plan.host plan.counts }
     ensures dumps { parts.new.sessions.dumps.items ≡ remove parts.old.sessions.dumps.items at }
     ensures restores { parts.new.sessions.restores ≡ parts.old.sessions.restores }
     ensures sequence { parts.new.sessions.sequence ≡ parts.old.sessions.sequence }
@@ -36,13 +39,16 @@ pub fn accept_commit<D: Disk, N: Namer>(parts: &mut StoreParts<D, N>, at: usize,
 {
     let Plan {
         number: _number,
+        host,
         catalog,
         index,
         rows,
+        counts,
         changes: _changes,
     } = plan;
     parts.pool.accept(index);
     parts.catalog.accept(catalog);
+    parts.counts.set(host, counts);
     release_rows(&mut parts.pool, rows.rows());
     let dump = parts.sessions.take_dump(at);
     release_rows(&mut parts.pool, dump.base.rows());

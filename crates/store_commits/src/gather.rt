@@ -1,6 +1,6 @@
-//! What a commit reads.
+//! What a commit reads and counts.
 
-ghost use Rattle.std.specs.Prelude.{◌≡◌, ◌⊎◌, ℕ, false, Some, IfOk, IfErr, IsErrOf};
+ghost use Rattle.std.specs.Prelude.{◌≡◌, ◌⊎◌, ◌<◌, ℕ, false, length, Some, IfOk, IfErr, OnOk, IsErrOf};
 ghost use Rattle.fault_counts.specs.Counts.{Counted};
 ghost use Rattle.journal_view.specs.View.{told, Quiet};
 ghost use Rattle.store_commits.specs.Former.{IsFolded};
@@ -11,6 +11,7 @@ use crate::former::{Folding, fold_former};
 use attr_tables::Table;
 use backup_rules::Line;
 use disk_trait::Disk;
+use host_counts::HostCounts;
 use intent_journal::Journal;
 use office_model::Refusal;
 use ref_counts::Counts;
@@ -23,19 +24,22 @@ pub struct Gathered {
     pub counts: Counts,
 }
 
-/// Reads the former newest's table, if it doesn't stay filled, and the host's counts, and makes of them what they are after
+/// Reads the former newest's table, if it doesn't stay filled, and makes of it and of the host's counts what they are after
 /// the commit of a new tree. A refusal changes nothing.
 pub(crate) fn gather<D: Disk>(
     alloc: Global,
     journal: &mut Journal<D>,
+    held: &HostCounts,
+    place: usize,
     host: u32,
     dropped: Option<Line>,
     rows: &Table,
 ) -> Result<Gathered, Refusal>
     requires { journal.old.halted ≡ false }
     ensures folded { IfOk result (λ gathered. IsFolded (told journal.old) host dropped rows.now gathered.folding) }
-    ensures counts { IfOk result (λ gathered. AreCounted (told journal.old) host gathered.folding rows.now gathered.counts) }
-    ensures kind { IfErr result (IsGatherFault (told journal.old) host dropped) }
+    ensures counts { IfOk result (λ gathered. AreCounted held.now place gathered.folding rows.now gathered.counts) }
+    ensures within { OnOk result (place < length held.now) }
+    ensures kind { IfErr result (IsGatherFault (told journal.old) held.now place host dropped) }
     ensures quiet { Quiet journal.old journal.new }
     ensures counted { Counted (D.fault_count journal.old.disk) (D.fault_count journal.new.disk) (IsErrOf result Refusal.DiskFault) }
 {
@@ -43,7 +47,7 @@ pub(crate) fn gather<D: Disk>(
         Ok(folding) => folding,
         Err(refusal) => return Err(refusal),
     };
-    let counts = match next_counts(alloc, journal, host, &folding, rows) {
+    let counts = match next_counts(alloc, held, place, &folding, rows) {
         Ok(counts) => counts,
         Err(refusal) => return Err(refusal),
     };

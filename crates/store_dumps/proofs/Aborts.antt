@@ -74,13 +74,13 @@ module _ {D N S : Type 0} {d : DiskGhosts D} {n : NamerGhosts N S} where
 
     pub runs_aborted : (new : StoreParts D N S d n) (index : ℕ) (dump : OpenDump) → Some index ≡ place_of old.sessions.dumps.items session
         → slice_get old.sessions.dumps.items index ≡ Some dump → new.journal ≡ old.journal → new.catalog ≡ old.catalog
-        → new.views ≡ old.views → new.halted ≡ old.halted
+        → new.counts ≡ old.counts → new.views ≡ old.views → new.halted ≡ old.halted
         → (((id : PoolId) → claims_of_dump dump id ≤ claims_of (slots old id))
         → LetsGo (λ id. claims_of_dump dump id) (slots old) (slots new))
         → new.pool.in_one_file ≡ old.pool.in_one_file → new.sessions.dumps.items ≡ remove old.sessions.dumps.items index
         → new.sessions.restores.items ≡ old.sessions.restores.items → new.sessions.sequence ≡ old.sessions.sequence
         → Runs old (Abort session) (Ok Done) new
-    runs_aborted new index dump e there journal catalog views halted go form dumps restores sequence =
+    runs_aborted new index dump e there journal catalog counts views halted go form dumps restores sequence =
         runs_kept old new (Abort session) Done journal
         (λ office names at.
         let found = dump_found index dump e there office names at in
@@ -90,7 +90,7 @@ module _ {D N S : Type 0} {d : DiskGhosts D} {n : NamerGhosts N S} where
           next = next;
           judged = judged;
           running = running_let_go old new office next names (λ id. claims_of_dump dump id)
-              (claims_in old.sessions) at.working at.claimed journal catalog views halted
+              (claims_in old.sessions) at.working at.claimed journal catalog counts views halted
               (go (abort_enough index dump there office names at)) form
               (λ id. omega (
                 arith,
@@ -110,4 +110,4 @@ module _ {D N S : Type 0} {d : DiskGhosts D} {n : NamerGhosts N S} where
               })
               refl refl (IsSound-carried office names (Abort session) (record { answer = Done; after = next }) at.sound judged);
         })
-        (λ office names. refl)
+        (λ office names. refl) refl

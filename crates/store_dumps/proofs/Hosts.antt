@@ -1,7 +1,11 @@
 -- The catalog's look-ups are those of its office.
-use Rattle.std.specs.Prelude.{◌≡◌, ℕ, suc, ◌+◌, cond, List, [], ◌∷◌, Option, Some, None, Ok, Err, slice_get, bytes_eq}
+--     named_host, no_named      the host of a name
+--     host_of, index_named      the host of an index, and the index of a host
+--     index_read      the index that was read at a place
+use Rattle.std.specs.Prelude.{◌≡◌, ◌<◌, length, ℕ, suc, ◌+◌, cond, List, [], ◌∷◌, Option, Some, None, Ok, Err, slice_get, bytes_eq}
 use Rattle.std.specs.List.{position_from}
-use Rattle.std.proofs.Common.{refl, sym, ap, ◌∙◌, arith}
+use Rattle.std.proofs.Common.{refl, sym, ap, ◌∙◌, arith, get_or}
+use Rattle.std.proofs.lemmas.Option.{slice_get_read}
 use Rattle.backup_index.specs.Index.{Index}
 use Rattle.office_catalog.specs.Known.{Known, host_named, names_of}
 use Rattle.office_model.specs.declared.refusal.BrokenRule.TheVariants.{NoHost}
@@ -17,6 +21,13 @@ found_from : (name : List ℕ) (k n : ℕ) (hosts : List Host)
     ≡ position_from (λ (host : Host). bytes_eq host.name name) k hosts
 found_from name k n [] = refl
 found_from name k n (host ∷ hosts) = ap (cond (bytes_eq host.name name) (Some k)) (found_from name (k + 1) (suc n) hosts)
+
+-- the index that was read
+pub index_read : (hosts found : List Index) (place : ℕ) (index : Index) → found ≡ hosts → place < length hosts
+    → index ≡ get_or found place index
+    → slice_get hosts place ≡ Some index
+index_read hosts found place index same within is =
+    slice_get_read hosts (length hosts) place index refl within (is ∙ ap (λ (l : List Index). get_or l place index) same)
 
 -- the host of this name, with its index
 pub record IsNamed (office : Office) (known : Known) (name : List ℕ) (place : ℕ) : Type 0 where
@@ -36,6 +47,12 @@ module _ (office : Office) (known : Known) (is : known ≡ known_of_office offic
 
   pub no_named : (name : List ℕ) → None ≡ host_named (names_of known.hosts) name → host_at office.hosts name ≡ Err NoHost
   no_named name e = ap (at NoHost office.hosts) (sym (host_found name) ∙ sym e)
+
+  -- the host of an index
+  pub host_of : (place : ℕ) (index : Index) → slice_get known.hosts place ≡ Some index
+      → (host : Host) × (slice_get office.hosts place ≡ Some host)
+  host_of place index e =
+      let w = index_at 0 office.hosts place index (sym (ap (λ (k : Known). slice_get k.hosts place) is) ∙ e) in (w.0, w.1)
 
   -- what the index at the host's place says
   pub index_named : (place : ℕ) (host : Host) (index : Index) → slice_get office.hosts place ≡ Some host

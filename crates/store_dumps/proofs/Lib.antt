@@ -1,11 +1,12 @@
 pub mod Running
 pub mod Aborts
 pub mod Hosts
-pub mod Opens
 pub mod Removes
 pub mod Counting
-pub mod Holding
 pub mod Seen
 pub mod Staging
 pub mod Staged
 pub mod Puts
+pub mod Gaining
+pub mod Bases
+pub mod Opens

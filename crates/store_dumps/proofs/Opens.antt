@@ -1,18 +1,19 @@
 -- What an opening of a dump leaves.
-use Rattle.std.specs.Prelude.{◌≡◌, ◌<◌, ◌+◌, ◌==◌, ℕ, Bool, true, false, List, [], ◌∷◌, ◌++◌, nat_le, is_some, Option, Some, None, Ok, Err, slice_get, if◌then◌else◌}
+--     no_host, refused_by      the rule that memory finds is that of the model
+--     runs_base_opened, runs_base_memory, runs_base_fault      after its base was read, or wasn't
+use Rattle.std.specs.Prelude.{◌≡◌, ◌<◌, ◌+◌, ◌==◌, ℕ, Bool, true, false, List, [], ◌∷◌, ◌++◌, nat_le, is_some, Option, Some, None, Result, Ok, Err, slice_get, if◌then◌else◌}
 use Rattle.std.specs.List.{position_from}
 use Rattle.std.proofs.Common.{refl, sym, ap, ◌∙◌, subst, arith}
-use Rattle.std.proofs.Common.{get_or, length}
-use Rattle.std.proofs.lemmas.Option.{slice_get_read}
+use Rattle.fault_counts.specs.Counts.{Counted}
 use Rattle.disk_trait.specs.declared.ids.PoolId.{PoolId}
 use Rattle.disk_trait.specs.declared.disk.Disk.{Ghosts as DiskGhosts}
 use Rattle.pool_name.specs.declared.namer.Namer.{Ghosts as NamerGhosts}
 use Rattle.attr_records.specs.Items.{Tree}
 use Rattle.backup_rules.specs.declared.lines.Kind.{Kind}
-use Rattle.backup_rules.specs.declared.lines.Kind.TheVariants.{Full}
 use Rattle.backup_index.specs.Index.{Index}
 use Rattle.merge_view.specs.Views.{Rows}
 use Rattle.stored_trees.specs.Resolved.{resolved}
+use Rattle.stored_trees.specs.ResolvedLaws.{AreTold-kept}
 use Rattle.stored_trees.specs.Occurrences.{occurrences}
 use Rattle.office_catalog.specs.Known.{Known, host_named, names_of}
 use Rattle.open_sessions.specs.declared.sessions.OpenDump.{OpenDump}
@@ -21,34 +22,39 @@ use Rattle.open_sessions.specs.declared.sessions.Sessions.{Sessions}
 use Rattle.open_sessions.specs.Opened.{AreRowsOf, IsDump, IsRestore, AreSessions, claims_in, claims_in_dumps, claims_in_restores}
 use Rattle.open_sessions.specs.SessionLaws.{dump_index_of_host-sessions, claims_in_dumps-push}
 use Rattle.office_model.specs.declared.answer.Answer.TheVariants.{Dump as DumpAnswer}
+use Rattle.office_model.specs.declared.event.Event.{Event}
 use Rattle.office_model.specs.declared.event.Event.TheVariants.{OpenDump as OpenDumpEvent}
 use Rattle.office_model.specs.declared.refusal.BrokenRule.{BrokenRule}
-use Rattle.office_model.specs.declared.refusal.BrokenRule.TheVariants.{NoHost, SessionOpen, NumbersSpent}
+use Rattle.office_model.specs.declared.refusal.BrokenRule.TheVariants.{NoHost, NoBackup, SessionOpen, NumbersSpent}
+use Rattle.office_model.specs.declared.refusal.Refusal.{Refusal}
+use Rattle.office_model.specs.declared.refusal.Refusal.TheVariants.{Broken, Halted, DiskFault, Damaged, Memory}
 use Rattle.office_model.specs.declared.session.SessionName.{SessionName}
 use Rattle.office_model.specs.Meaning.{Carried, Judged, ◌>>=◌, ◌>>◌, breaks}
 use Rattle.office_model.specs.Office.{Office, Host, Dump, Names, durable, dump_index_of_host, number_limit, last_sequence}
-use Rattle.office_model.specs.Parts.{host_at}
+use Rattle.office_model.specs.Parts.{host_at, lines_of}
 use Rattle.office_model.specs.laws.SoundLaws.{IsSound-carried}
 use Rattle.office_model.specs.events.OpenDump as OpenDumpModel
 use Rattle.office_files.specs.Pairs.{AtEachPair, pairs_push}
 use Rattle.office_files.specs.Pooled.{contents_of}
-use Rattle.pool_changes.specs.Kept.{slots_of}
 use Rattle.store_parts.specs.declared.parts.StoreParts.{StoreParts}
 use Rattle.store_parts.specs.Held.{given}
 use Rattle.store_parts.specs.States.{slots, IsRunning}
-use Rattle.store_parts.specs.Runs.{Runs}
-use Rattle.store_dumps.specs.Claims.{LetsGo}
-use Rattle.store_dumps.specs.ClaimLaws.{lets_go_none}
-use Rattle.store_dumps.specs.Opening.{opening_rule, session_of, IsFresh, IsOpened}
+use Rattle.store_parts.specs.Runs.{Runs, Reads}
+use Rattle.store_parts.specs.RunLaws.{runs_reads, runs_memory, runs_read_fault, counted_fine}
+use Rattle.store_dumps.specs.Base.{has_base, IsBase, BeginsWith, IsReadFault}
+use Rattle.store_dumps.specs.Claims.{Gains}
+use Rattle.store_dumps.specs.Opening.{opening_rule, session_of, IsFresh, IsOpened, claims_at_first, HasOpened, HasKept}
+use Rattle.store_dumps.proofs.Bases.{rows_given, base_there, no_base, lines_are}
+use Rattle.store_dumps.proofs.Gaining.{running_gains}
 use Rattle.store_dumps.proofs.Hosts.{IsNamed, named_host, no_named, index_named}
-use Rattle.store_dumps.proofs.Running.{running_let_go, runs_kept}
+use Rattle.store_dumps.proofs.Running.{Makes, runs_kept, runs_read_then, runs_kept_memory}
 
 -- ---- the model's rules
 
 judged_from : {B : Type 0} (is_open : Bool) (next sequence : ℕ) (rest : Judged B)
     → (breaks SessionOpen is_open >>
     (breaks NumbersSpent (nat_le number_limit next) >> (breaks NumbersSpent (nat_le last_sequence sequence) >> rest)))
-    ≡ (opening_rule is_open next sequence >> rest)
+    ≡ (opening_rule true is_open next sequence >> rest)
 judged_from true next sequence rest = refl
 judged_from false next sequence rest = second (nat_le number_limit next)
   where
@@ -78,12 +84,13 @@ opened office host kind now base = record {
 pub judged_at : (name : List ℕ) (kind : Kind) (now : ℕ) (office : Office) (place : ℕ) (host : Host) (base : Tree)
     → host_at office.hosts name ≡ Ok (record { index = place; value = host }) → OpenDumpModel.base_of kind host.backups ≡ Ok base
     → OpenDumpModel.carried name kind now office
-    ≡ (opening_rule (is_some (dump_index_of_host office.dumps place)) host.next office.sequence >> Ok (opened office place kind now base))
+    ≡ (opening_rule true (is_some (dump_index_of_host office.dumps place)) host.next office.sequence
+    >> Ok (opened office place kind now base))
 judged_at name kind now office place host base at is =
     rw (at, is) (ap (λ (j : Judged (List Dump)). j >>= made)
     (judged_from (is_some (dump_index_of_host office.dumps place)) host.next office.sequence
     (Ok (office.dumps ++ OpenDumpModel.new_dump (OpenDumpModel.next_session office) place kind now base ∷ [])))
-    ∙ moved (opening_rule (is_some (dump_index_of_host office.dumps place)) host.next office.sequence)
+    ∙ moved (opening_rule true (is_some (dump_index_of_host office.dumps place)) host.next office.sequence)
     (office.dumps ++ OpenDumpModel.new_dump (OpenDumpModel.next_session office) place kind now base ∷ []))
   where
     made : List Dump → Judged Carried
@@ -131,7 +138,7 @@ module _ (given : PoolId → Type 0) (contents : PoolId → List ℕ) (office : 
 
 pub claims_opened : (old new : Sessions) (epoch place : ℕ) (kind : Kind) (now : ℕ) (rows : Rows) (name : SessionName)
     → IsOpened old epoch place kind now rows name new → (id : PoolId)
-    → claims_in new id ≡ claims_in old id + (occurrences id rows + occurrences id rows)
+    → claims_in new id ≡ claims_in old id + claims_at_first rows id
 claims_opened old new epoch place kind now rows name opened id =
     omega (
       arith,
@@ -142,24 +149,18 @@ claims_opened old new epoch place kind now rows name opened id =
       ap (occurrences id) opened.fresh.tree_is,
     )
 
-pub opened_alike : (old new : Sessions) (epoch epoch' place : ℕ) (kind : Kind) (now : ℕ) (rows rows' : Rows) (name : SessionName)
-    → epoch ≡ epoch' → rows ≡ rows' → IsOpened old epoch place kind now rows name new → IsOpened old epoch' place kind now rows' name new
-opened_alike old new epoch epoch' place kind now rows rows' name same same_rows opened =
-    subst (λ (r : Rows). IsOpened old epoch' place kind now r name new) same_rows
-    (subst (λ (e : ℕ). IsOpened old e place kind now rows name new) same opened)
+none_some : {A : Type 0} (x : A) → None ≡ Some x → ⊥
+none_some x e = absurd cc
 
-pub rule_next : (rule : Option BrokenRule) (is_open : Bool) (next next' sequence : ℕ) → next ≡ next'
-    → rule ≡ opening_rule is_open next sequence → rule ≡ opening_rule is_open next' sequence
-rule_next rule is_open next next' sequence same is = is ∙ ap (λ (m : ℕ). opening_rule is_open m sequence) same
+one_of_two : (n : ℕ) → 0 < n + n → 0 < n
+one_of_two n h = omega (arith, h)
 
-pub index_read : (hosts found : List Index) (place : ℕ) (index : Index) → found ≡ hosts → place < length hosts
-    → index ≡ get_or found place index
-    → slice_get hosts place ≡ Some index
-index_read hosts found place index same within is =
-    slice_get_read hosts (length hosts) place index refl within (is ∙ ap (λ (l : List Index). get_or l place index) same)
+-- a call failed by a fault of the disk
+abbrev pub Failed : {T : Type 0} → Result T Refusal → Type 0
+Failed {T} result = result ≡ Err DiskFault
 
-no_rows : (given : PoolId → Type 0) (contents : PoolId → List ℕ) → AreRowsOf given contents []
-no_rows given contents = record { whole = record { in_order = tt; no_marks = tt }; told = tt }
+pub not_failed : {T : Type 0} (x : T) → Failed (Ok x) → ⊥
+not_failed x e = cc
 
 module _ {D N S : Type 0} {d : DiskGhosts D} {n : NamerGhosts N S} where
   -- ---- refusals
@@ -171,66 +172,157 @@ module _ {D N S : Type 0} {d : DiskGhosts D} {n : NamerGhosts N S} where
 
     module _ (place : ℕ) (index : Index) (found : Some place ≡ host_named (names_of old.catalog.hosts) name)
         (there : slice_get old.catalog.hosts place ≡ Some index) where
+      abbrev rule_for : Bool → Option BrokenRule
+      rule_for has =
+          opening_rule has (is_some (position_from (λ dump. dump.host == place) 0 old.sessions.dumps.items))
+          index.next old.sessions.sequence
+
+      -- the rule that memory finds
       abbrev RuleIs : Option BrokenRule → Type 0
-      RuleIs rule =
-          rule ≡ opening_rule (is_some (position_from
-          (λ dump. dump.host == place) 0 old.sessions.dumps.items)) index.next old.sessions.sequence
+      RuleIs rule = rule ≡ rule_for (has_base kind index.lines)
 
-      -- the rule that memory finds is that of the model
-      pub judged_by : (rule : Option BrokenRule) → RuleIs rule → (office : Office) (names : Names) (at : IsRunning old office names)
-          → (base : Tree) → OpenDumpModel.base_of kind
-          (named_host (durable office) old.catalog at.catalog_is name place found).host.backups ≡ Ok base
-          → OpenDumpModel.carried name kind now office ≡ (rule >> Ok (opened office place kind now base))
-      judged_by rule is office names at base base_is =
-          judged_at name kind now office place w.host base w.judged base_is
-          ∙ (λ i. opening_rule (is_some (open_same i)) (next_same i) (sequence_same i) >> Ok (opened office place kind now base))
-          ∙ ap (λ (r : Option BrokenRule). r >> Ok (opened office place kind now base)) (sym is)
+      -- is that of the model
+      module _ (office : Office) (names : Names) (at : IsRunning old office names) where
+        abbrev named : IsNamed (durable office) old.catalog name place
+        named = named_host (durable office) old.catalog at.catalog_is name place found
+
+        has_same : has_base kind index.lines ≡ has_base kind (lines_of named.host.backups)
+        has_same = ap (has_base kind) (lines_are old place index there office names at named.host named.is_host)
+
+        judged_has : (base : Tree) → OpenDumpModel.base_of kind named.host.backups ≡ Ok base
+            → OpenDumpModel.carried name kind now office ≡ (rule_for true >> Ok (opened office place kind now base))
+        judged_has base base_is =
+            judged_at name kind now office place named.host base named.judged base_is
+            ∙ (λ i. opening_rule true (is_some (open_same i)) (next_same i) (sequence_same i) >> Ok (opened office place kind now base))
+          where
+            open_same : dump_index_of_host office.dumps place ≡ position_from (λ dump. dump.host == place) 0 old.sessions.dumps.items
+            open_same = dump_index_of_host-sessions (given (slots old))
+                (contents_of at.all) office.dumps old.sessions.dumps.items at.sessions.dumps place
+
+            next_same : named.host.next ≡ index.next
+            next_same = sym (ap (λ (i : Index). i.next)
+                (index_named (durable office) old.catalog at.catalog_is place named.host index named.is_host there))
+
+            sequence_same : office.sequence ≡ old.sessions.sequence
+            sequence_same = sym at.sessions.sequence
+
+        judged_lacks : has_base kind index.lines ≡ false → OpenDumpModel.carried name kind now office ≡ Err NoBackup
+        judged_lacks lacks = rw (named.judged, no_base kind named.host.backups (sym has_same ∙ lacks)) refl
+
+      pub refused_by : (rule : BrokenRule) → RuleIs (Some rule) → (office : Office) (names : Names) → IsRunning old office names
+          → OpenDumpModel.carried name kind now office ≡ Err rule
+      refused_by rule is office names at = step (has_base kind index.lines) refl
         where
-          w : IsNamed (durable office) old.catalog name place
-          w = named_host (durable office) old.catalog at.catalog_is name place found
+          step : (has : Bool) → has_base kind index.lines ≡ has → OpenDumpModel.carried name kind now office ≡ Err rule
+          step true e =
+              let base = base_there kind (named office names at).host.backups (sym (has_same office names at) ∙ e) in
+              judged_has office names at base.0 base.1
+              ∙ ap (λ (r : Option BrokenRule). r >> Ok (opened office place kind now base.0)) (sym (is ∙ ap rule_for e))
+          step false e =
+              judged_lacks office names at e
+              ∙ ap (λ (r : Option BrokenRule). r >> Ok (opened office place kind now [])) (sym (is ∙ ap rule_for e))
 
-          open_same : dump_index_of_host office.dumps place ≡ position_from (λ dump. dump.host == place) 0 old.sessions.dumps.items
-          open_same = dump_index_of_host-sessions (given (slots old))
-              (contents_of at.all) office.dumps old.sessions.dumps.items at.sessions.dumps place
+      module _ (is : RuleIs None) where
+        base_wanted : has_base kind index.lines ≡ true
+        base_wanted = step (has_base kind index.lines) refl
+          where
+            step : (has : Bool) → has_base kind index.lines ≡ has → has_base kind index.lines ≡ true
+            step true e = e
+            step false e = absurd (none_some NoBackup (is ∙ ap rule_for e))
 
-          next_same : w.host.next ≡ index.next
-          next_same = sym (ap (λ (i : Index). i.next)
-              (index_named (durable office) old.catalog at.catalog_is place w.host index w.is_host there))
+        opened_by : (office : Office) (names : Names) (at : IsRunning old office names) (base : Tree)
+            → OpenDumpModel.base_of kind (named office names at).host.backups ≡ Ok base
+            → OpenDumpModel.carried name kind now office ≡ Ok (opened office place kind now base)
+        opened_by office names at base base_is =
+            judged_has office names at base base_is
+            ∙ ap (λ (r : Option BrokenRule). r >> Ok (opened office place kind now base)) (sym (is ∙ ap rule_for base_wanted))
 
-          sequence_same : office.sequence ≡ old.sessions.sequence
-          sequence_same = sym at.sessions.sequence
+        -- ---- the dump is open
 
-  -- ---- a full dump
+        abbrev Event' : Event
+        Event' = OpenDumpEvent name kind now
 
-  module _ (old : StoreParts D N S d n) (name : List ℕ) (now : ℕ) (place : ℕ) (index : Index)
-      (found : Some place ≡ host_named (names_of old.catalog.hosts) name) (there : slice_get old.catalog.hosts place ≡ Some index) where
-    pub runs_opened_full : (new : StoreParts D N S d n) (session : SessionName) → RuleIs old name Full now place index found there None
-        → new.journal ≡ old.journal → new.pool ≡ old.pool → new.catalog ≡ old.catalog → new.views ≡ old.views → new.halted ≡ old.halted
-        → IsOpened old.sessions old.catalog.epoch place Full now [] session new.sessions
-        → Runs old (OpenDumpEvent name Full now) (Ok (DumpAnswer session)) new
-    runs_opened_full new session rule journal pool catalog views halted opened =
-        runs_kept old new (OpenDumpEvent name Full now) (DumpAnswer session) journal
-        (λ office names at.
-        let epoch : old.catalog.epoch ≡ office.epoch = ap (λ (k : Known). k.epoch) at.catalog_is in
-        let next : Office = with_fresh office place Full now [] in
-        let answer : session ≡ OpenDumpModel.next_session office = opened.name_is ∙ (λ i. session_of (epoch i) (at.sessions.sequence i)) in
-        let judged : OpenDumpModel.carried name Full now office ≡ Ok (record { answer = DumpAnswer session; after = next })
-        = judged_by old name Full now place index found there None rule office names at [] refl
-        ∙ ap (λ (s : SessionName). Ok (record { answer = DumpAnswer s; after = next })) (sym answer) in
-        record {
-          next = next;
-          judged = judged;
-          running = running_let_go old new office next names (λ id. 0)
-              (claims_in old.sessions) at.working at.claimed journal catalog views halted
-              (subst (λ p. LetsGo (λ id. 0) (slots old) (slots_of p.names)) (sym pool)
-              (lets_go_none (slots old) (slots old) (λ id. 0) (λ id. refl)))
-              (ap (λ p. p.in_one_file) pool)
-              (λ id. omega (arith, claims_opened old.sessions new.sessions old.catalog.epoch place Full now [] session opened id))
-              (sessions_opened (given (slots old)) (contents_of at.all) office place Full now []
-              (no_rows (given (slots old)) (contents_of at.all))
-              old.sessions new.sessions old.catalog.epoch session epoch at.sessions opened)
-              refl refl
-              (IsSound-carried office names (OpenDumpEvent name Full now)
-              (record { answer = DumpAnswer session; after = next }) at.sound judged);
-        })
-        (λ office names. refl)
+        runs_opened : (new : StoreParts D N S d n) (session : SessionName) (rows : Rows) → BeginsWith old place kind rows
+            → HasOpened old place kind now rows session new → Runs old Event' (Ok (DumpAnswer session)) new
+        runs_opened new session rows begins has =
+            runs_kept old new Event' (DumpAnswer session) has.journal makes (λ office names. refl) refl
+          where
+            makes : (office : Office) (names : Names) → IsRunning old office names → Makes Event' (DumpAnswer session) office names new
+            makes office names at = record { next = next; judged = judged; running = running }
+              where
+                base : IsBase (given (slots old)) (contents_of at.all) kind (named office names at).host.backups rows
+                base = begins office names at (named office names at).host (named office names at).is_host
+                    (sym (has_same office names at) ∙ base_wanted)
+
+                next : Office
+                next = with_fresh office place kind now (resolved (contents_of at.all) rows)
+
+                epoch : old.catalog.epoch ≡ office.epoch
+                epoch = ap (λ (k : Known). k.epoch) at.catalog_is
+
+                answer : session ≡ OpenDumpModel.next_session office
+                answer = has.sessions.name_is ∙ (λ i. session_of (epoch i) (at.sessions.sequence i))
+
+                judged : OpenDumpModel.carried name kind now office ≡ Ok (record { answer = DumpAnswer session; after = next })
+                judged =
+                    opened_by office names at (resolved (contents_of at.all) rows) base.is
+                    ∙ ap (λ (s : SessionName). Ok (record { answer = DumpAnswer s; after = next })) (sym answer)
+
+                gains : Gains (claims_at_first rows) (slots old) (slots new)
+                gains = has.claims (λ id some. rows_given (given (slots old)) (contents_of at.all) id rows base.rows_of.told
+                    (one_of_two (occurrences id rows) some))
+
+                rows_of : AreRowsOf (given (slots new)) (contents_of at.all) rows
+                rows_of = record {
+                  whole = base.rows_of.whole;
+                  told = AreTold-kept (given (slots old)) (given (slots new)) (contents_of at.all) (contents_of at.all)
+                      (λ id g. ((gains id).given ∙ g, refl)) rows base.rows_of.told;
+                }
+
+                running : IsRunning new next names
+                running = running_gains old new office next names (claims_at_first rows) at gains has.journal has.catalog has.counts has.views
+                    has.halted has.form
+                    (λ id. claims_opened old.sessions new.sessions old.catalog.epoch place kind now rows session has.sessions id)
+                    (λ are. sessions_opened (given (slots new)) (contents_of at.all) office place kind now rows rows_of
+                    old.sessions new.sessions old.catalog.epoch session epoch are has.sessions)
+                    refl refl
+                    (IsSound-carried office names Event' (record { answer = DumpAnswer session; after = next }) at.sound judged)
+
+  -- ---- its base is read before
+
+  module _ (old mid : StoreParts D N S d n) (name : List ℕ) (kind : Kind) (now : ℕ) (reads : Reads old mid) {failed : Type 0}
+      (counted : Counted (d.fault_count old.journal.disk) (d.fault_count mid.journal.disk) failed) where
+    pub runs_base_opened : (place : ℕ) (index : Index) (found : Some place ≡ host_named (names_of old.catalog.hosts) name)
+        (there : slice_get old.catalog.hosts place ≡ Some index) → RuleIs old name kind now place index found there None
+        → (failed → ⊥) → (new : StoreParts D N S d n) (session : SessionName) (rows : Rows) → BeginsWith mid place kind rows
+        → HasOpened mid place kind now rows session new → Runs old (OpenDumpEvent name kind now) (Ok (DumpAnswer session)) new
+    runs_base_opened place index found there is fine new session rows begins has =
+        runs_read_then old mid new (OpenDumpEvent name kind now) (Ok (DumpAnswer session)) reads counted fine
+        (runs_opened mid name kind now place index
+        (subst (λ (k : Known). Some place ≡ host_named (names_of k.hosts) name) (sym reads.catalog_same) found)
+        (subst (λ (k : Known). slice_get k.hosts place ≡ Some index) (sym reads.catalog_same) there)
+        (subst (λ (s : Sessions). None ≡ opening_rule (has_base kind index.lines)
+        (is_some (position_from (λ dump. dump.host == place) 0 s.dumps.items)) index.next s.sequence) (sym reads.sessions_same) is)
+        new session rows begins has)
+
+    pub runs_base_memory : (failed → ⊥) → (new : StoreParts D N S d n) → HasKept mid new
+        → Runs old (OpenDumpEvent name kind now) (Err Memory) new
+    runs_base_memory fine new kept =
+        runs_read_then old mid new (OpenDumpEvent name kind now) (Err Memory) reads counted fine
+        (runs_kept_memory mid new (OpenDumpEvent name kind now) kept)
+
+  -- it wasn't read
+  pub runs_base_fault : (old mid : StoreParts D N S d n) (name : List ℕ) (kind : Kind) (now : ℕ) (refusal : Refusal) {T : Type 0}
+      → Reads old mid
+      → Counted (d.fault_count old.journal.disk) (d.fault_count mid.journal.disk) (Failed {T = T} (Err refusal))
+      → IsReadFault old refusal → Runs old (OpenDumpEvent name kind now) (Err refusal) mid
+  runs_base_fault old mid name kind now (Damaged file found) reads counted fault =
+      runs_reads old mid (OpenDumpEvent name kind now) (Err (Damaged file found)) reads
+      (λ office names at. absurd (fault office names at)) (λ office names at. absurd (fault office names at)) tt
+      (counted_fine counted (λ e. cc) (λ e. cc))
+  runs_base_fault old mid name kind now DiskFault reads counted fault =
+      runs_read_fault old mid (OpenDumpEvent name kind now) reads (λ office names. refl) counted refl
+  runs_base_fault old mid name kind now Memory reads counted fault =
+      runs_memory old mid (OpenDumpEvent name kind now) reads (counted_fine counted (λ e. cc) (λ e. e))
+  runs_base_fault old mid name kind now Halted reads counted fault = absurd fault
+  runs_base_fault old mid name kind now (Broken rule) reads counted fault = absurd fault

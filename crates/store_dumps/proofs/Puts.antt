@@ -60,6 +60,7 @@ use Rattle.office_model.specs.Frames.{bytes_of as item_bytes}
 use Rattle.office_model.specs.Meaning.{Carried, Judged, Reply, Stages}
 use Rattle.office_model.specs.Office.{Office, Dump, Names, durable}
 use Rattle.office_model.specs.Step.{Running, IsStep, MayFault, meaning_of}
+use Rattle.office_model.specs.History.{IsUndamaged}
 use Rattle.office_model.specs.UsedNames.{AreNamesAfter, IsNamedBy}
 use Rattle.office_model.specs.laws.SoundLaws.{IsSound-carried}
 use Rattle.office_model.specs.events.Put as PutEvent
@@ -72,12 +73,12 @@ use Rattle.store_parts.specs.States.{slots, IsWorking, IsRunning}
 use Rattle.store_parts.specs.Runs.{MayRecover, Steps, Runs}
 use Rattle.store_parts.specs.StepLaws.{names_refused, recover_before}
 use Rattle.store_parts.specs.RunLaws.{counted_fine, counted_failed}
+use Rattle.store_parts.specs.StagingLaws.{with_used, working_staged, crash_staged}
 use Rattle.store_dumps.specs.Alike.{AreAlike}
 use Rattle.store_dumps.specs.Claims.{LetsGo, claims_of_content}
 use Rattle.store_dumps.specs.Putting.{record_for, content_found, TakesIn, refusal_of, refused_put}
 use Rattle.store_dumps.proofs.Aborts.{place_of, no_dump, IsFound, dump_found}
 use Rattle.store_dumps.proofs.Running.{running_let_go}
-use Rattle.store_dumps.proofs.Staging.{with_used, working_staged, crash_staged}
 use Rattle.store_dumps.proofs.Staged.{StagedAs, MissedAs, staged_as, missed_as, full_as}
 
 -- ---- items and records
@@ -325,7 +326,7 @@ module _ {D N S : Type 0} {d : DiskGhosts D} {n : NamerGhosts N S} where
             names' = with_used names (staged office names at).has.used'
 
             working : IsWorking mid office names'
-            working = working_staged old mid office names at refl refl refl refl form stays (staged office names at).has
+            working = working_staged old mid office names at refl refl refl refl refl form stays (staged office names at).has
 
             enough : (id : PoolId) → claims_of_content (content_found (node_at dump.tree path)) id ≤ claims_of (slots mid id)
             enough id =
@@ -359,7 +360,7 @@ module _ {D N S : Type 0} {d : DiskGhosts D} {n : NamerGhosts N S} where
             unfolding working_staged
             sessions_put new dumps restores sequence =
                 let f = found office names at in
-                let w = working_staged old mid office names at refl refl refl refl form stays (staged office names at).has in
+                let w = working_staged old mid office names at refl refl refl refl refl form stays (staged office names at).has in
                 let contents = contents_of (staged office names at).has.all' in
                 record {
                   dumps = subst (λ (items : List OpenDump). AtEachPair (λ i. IsDump (given (slots mid)) contents)
@@ -377,7 +378,7 @@ module _ {D N S : Type 0} {d : DiskGhosts D} {n : NamerGhosts N S} where
 
           -- the row was put
           pub runs_put : (new : StoreParts D N S d n) {failed : Type 0} → new.journal ≡ journal → new.catalog ≡ old.catalog
-              → new.views ≡ old.views
+              → new.counts ≡ old.counts → new.views ≡ old.views
               → new.halted ≡ old.halted
               → (((id : PoolId) → claims_of_content (content_found (node_at dump.tree path)) id ≤ claims_of (slots mid id))
               → LetsGo (λ id. claims_of_content (content_found (node_at dump.tree path)) id) (slots mid) (slots new))
@@ -386,21 +387,23 @@ module _ {D N S : Type 0} {d : DiskGhosts D} {n : NamerGhosts N S} where
               → new.sessions.restores.items ≡ old.sessions.restores.items → new.sessions.sequence ≡ old.sessions.sequence
               → Counted (d.fault_count old.journal.disk) (d.fault_count journal.disk) failed → (failed → ⊥) → Runs old Event' (Ok Done) new
           unfolding working_staged
-          runs_put new same catalog views halted go kept dumps restores sequence counted fine = record {
+          runs_put new same catalog counts views halted go kept dumps restores sequence counted fine = record {
             steps = λ office names at.
                 let s = staged office names at in
                 let judged = put_judged office names at rule s.free in
                 record {
                   next = Running (next office names at) (names' office names at);
                   step = (judged, names_after office names at s.has.used' rule s.free s.named (Ok Done), refl);
+                  undamaged = tt;
                   in_state = running_let_go mid new office (next office names at) (names' office names at)
                       (λ id. claims_of_content (content_found (node_at dump.tree path)) id) total
-                      (working_staged old mid office names at refl refl refl refl form stays s.has) s.claims same catalog views halted
-                      (go (enough office names at)) kept (claims_put office names at new.sessions dumps restores)
+                      (working_staged old mid office names at refl refl refl refl refl form stays s.has) s.claims same catalog counts
+                      views halted (go (enough office names at)) kept (claims_put office names at new.sessions dumps restores)
                       (sessions_put office names at new.sessions dumps restores sequence) refl refl
                       (IsSound-carried office names Event' (record { answer = Done; after = next office names at }) at.sound judged);
                 };
             crash = λ office names at. crash_may new same office names at;
+            in_kind = refl;
             counted = counted_at new same (counted_fine counted fine (λ x. absurd cc));
           }
 
@@ -408,23 +411,25 @@ module _ {D N S : Type 0} {d : DiskGhosts D} {n : NamerGhosts N S} where
           pub runs_put_back : (new : StoreParts D N S d n) {failed : Type 0} (fault : PutFault)
               → ((broken : PutRule) → fault ≡ PF.Broken broken → IsTree is_dir dump.tree
               → broken_rule is_dir dump.tree path (is_dir_item item) false ≡ Some broken)
-              → new.journal ≡ journal → new.catalog ≡ old.catalog → new.views ≡ old.views → new.halted ≡ old.halted
+              → new.journal ≡ journal → new.catalog ≡ old.catalog → new.counts ≡ old.counts → new.views ≡ old.views
+              → new.halted ≡ old.halted
               → (((id : PoolId) → claims_of_content content id ≤ claims_of (slots mid id))
               → LetsGo (λ id. claims_of_content content id) (slots mid) (slots new))
               → new.pool.in_one_file ≡ pool.in_one_file → AreAlike old.sessions new.sessions
               → Counted (d.fault_count old.journal.disk) (d.fault_count journal.disk) failed → (failed → ⊥)
               → Runs old Event' (Err (refused_put fault)) new
           unfolding working_staged
-          runs_put_back new PF.Memory says same catalog views halted go kept alike counted fine = record {
+          runs_put_back new PF.Memory says same catalog counts views halted go kept alike counted fine = record {
             steps = λ office names at.
                 let s = staged office names at in
-                let w = working_staged old mid office names at refl refl refl refl form stays s.has in
+                let w = working_staged old mid office names at refl refl refl refl refl form stays s.has in
                 let contents = contents_of s.has.all' in
                 record {
                   next = Running office (names' office names at);
                   step = (refl, names_after office names at s.has.used' rule s.free s.named (Err R.Memory), refl);
+                  undamaged = tt;
                   in_state = running_let_go mid new office office (names' office names at) (claims_of_content content) total w s.claims
-                      same catalog views halted (go (λ id. omega (arith, s.claims id))) kept
+                      same catalog counts views halted (go (λ id. omega (arith, s.claims id))) kept
                       (λ id. omega (
                         arith,
                         ap (λ items. claims_in_dumps items id) alike.dumps,
@@ -441,14 +446,16 @@ module _ {D N S : Type 0} {d : DiskGhosts D} {n : NamerGhosts N S} where
                       refl refl at.sound;
                 };
             crash = λ office names at. crash_may new same office names at;
+            in_kind = tt;
             counted = counted_at new same (counted_fine counted fine (λ x. absurd cc));
           }
-          runs_put_back new (PF.Broken broken) says same catalog views halted go kept alike counted fine = record {
+          runs_put_back new (PF.Broken broken) says same catalog counts views halted go kept alike counted fine = record {
             steps = λ office names at.
                 let tree = tree_is office names at in
                 absurd (none_some broken (rule tree
                 ∙ large_later dump.tree path (is_dir_item item) (is_large item) broken (says broken refl tree)));
             crash = λ office names at. crash_may new same office names at;
+            in_kind = tt;
             counted = counted_at new same (counted_fine counted fine (λ x. absurd cc));
           }
 
@@ -461,7 +468,7 @@ module _ {D N S : Type 0} {d : DiskGhosts D} {n : NamerGhosts N S} where
 
           running_missed : IsRunning mid office (with_used names missed.has.used')
           running_missed = record {
-            working = working_staged old mid office names at refl refl refl refl form stays missed.has;
+            working = working_staged old mid office names at refl refl refl refl refl form stays missed.has;
             claimed = missed.claims;
           }
 
@@ -478,11 +485,12 @@ module _ {D N S : Type 0} {d : DiskGhosts D} {n : NamerGhosts N S} where
 
           steps_missed : (refusal : Refusal)
               → IsStep (Running office names) Event' (Err refusal) (Running office (with_used names missed.has.used'))
-              → Steps (Running office names) Event' (Err refusal) mid
-          steps_missed refusal step = record {
+              → IsUndamaged (Err refusal) → Steps (Running office names) Event' (Err refusal) mid
+          steps_missed refusal step undamaged = record {
             next = Running office
                 (with_used names missed.has.used');
             step = step;
+            undamaged = undamaged;
             in_state = running_missed;
           }
 
@@ -497,14 +505,16 @@ module _ {D N S : Type 0} {d : DiskGhosts D} {n : NamerGhosts N S} where
             (early ((meaning_of Event').carried office names), tt, refl),
             names_missed P.Disk some misses office names at R.DiskFault,
             refl,
-          );
+          ) tt;
           crash = λ office names at. crash_may mid refl office names at;
+          in_kind = tt;
           counted = counted_failed counted refl refl;
         }
         runs_missed P.Memory some misses damaged given kind counted = record {
           steps = λ office names at. steps_missed P.Memory some misses office names at R.Memory
-              (refl, names_missed P.Memory some misses office names at R.Memory, refl);
+              (refl, names_missed P.Memory some misses office names at R.Memory, refl) tt;
           crash = λ office names at. crash_may mid refl office names at;
+          in_kind = tt;
           counted = counted_fine counted (λ x. absurd cc) (λ x. absurd cc);
         }
         runs_missed (P.Damaged id found) some misses damaged given kind counted = record {
@@ -512,6 +522,7 @@ module _ {D N S : Type 0} {d : DiskGhosts D} {n : NamerGhosts N S} where
               (not_damaged n.digest_of (slots old) (uncertain old.journal) at.all (told old.journal) id found at.fits
               at.told_is (given id found refl) (damaged_seen n.digest_of (d.files old.journal.disk) id found (damaged id found refl)));
           crash = λ office names at. crash_may mid refl office names at;
+          in_kind = tt;
           counted = counted_fine counted (λ x. absurd cc) (λ x. absurd cc);
         }
         runs_missed P.ChainFull some misses damaged given kind counted = record {
@@ -523,7 +534,8 @@ module _ {D N S : Type 0} {d : DiskGhosts D} {n : NamerGhosts N S} where
             ),
             names_missed P.ChainFull some misses office names at (R.Broken ChainFull),
             refl,
-          );
+          ) tt;
           crash = λ office names at. crash_may mid refl office names at;
+          in_kind = tt;
           counted = counted_fine counted (λ x. absurd cc) (λ x. absurd cc);
         }

@@ -31,13 +31,14 @@ use Rattle.office_files.specs.Pooled.{contents_of}
 use Rattle.store_parts.specs.declared.parts.StoreParts.{StoreParts}
 use Rattle.store_parts.specs.Held.{given}
 use Rattle.store_parts.specs.States.{slots, IsRunning}
+use Rattle.store_parts.specs.HoldingLaws.{given_held, not_held}
+use Rattle.store_parts.specs.StagingLaws.{HasStaged}
 use Rattle.store_dumps.specs.Claims.{claims_of_content}
 use Rattle.store_dumps.specs.ClaimLaws.{one_of}
 use Rattle.store_dumps.specs.Putting.{TakesIn}
 use Rattle.store_dumps.proofs.Counting.{spent, unspent}
-use Rattle.store_dumps.proofs.Holding.{given_held, not_held}
 use Rattle.store_dumps.proofs.Seen.{takes_seen, misses_others, one_seen}
-use Rattle.store_dumps.proofs.Staging.{HasStaged, staged_none, staged_matches, staged_adds, staged_doomed, claims_matches, claims_adds, claims_doomed, set_there, adds_name}
+use Rattle.store_dumps.proofs.Staging.{staged_none, staged_matches, staged_adds, staged_doomed, claims_matches, claims_adds, claims_doomed, set_there, adds_name}
 
 some_is : (bytes : List ℕ) → 0 < length bytes → some_bytes bytes ≡ Some bytes
 some_is [] h = absurd (omega (arith, h))

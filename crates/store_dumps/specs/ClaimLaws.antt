@@ -1,5 +1,5 @@
 -- Laws of claims that are let go.
---     lets_go_none, lets_go_one, lets_go_then, lets_go_alike      none, one, and both of two
+--     lets_go_none, lets_go_same, lets_go_one, lets_go_then, lets_go_alike      none, one, and both of two
 --     lets_go_row      those of one row more
 --     gains_one, gains_then, gains_alike, gains_row      the same of claims that are added
 use Rattle.std.specs.Prelude.{◌≡◌, ◌<◌, ◌≤◌, ℕ, ◌+◌, ◌-◌, ◌==◌, Bool, true, false, List, [], ◌∷◌, ◌++◌, length, take, drop, Option, Some, None, if◌then◌else◌}
@@ -14,7 +14,7 @@ use Rattle.pool_index.specs.Items.{is_same_id as is_same_name}
 use Rattle.pool_changes.specs.declared.slot.Slot.{Slot}
 use Rattle.pool_changes.specs.declared.slot.Slot.TheVariants.{Live, Staged, Doomed}
 use Rattle.pool_changes.specs.Slots.{Slots, is_given, claims_of, claimed, let_go, one_id}
-use Rattle.pool_changes.specs.Kept.{IsSet}
+use Rattle.pool_changes.specs.Kept.{IsSet, IsSame}
 use Rattle.attr_tables.specs.Records.{is_same_id}
 use Rattle.attr_tables.specs.RecordLaws.{same_id, id_itself}
 use Rattle.attr_tables.specs.declared.records.Record.{Record}
@@ -101,6 +101,9 @@ one_of id other = if is_same_id id other then 1 else 0
 module _ (a b : Slots) where
   pub lets_go_none : (f : PoolId → ℕ) → ((id : PoolId) → f id ≡ 0) → LetsGo f a a
   lets_go_none f none id = subst (λ (n : ℕ). Loses n id (a id) (a id)) (sym (none id)) (loses_none id (a id))
+
+  pub lets_go_same : IsSame a b → LetsGo (λ id. 0) a b
+  lets_go_same same id = subst (Loses 0 id (a id)) (sym (same id)) (loses_none id (a id))
 
   pub lets_go_then : (c : Slots) (f g : PoolId → ℕ) → LetsGo f a b → LetsGo g b c → LetsGo (λ id. f id + g id) a c
   lets_go_then c f g first second id = loses_then id (f id) (g id) (a id) (b id) (c id) (first id) (second id)

@@ -1,5 +1,6 @@
 pub mod Claims
 pub mod ClaimLaws
 pub mod Alike
+pub mod Base
 pub mod Opening
 pub mod Putting

@@ -1,23 +1,36 @@
 -- A further open dump.
---     opening_rule is_open next sequence      the first rule that keeps a host's dump from being opened, but for those of its base
+--     opening_rule has_base is_open next sequence      the first rule that keeps a host's dump from being opened
 --     IsOpened old epoch host kind now base name new      the sessions have one dump more, whose rows are those of its base
-use Rattle.std.specs.Prelude.{◌≡◌, ℕ, ◌+◌, Bool, [], ◌∷◌, ◌++◌, nat_le, Option, Some, None, if◌then◌else◌}
+--     HasOpened old host kind now base name new      so have the parts of a store, and its rows and those of its base claim contents
+--     HasKept old new      the same is open, and claims the same
+use Rattle.std.specs.Prelude.{◌≡◌, ◌<◌, ℕ, ◌+◌, Bool, true, not, [], ◌∷◌, ◌++◌, nat_le, Option, Some, None, if◌then◌else◌}
+use Rattle.disk_trait.specs.declared.ids.PoolId.{PoolId}
+use Rattle.disk_trait.specs.declared.disk.Disk.{Ghosts as DiskGhosts}
+use Rattle.pool_name.specs.declared.namer.Namer.{Ghosts as NamerGhosts}
 use Rattle.backup_rules.specs.declared.lines.Kind.{Kind}
 use Rattle.merge_view.specs.Views.{Rows}
+use Rattle.stored_trees.specs.Occurrences.{occurrences}
+use Rattle.pool_changes.specs.Slots.{is_given}
+use Rattle.pool_changes.specs.Kept.{IsSame}
 use Rattle.office_model.specs.declared.refusal.BrokenRule.{BrokenRule}
-use Rattle.office_model.specs.declared.refusal.BrokenRule.TheVariants.{SessionOpen, NumbersSpent}
+use Rattle.office_model.specs.declared.refusal.BrokenRule.TheVariants.{NoBackup, SessionOpen, NumbersSpent}
 use Rattle.office_model.specs.declared.session.SessionName.{SessionName}
 use Rattle.office_model.specs.Office.{number_limit, last_sequence}
 use Rattle.open_sessions.specs.declared.sessions.OpenDump.{OpenDump}
 use Rattle.open_sessions.specs.declared.sessions.Sessions.{Sessions}
 use Rattle.open_sessions.specs.Opened.{base_of}
+use Rattle.store_parts.specs.declared.parts.StoreParts.{StoreParts}
+use Rattle.store_parts.specs.States.{slots}
+use Rattle.store_dumps.specs.Alike.{AreAlike}
+use Rattle.store_dumps.specs.Claims.{Gains}
 
-abbrev pub opening_rule : (is_open : Bool) (next sequence : ℕ) → Option BrokenRule
-opening_rule is_open next sequence =
-    if is_open then Some SessionOpen
+abbrev pub opening_rule : (has_base is_open : Bool) (next sequence : ℕ) → Option BrokenRule
+opening_rule has_base is_open next sequence =
+    if not has_base then Some NoBackup
+    else (if is_open then Some SessionOpen
     else (if nat_le number_limit next then Some NumbersSpent
     else (if nat_le last_sequence sequence then Some NumbersSpent
-    else None))
+    else None)))
 
 abbrev pub session_of : ℕ → ℕ → SessionName
 session_of epoch sequence = record { epoch = epoch; sequence = sequence }
@@ -39,3 +52,31 @@ pub record IsOpened (old : Sessions) (epoch host : ℕ) (kind : Kind) (now : ℕ
   pub dumps : new.dumps.items ≡ old.dumps.items ++ dump ∷ []
   pub restores : new.restores.items ≡ old.restores.items
   pub sequence : new.sequence ≡ old.sequence + 1
+
+-- how often a dump that begins with these rows claims a content: once for each row of its tree, and of its base
+abbrev pub claims_at_first : Rows → PoolId → ℕ
+claims_at_first base id = occurrences id base + occurrences id base
+
+module _ {D N S : Type 0} {d : DiskGhosts D} {n : NamerGhosts N S} where
+  -- the contents are claimed if the names are given ones
+  pub record HasOpened (old : StoreParts D N S d n) (host : ℕ) (kind : Kind) (now : ℕ) (base : Rows) (name : SessionName)
+      (new : StoreParts D N S d n) : Type 0 where
+    pub journal : new.journal ≡ old.journal
+    pub catalog : new.catalog ≡ old.catalog
+    pub counts : new.counts ≡ old.counts
+    pub views : new.views ≡ old.views
+    pub halted : new.halted ≡ old.halted
+    pub form : new.pool.in_one_file ≡ old.pool.in_one_file
+    pub sessions : IsOpened old.sessions old.catalog.epoch host kind now base name new.sessions
+    pub claims : ((id : PoolId) → 0 < claims_at_first base id → is_given (slots old id) ≡ true)
+        → Gains (claims_at_first base) (slots old) (slots new)
+
+  pub record HasKept (old new : StoreParts D N S d n) : Type 0 where
+    pub journal : new.journal ≡ old.journal
+    pub catalog : new.catalog ≡ old.catalog
+    pub counts : new.counts ≡ old.counts
+    pub views : new.views ≡ old.views
+    pub halted : new.halted ≡ old.halted
+    pub form : new.pool.in_one_file ≡ old.pool.in_one_file
+    pub sessions : AreAlike old.sessions new.sessions
+    pub names : IsSame (slots old) (slots new)

@@ -5,7 +5,7 @@ ghost use Rattle.std.specs.Prelude.{◌≡◌, ◌+◌, ◌<◌, ◌≤◌, ℕ,
 ghost use Rattle.disk_trait.specs.declared.ids.PoolId.{PoolId};
 ghost use Rattle.attr_tables.specs.Records.{is_same_id};
 ghost use Rattle.stored_trees.specs.Occurrences.{occurrences};
-ghost use Rattle.pool_changes.specs.Kept.{slots_of};
+ghost use Rattle.pool_changes.specs.Kept.{slots_of, IsSame};
 ghost use Rattle.pool_changes.specs.Slots.{is_given, claims_of};
 ghost use Rattle.open_sessions.specs.Opened.{claims_of_dump};
 ghost use Rattle.open_sessions.specs.SessionLaws.{node_occurrences};
@@ -150,4 +150,31 @@ pub fn claim_rows<N: Namer>(pool: &mut Pool<N>, rows: &[Row])
     for row in rows {
         claim_node(pool, row.node());
     }
+}
+
+/// Makes sure of a claim for each row of a dump's tree, and one for each of its base; or says that memory is wanting.
+pub(crate) fn reserve_dump<N: Namer>(
+    pool: &mut Pool<N>,
+    tree: &[Row],
+    base: &[Row],
+) -> Result<(), AllocError>
+    ensures ok { OnOk result (length tree.now + length base.now ≤ pool.new.spare) }
+    ensures same { IsSame (slots_of pool.old.names) (slots_of pool.new.names) }
+    ensures form { pool.new.in_one_file ≡ pool.old.in_one_file }
+{
+    match tree.len().checked_add(base.len()) {
+        Some(claims) => pool.reserve(claims),
+        None => Err(AllocError),
+    }
+}
+
+/// Claims the contents that the rows of a dump's tree name, and those of its base; as many claims must have been made sure of.
+pub(crate) fn claim_dump<N: Namer>(pool: &mut Pool<N>, tree: &[Row], base: &[Row])
+    requires { length tree.now + length base.now ≤ pool.old.spare }
+    ensures gains { ((id : PoolId) → 0 < occurrences id tree.now + occurrences id base.now → is_given (slots_of pool.old.names id) ≡ true)
+        → Gains (λ id. occurrences id tree.now + occurrences id base.now) (slots_of pool.old.names) (slots_of pool.new.names) }
+    ensures form { pool.new.in_one_file ≡ pool.old.in_one_file }
+{
+    claim_rows(pool, tree);
+    claim_rows(pool, base);
 }

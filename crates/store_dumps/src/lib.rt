@@ -6,7 +6,7 @@
 //!
 //! | Function | What it does |
 //! |---|---|
-//! | [`open_dump_full`] | opens a full dump of a host |
+//! | [`open_dump`] | opens a dump of a host: a full one, or an incremental, which begins with the tree of its newest backup |
 //! | [`put`] | puts a node at a path of its tree |
 //! | [`remove`] | takes a path and all below it out of its tree |
 //! | [`abort`] | drops an open dump, and lets go its claims |
@@ -14,6 +14,7 @@
 #![tactic(auto)]
 
 mod aborting;
+mod base;
 mod claims;
 mod opening;
 mod putting;
@@ -21,6 +22,6 @@ mod removing;
 
 pub use aborting::abort;
 pub use claims::{claim_rows, release_rows};
-pub use opening::open_dump_full;
+pub use opening::open_dump;
 pub use putting::put;
 pub use removing::remove;

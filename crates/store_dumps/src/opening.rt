@@ -4,13 +4,16 @@ ghost use Rattle.std.specs.Prelude.{◌≡◌, ◌==◌, ◌<◌, ◌-◌, ◌^�
 ghost use Rattle.std.specs.List.{position_from};
 ghost use Rattle.std.specs.Arc.{arc_value};
 ghost use Rattle.office_model.specs.declared.event.Event.TheVariants.{OpenDump as OpenDumpEvent};
-ghost use Rattle.backup_rules.specs.declared.lines.Kind.TheVariants.{Full};
 ghost use Rattle.store_parts.specs.Runs.{Runs};
-ghost use Rattle.store_dumps.specs.Opening.{opening_rule, IsFresh, IsOpened};
+ghost use Rattle.store_dumps.specs.Base.{has_base};
+ghost use Rattle.store_dumps.specs.Opening.{opening_rule, IsFresh, IsOpened, HasOpened, HasKept};
 ghost use Rattle.store_dumps.specs.Alike.{AreAlike};
 
+use crate::base::{base_of, has_base};
+use crate::claims::{claim_dump, reserve_dump};
 use attr_records::HostName;
 use attr_tables::Table;
+use backup_index::HostIndex;
 use backup_rules::Kind;
 use disk_trait::Disk;
 use dump_session::Session;
@@ -25,14 +28,22 @@ use stream_traits::Moment;
 /// The numbers of backups end here.
 const NUMBERS: u64 = 1 << 32;
 
-/// The first rule that keeps a dump of a host from being opened, but for those of its base.
-fn broken_rule(sessions: &Sessions, host: usize, next: u64) -> Option<BrokenRule>
-    ensures { result ≡ opening_rule (is_some (position_from (λ dump. dump.host == host) 0 sessions.now.dumps.items)) next sessions.now.sequence }
+/// The first rule that keeps a dump of a host from being opened.
+fn broken_rule(
+    sessions: &Sessions,
+    host: usize,
+    index: &HostIndex,
+    kind: Kind,
+) -> Option<BrokenRule>
+    ensures { result ≡ opening_rule (has_base kind index.now.lines) (is_some (position_from (λ dump. dump.host == host) 0 sessions.now.dumps.items)) index.now.next sessions.now.sequence }
 {
+    if !has_base(kind, index.lines().lines()) {
+        return Some(BrokenRule::NoBackup);
+    }
     if sessions.dump_of_host(host).is_some() {
         return Some(BrokenRule::SessionOpen);
     }
-    if next >= NUMBERS {
+    if index.next() >= NUMBERS {
         return Some(BrokenRule::NumbersSpent);
     }
     if sessions.sequence >= u64::MAX {
@@ -64,7 +75,7 @@ fn fresh_dump(
 }
 
 /// Opens a dump with this base; or says that memory is wanting, and the same is open as before.
-fn open_with(
+fn open_session(
     sessions: &mut Sessions,
     alloc: Global,
     epoch: u64,
@@ -86,31 +97,55 @@ fn open_with(
     Ok(name)
 }
 
-/// Opens a full dump of a host, which begins with the empty tree. After a refusal nothing has changed.
-pub fn open_dump_full<D: Disk, N: Namer>(
+/// Opens a dump that begins with these rows, each of which claims its content for the tree and for the base; or says that
+/// memory is wanting, and the same is open and claimed as before.
+fn open_with<D: Disk, N: Namer>(
+    parts: &mut StoreParts<D, N>,
+    alloc: Global,
+    host: usize,
+    kind: Kind,
+    now: Moment,
+    rows: Table,
+) -> Result<SessionName, AllocError>
+    requires { parts.old.sessions.sequence < 2 ^ 64 - 1 }
+    ensures ok { IfOk result (λ name. HasOpened parts.old host kind now rows name parts.new) }
+    ensures err { OnErr result (HasKept parts.old parts.new) }
+{
+    let base = Arc::new(alloc, rows)?;
+    let shared = base.clone()?;
+    reserve_dump(&mut parts.pool, base.rows(), base.rows())?;
+    let epoch = parts.catalog.epoch();
+    let name = open_session(&mut parts.sessions, alloc, epoch, host, kind, now, shared)?;
+    claim_dump(&mut parts.pool, base.rows(), base.rows());
+    Ok(name)
+}
+
+/// Opens a dump of a host: a full one begins with the empty tree, an incremental with the tree of the host's newest backup,
+/// whose contents it claims. After a refusal nothing has changed.
+pub fn open_dump<D: Disk, N: Namer>(
     parts: &mut StoreParts<D, N>,
     alloc: Global,
     host: &HostName,
+    kind: Kind,
     now: Moment,
 ) -> Result<Answer, Refusal>
     requires ready { parts.old.halted ≡ false }
-    ensures { Runs parts.old (OpenDumpEvent host.now Full now) result parts.new }
+    requires journal_ready { parts.old.journal.halted ≡ false }
+    ensures { Runs parts.old (OpenDumpEvent host.now kind now) result parts.new }
 {
     let at = match parts.catalog.host_at(host) {
         Some(at) => at,
         None => return Err(Refusal::Broken(BrokenRule::NoHost)),
     };
-    let next = parts.catalog.hosts()[at].next();
-    match broken_rule(&parts.sessions, at, next) {
+    match broken_rule(&parts.sessions, at, &parts.catalog.hosts()[at], kind) {
         Some(rule) => return Err(Refusal::Broken(rule)),
         None => {}
     }
-    let base = match Arc::new(alloc, Table::new(alloc)) {
+    let base = match base_of(parts, alloc, at, kind) {
         Ok(base) => base,
-        Err(_) => return Err(Refusal::Memory),
+        Err(refusal) => return Err(refusal),
     };
-    let epoch = parts.catalog.epoch();
-    match open_with(&mut parts.sessions, alloc, epoch, at, Kind::Full, now, base) {
+    match open_with(parts, alloc, at, kind, now, base) {
         Ok(name) => Ok(Answer::Dump(name)),
         Err(_) => Err(Refusal::Memory),
     }

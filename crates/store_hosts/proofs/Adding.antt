@@ -1,6 +1,6 @@
 -- A further host, by what the calls give.
-use Rattle.std.specs.Prelude.{◌≡◌, ◌<◌, ℕ, true, false, List, [], ◌∷◌, ◌++◌, length, Some, Ok, Err, is_some, nat_le}
-use Rattle.std.proofs.Common.{refl, sym, ap, ◌∙◌, subst, inl, arith}
+use Rattle.std.specs.Prelude.{◌≡◌, ◌⊎◌, ◌<◌, ◌≤◌, ℕ, true, false, List, [], ◌∷◌, ◌++◌, length, Some, Ok, Err, is_some, nat_le}
+use Rattle.std.proofs.Common.{refl, sym, ap, ◌∙◌, subst, inl, inr, arith}
 use Rattle.std.proofs.lemmas.Bool.Decides.{nat_tests}
 use Rattle.disk_trait.specs.declared.disk.Disk.{Ghosts as DiskGhosts}
 use Rattle.disk_trait.specs.declared.ids.FileId.TheVariants as F
@@ -11,6 +11,7 @@ use Rattle.backup_rules.specs.Values.{RuleSet}
 use Rattle.backup_index.specs.Index.{Index}
 use Rattle.backup_index.specs.Names.{has_name}
 use Rattle.ref_counts.specs.CountsFile.{counts_file}
+use Rattle.ref_counts.specs.Numbers.{Items}
 use Rattle.office_catalog.specs.Known.{Known, names_of, with_host, new_host}
 use Rattle.office_catalog.specs.declared.edits.CatalogChange.{CatalogChange}
 use Rattle.office_catalog.specs.Changed.{Proposes, after as after_change}
@@ -22,12 +23,12 @@ use Rattle.office_model.specs.declared.refusal.Refusal.TheVariants.{Broken}
 use Rattle.office_model.specs.Office.{Office, Names, host_index, host_limit}
 use Rattle.office_model.specs.Step.{meaning_of}
 use Rattle.office_model.specs.events.AddHost.{new_host as added}
+use Rattle.office_known.specs.CatalogLaws.{host_known, hosts_counted}
 use Rattle.store_parts.specs.declared.parts.StoreParts.{StoreParts}
 use Rattle.store_parts.specs.States.{slots, IsRunning}
 use Rattle.store_parts.specs.Runs.{Runs}
 use Rattle.store_parts.specs.Writes.{Writes}
 use Rattle.store_hosts.specs.Made.{IsMade}
-use Rattle.store_hosts.specs.CatalogLaws.{host_known, hosts_counted}
 use Rattle.store_hosts.specs.FileLaws.{leaves_new_host}
 use Rattle.store_hosts.specs.HostRuns.{ChangesHosts, Changing, runs_broken, runs_hosts, runs_hosts_refused}
 use Rattle.store_hosts.specs.NewHostLaws.{IsNewHostChange, new_files_are, new_are, added_changes}
@@ -48,6 +49,10 @@ module _ (name : List ℕ) (rules : RuleSet) (office : Office) (names : Names) w
 
 full_test : (n m : ℕ) → n ≡ 1024 → n ≡ m → nat_le host_limit m ≡ true
 full_test n m full same = grind (arith, nat_tests)
+
+full_either : (n k m : ℕ) → (n ≡ 1024) ⊎ (1024 ≤ k) → n ≡ m → k ≡ m → nat_le host_limit m ≡ true
+full_either n k m (inl full) same also = full_test n m full same
+full_either n k m (inr full) same also = grind (arith, nat_tests)
 
 room_test : (n m : ℕ) → n < 1024 → n ≡ m → nat_le host_limit m ≡ false
 room_test n m room same = grind (arith, nat_tests)
@@ -83,7 +88,28 @@ new_host_change old new known items hosts front changes counts proposed are same
   bytes = bytes ∙ ap (λ (l : List Index). Some (counts_file (length l) [])) same;
 }
 
+-- the counts of nothing behind the others
+counts_pushed : (old mid new : List Items) (items : Items) → mid ≡ old → items ≡ [] → new ≡ mid ++ items ∷ [] → new ≡ old ++ [] ∷ []
+counts_pushed old mid new items same none is = is ∙ (λ i. same i ++ none i ∷ [])
+
 module _ {D N S : Type 0} {d : DiskGhosts D} {n : NamerGhosts N S} where
+  pub made_pushed : (old mid new : StoreParts D N S d n) (changes : List Change) (known : Known) (items : Items)
+      → IsMade old changes known old.counts mid → items ≡ [] → new ≡ record mid { counts = new.counts }
+      → new.counts ≡ mid.counts ++ items ∷ []
+      → IsMade old changes known (old.counts ++ [] ∷ []) new
+  made_pushed old mid new changes known items m none others pushed =
+      subst (IsMade old changes known (old.counts ++ [] ∷ [])) (sym others) (record {
+        mid = m.mid;
+        writes = m.writes;
+        journal_same = m.journal_same;
+        pool_same = m.pool_same;
+        catalog_is = m.catalog_is;
+        counts_are = counts_pushed old.counts mid.counts new.counts items m.counts_are none pushed;
+        sessions_same = m.sessions_same;
+        views_same = m.views_same;
+        halted_same = m.halted_same;
+      })
+
   module _ (old : StoreParts D N S d n) (name : List ℕ) (rules : RuleSet) where
     known_name : (office : Office) (names : Names) (at : IsRunning old office names)
         → has_name (names_of old.catalog.hosts) name ≡ is_some (host_index office.hosts name)
@@ -97,12 +123,17 @@ module _ {D N S : Type 0} {d : DiskGhosts D} {n : NamerGhosts N S} where
         runs_broken old (AddHost name rules) HostExists (λ office names at.
         exists_rule name rules office names (sym (there ∙ known_name office names at)))
 
-    pub runs_full : has_name (names_of old.catalog.hosts) name ≡ false → length old.catalog.hosts ≡ 1024
-        → Runs old (AddHost name rules) (Err (Broken HostsFull)) old
+    -- as many counts as hosts
+    counts_counted : (office : Office) (names : Names) (at : IsRunning old office names) → length old.counts ≡ length office.hosts
+    counts_counted office names at = sym at.counted.counted ∙ at.stands.hosts.counted
+
+    pub runs_full : has_name (names_of old.catalog.hosts) name ≡ false
+        → (length old.catalog.hosts ≡ 1024) ⊎ (1024 ≤ length old.counts) → Runs old (AddHost name rules) (Err (Broken HostsFull)) old
     runs_full fresh full =
         runs_broken old (AddHost name rules) HostsFull (λ office names at.
         full_rule name rules office names (sym (known_name office names at) ∙ fresh)
-        (full_test (length old.catalog.hosts) (length office.hosts) full (counted office names at)))
+        (full_either (length old.catalog.hosts) (length old.counts) (length office.hosts) full (counted office names at)
+        (counts_counted office names at)))
 
     module _ (changes : List Change) (known : Known) (fresh : has_name (names_of old.catalog.hosts) name ≡ false)
         (room : length old.catalog.hosts < 1024)
@@ -110,28 +141,32 @@ module _ {D N S : Type 0} {d : DiskGhosts D} {n : NamerGhosts N S} where
         (length old.catalog.hosts) changes)
         (known_is : known ≡ with_host old.catalog (new_host (length old.catalog.hosts) name rules)) where
       adding : Changing old (AddHost name rules) Done changes (with_host old.catalog (new_host (length old.catalog.hosts) name rules))
+          (old.counts ++ [] ∷ [])
       adding office names at =
           subst (λ (m : ℕ). IsNewHostChange old.catalog (with_host old.catalog (new_host m name rules)) m changes
           → ChangesHosts n.digest_of (index_of (slots old)) old.views.kept (AddHost name rules) Done changes
-          (with_host old.catalog (new_host m name rules)) office names at.all) (sym (counted office names at))
+          (with_host old.catalog (new_host m name rules)) (old.counts ++ [] ∷ []) office names at.all) (sym (counted office names at))
           (added_changes n.digest_of (index_of (slots old)) at.backups old.views.kept
           (AddHost name rules) Done changes old.catalog office names at.all
           name rules at.catalog_is
           (judged_add name rules office names (sym (known_name office names at) ∙ fresh)
           (room_test (length old.catalog.hosts) (length office.hosts) room (counted office names at)))
-          at.sound at.stands at.view) is
+          at.sound at.stands at.view old.counts at.counted) is
 
       abbrev after : Known
       after = with_host old.catalog (new_host (length old.catalog.hosts) name rules)
 
-      pub runs_added : (new : StoreParts D N S d n) → IsMade old changes known new → Runs old (AddHost name rules) (Ok Done) new
+      pub runs_added : (new : StoreParts D N S d n) → IsMade old changes known (old.counts ++ [] ∷ []) new
+          → Runs old (AddHost name rules) (Ok Done) new
       runs_added new made =
-          runs_hosts old new (AddHost name rules) Done changes after (subst (λ (k : Known). IsMade old changes k new) known_is made)
+          runs_hosts old new (AddHost name rules) Done changes after (old.counts ++ [] ∷ [])
+          (subst (λ (k : Known). IsMade old changes k (old.counts ++ [] ∷ []) new) known_is made)
           (new_are old.catalog after (length old.catalog.hosts) changes is)
           (leaves_new_host changes (length old.catalog.hosts) (new_files_are old.catalog after (length old.catalog.hosts) changes is))
-          adding (λ office names. refl)
+          adding (λ office names. refl) refl
 
       pub runs_not_added : (new : StoreParts D N S d n) (refusal : Refusal) → Writes old changes (Err refusal) new
           → Runs old (AddHost name rules) (Err refusal) new
       runs_not_added new refusal writes =
-          runs_hosts_refused old new (AddHost name rules) Done changes after refusal writes adding (λ office names. inl refl)
+          runs_hosts_refused old new (AddHost name rules) Done changes after (old.counts ++ [] ∷ []) refusal writes adding
+          (λ office names. inl refl)

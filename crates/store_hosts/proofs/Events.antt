@@ -23,9 +23,10 @@ use Rattle.office_model.specs.declared.refusal.Refusal.{Refusal}
 use Rattle.office_model.specs.declared.refusal.Refusal.TheVariants.{Broken}
 use Rattle.office_model.specs.Office.{Office, Host, Backup, Names}
 use Rattle.office_model.specs.Parts.{host_at}
-use Rattle.office_model.specs.Step.{meaning_of}
+use Rattle.office_model.specs.Step.{IsAnswerTo, meaning_of}
 use Rattle.office_model.specs.UsedNames.{AreNamesAfter}
 use Rattle.office_files.specs.Pairs.{AtEachPair}
+use Rattle.office_known.specs.CatalogLaws.{no_named}
 use Rattle.office_changes.specs.ChangeLaws.{IsSameBackup}
 use Rattle.store_parts.specs.declared.parts.StoreParts.{StoreParts}
 use Rattle.store_parts.specs.States.{slots, IsRunning}
@@ -33,7 +34,6 @@ use Rattle.store_parts.specs.Runs.{Runs}
 use Rattle.store_parts.specs.Writes.{Writes}
 use Rattle.store_parts.specs.StepLaws.{IsCommitting}
 use Rattle.store_hosts.specs.Made.{IsMade}
-use Rattle.store_hosts.specs.CatalogLaws.{no_named}
 use Rattle.store_hosts.specs.FileLaws.{leaves_host}
 use Rattle.store_hosts.specs.HostRuns.{Changing, runs_broken, runs_hosts, runs_hosts_refused}
 use Rattle.store_hosts.specs.OneHostLaws.{MayReplace, host_changes}
@@ -88,22 +88,22 @@ module _ {D N S : Type 0} {d : DiskGhosts D} {n : NamerGhosts N S} where
   module _ (old new : StoreParts D N S d n) (event : Event) (answer : Answer) (p : ℕ) (f : Index → Index) (changes : List Change)
       (known : Known) (proposed : IsProposed old.catalog (with_change old.catalog p f) (F.Host p ∷ []) known changes)
       (replaces : (office : Office) (names : Names) → IsRunning old office names → Replaces event answer office names p f) where
-    changing : Changing old event answer changes (with_change old.catalog p f)
+    changing : Changing old event answer changes (with_change old.catalog p f) old.counts
     changing office names at =
         let r = replaces office names at in
-        host_changes n.digest_of (index_of (slots old)) at.backups old.views.kept event answer changes old.catalog office names at.all
-        p r.new f r.may r.judged at.catalog_is proposed.leads at.sound at.stands at.view
+        host_changes n.digest_of (index_of (slots old)) at.backups old.views.kept event answer changes old.catalog old.counts office
+        names at.all p r.new f r.may r.judged at.catalog_is proposed.leads at.sound at.stands at.view at.counted
 
     pub runs_replaced : ((office : Office) (names : Names) → AreNamesAfter office names event (Ok answer) names.used)
-        → IsMade old changes known new → Runs old event (Ok answer) new
-    runs_replaced stay made =
-        runs_hosts old new event answer changes (with_change old.catalog p f)
-        (subst (λ (k : Known). IsMade old changes k new) proposed.known_is made) proposed.leads.are
+        → IsAnswerTo event answer → IsMade old changes known old.counts new → Runs old event (Ok answer) new
+    runs_replaced stay in_kind made =
+        runs_hosts old new event answer changes (with_change old.catalog p f) old.counts
+        (subst (λ (k : Known). IsMade old changes k old.counts new) proposed.known_is made) proposed.leads.are
         (leaves_host changes p proposed.leads.named)
-        changing stay
+        changing stay in_kind
 
     pub runs_not_replaced : (refusal : Refusal) → ((office : Office) (names : Names) → IsCommitting
         ((meaning_of event).touches office names))
         → Writes old changes (Err refusal) new → Runs old event (Err refusal) new
     runs_not_replaced refusal touch writes =
-        runs_hosts_refused old new event answer changes (with_change old.catalog p f) refusal writes changing touch
+        runs_hosts_refused old new event answer changes (with_change old.catalog p f) old.counts refusal writes changing touch

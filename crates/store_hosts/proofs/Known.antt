@@ -30,12 +30,12 @@ use Rattle.office_model.specs.events.Backups.{open_dump_of}
 use Rattle.office_model.specs.events.Stats.{total}
 use Rattle.office_files.specs.Pairs.{AtEachPair}
 use Rattle.office_files.specs.Pooled.{contents_of}
+use Rattle.office_known.specs.CatalogLaws.{named_host, names_known, hosts_counted}
 use Rattle.office_known.specs.KnownLaws.{indices_from}
 use Rattle.store_parts.specs.declared.parts.StoreParts.{StoreParts}
 use Rattle.store_parts.specs.Held.{given}
 use Rattle.store_parts.specs.States.{slots}
 use Rattle.store_parts.specs.Runs.{Runs}
-use Rattle.store_hosts.specs.CatalogLaws.{named_host, names_known, hosts_counted}
 use Rattle.store_hosts.specs.HostRuns.{runs_known}
 use Rattle.store_hosts.specs.Opened.{open_name}
 use Rattle.store_hosts.specs.TotalLaws.{pool_totals}
@@ -168,7 +168,7 @@ module _ {D N S : Type 0} {d : DiskGhosts D} {n : NamerGhosts N S} where
   runs_names old listed are =
       runs_known old Hosts (A.Hosts listed) (λ office names at.
       let same = are ∙ ap (λ (k : Known). names_of k.hosts) at.catalog_is ∙ names_known office.hosts in
-      λ i. Ok (record { answer = A.Hosts (sym same i); after = office })) (λ office names. refl)
+      λ i. Ok (record { answer = A.Hosts (sym same i); after = office })) (λ office names. refl) refl
 
   pub runs_due : (old : StoreParts D N S d n) (name : List ℕ) (p : ℕ) (index : Index)
       → Some p ≡ host_named (names_of old.catalog.hosts) name → slice_get old.catalog.hosts p ≡ Some index
@@ -181,7 +181,7 @@ module _ {D N S : Type 0} {d : DiskGhosts D} {n : NamerGhosts N S} where
       let b = black ∙ ap (λ (i : Index). blackout_of i.rules i.good local) is in
       let k = due ∙ ap (λ (i : Index). due_of i.rules now i.lines) is in
       judged_due name now local office names p w.host w.judged ∙ (λ i. Ok (record { answer = A.Due (sym b i) (sym k i); after = office })))
-      (λ office names. refl)
+      (λ office names. refl) refl
 
   pub runs_backups : (old : StoreParts D N S d n) (name : List ℕ) (p : ℕ) (index : Index)
       → Some p ≡ host_named (names_of old.catalog.hosts) name → slice_get old.catalog.hosts p ≡ Some index
@@ -196,7 +196,7 @@ module _ {D N S : Type 0} {d : DiskGhosts D} {n : NamerGhosts N S} where
       let opened = opened_dump (given (slots old)) (contents_of at.all) office.dumps old.sessions.dumps.items at.sessions.dumps p in
       let d = dump_is ∙ sym opened in
       judged_backups name office names p w.host w.judged
-      ∙ (λ i. Ok (record { answer = A.Backups (sym l i) (sym m i) (sym d i); after = office }))) (λ office names. refl)
+      ∙ (λ i. Ok (record { answer = A.Backups (sym l i) (sym m i) (sym d i); after = office }))) (λ office names. refl) refl
 
   pub runs_stats : (old : StoreParts D N S d n) (hosts backups dumps restores : ℕ) (pool : PoolStats) → hosts ≡ length old.catalog.hosts
       → backups ≡ total (λ index. length index.lines) old.catalog.hosts → dumps ≡ length old.sessions.dumps.items
@@ -233,4 +233,4 @@ module _ {D N S : Type 0} {d : DiskGhosts D} {n : NamerGhosts N S} where
           bytes = sym y i;
         });
         after = office;
-      })) (λ office names. refl)
+      })) (λ office names. refl) refl

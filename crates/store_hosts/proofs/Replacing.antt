@@ -24,11 +24,11 @@ use Rattle.office_model.specs.events.Contact.{with_contact}
 use Rattle.office_model.specs.events.Keep.{with_backup, kept_as}
 use Rattle.office_files.specs.Pairs.{AtEachPair}
 use Rattle.office_files.specs.Hosts.{index_of_host}
+use Rattle.office_known.specs.CatalogLaws.{named_host, index_found}
 use Rattle.office_changes.specs.ChangeLaws.{IsSameBackup}
 use Rattle.store_parts.specs.declared.parts.StoreParts.{StoreParts}
 use Rattle.store_parts.specs.States.{IsRunning}
 use Rattle.store_parts.specs.Runs.{Runs}
-use Rattle.store_hosts.specs.CatalogLaws.{named_host, index_found}
 use Rattle.store_hosts.specs.Contacts.{contacts_after}
 use Rattle.store_hosts.specs.HostRuns.{runs_broken}
 use Rattle.store_hosts.proofs.Events.{Replaces, same_backups}

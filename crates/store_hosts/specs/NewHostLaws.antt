@@ -15,6 +15,7 @@ use Rattle.pool_index.specs.Index.{Index as PoolListing}
 use Rattle.backup_rules.specs.Values.{RuleSet}
 use Rattle.backup_views.specs.declared.kept.KeptView.{KeptView}
 use Rattle.ref_counts.specs.CountsFile.{counts_file}
+use Rattle.ref_counts.specs.Numbers.{Items}
 use Rattle.ref_counts.specs.Stored.{Backup as StoredBackup}
 use Rattle.office_catalog.specs.Known.{Known, known_of, with_host, new_host}
 use Rattle.office_catalog.specs.Held.{HoldsIndex, HoldsNames, HoldsCatalog}
@@ -29,13 +30,13 @@ use Rattle.office_model.specs.laws.SoundLaws.{IsSound-closed, IsSound-carried}
 use Rattle.office_files.specs.Hosts.{index_of_host, StandsHost}
 use Rattle.office_files.specs.Layouts.{IsHeadFile}
 use Rattle.office_files.specs.Owners.{has_backup}
-use Rattle.office_files.specs.Pairs.{last_there}
+use Rattle.office_files.specs.Pairs.{last_there, pairs_push}
 use Rattle.office_files.specs.Pooled.{contents_of, IsListed}
 use Rattle.office_files.specs.Stands.{Stands, names_of as host_names}
+use Rattle.office_known.specs.CatalogLaws.{names_known, hosts_counted, index_there, hosts_longer}
 use Rattle.office_known.specs.KnownLaws.{known_of_office, stands_catalog, head_of_catalog, host_of_catalog}
 use Rattle.office_changes.specs.ChangeLaws.{host_added, host_fresh}
-use Rattle.store_parts.specs.Held.{IsKeptView}
-use Rattle.store_hosts.specs.CatalogLaws.{names_known, hosts_counted, index_there, hosts_longer}
+use Rattle.store_parts.specs.Held.{AreCounts, AreCountsOf, IsKeptView}
 use Rattle.store_hosts.specs.FileLaws.{files_of, named_files, new_files, new_other, new_no_table, front_no_counts, head_no_counts, host_no_counts}
 use Rattle.store_hosts.specs.HostRuns.{ChangesHosts}
 
@@ -102,7 +103,7 @@ module _ (digest_of : List ℕ → List ℕ) (listing : PoolListing) (backups : 
     (judged : (meaning_of event).carried office names
     ≡ Ok (record { answer = answer; after = record office { hosts = office.hosts ++ added name rules ∷ [] } }))
     (sound : IsSound office) (stands : Stands digest_of listing backups all (durable office))
-    (view : IsKeptView kept office.hosts backups) where
+    (view : IsKeptView kept office.hosts backups) (counts : List Items) (counted : AreCountsOf counts backups) where
   abbrev after : Office
   after = record office { hosts = office.hosts ++ added name rules ∷ [] }
 
@@ -167,7 +168,7 @@ module _ (digest_of : List ℕ → List ℕ) (listing : PoolListing) (backups : 
         (is_same_file-itself (F.Counts place)))
 
     pub added_changes : ChangesHosts digest_of listing kept event answer changes
-        (with_host known (new_host place name rules)) office names all
+        (with_host known (new_host place name rules)) (counts ++ [] ∷ []) office names all
     added_changes = record {
       hosts = office.hosts ++ added name rules ∷ [];
       backups = backups ++ [] ∷ [];
@@ -182,5 +183,6 @@ module _ (digest_of : List ℕ → List ℕ) (listing : PoolListing) (backups : 
           (IsSound-closed after office.epoch (IsSound-carried office names event
           (record { answer = answer; after = after }) sound judged)) stands;
       known_is = after_is;
+      counted = pairs_push AreCounts counts backups counted [] [] (λ id. refl);
       view = kept_longer kept office.hosts backups (added name rules) view;
     }

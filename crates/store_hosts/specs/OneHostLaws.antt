@@ -1,7 +1,7 @@
 -- The index of one host changes, and no other file.
 --     MayReplace      a host may be replaced by one of the same name with the same backups, but for what their lines say
 --     host_changes      the catalog's changes lead to files that stand for the office with this host
-use Rattle.std.specs.Prelude.{◌≡◌, ◌≢◌, ℕ, false, ◌==◌, List, [], ◌∷◌, Option, Some, None, Ok, slice_get, slice_set}
+use Rattle.std.specs.Prelude.{◌≡◌, ◌≢◌, ℕ, zero, suc, false, ◌==◌, List, [], ◌∷◌, Option, Some, None, Ok, slice_get, slice_set}
 use Rattle.std.proofs.Common.{refl, sym, ap, ◌∙◌, subst, inl, inr}
 use Rattle.std.proofs.lemmas.Bool.{eqb-true, eq-eqb, false≢true}
 use Rattle.std.proofs.lemmas.Option.{slice_get_within}
@@ -15,6 +15,7 @@ use Rattle.intent_journal.specs.ChangesLaws.{either, applied_other, applied_cont
 use Rattle.pool_index.specs.Index.{Index as PoolListing}
 use Rattle.backup_index.specs.Index.{Index}
 use Rattle.backup_views.specs.declared.kept.KeptView.{KeptView}
+use Rattle.ref_counts.specs.Numbers.{Items}
 use Rattle.ref_counts.specs.Stored.{Backup as StoredBackup}
 use Rattle.office_catalog.specs.Known.{Known, with_change, known_of}
 use Rattle.office_catalog.specs.Held.{HoldsCatalog}
@@ -29,10 +30,10 @@ use Rattle.office_files.specs.Pairs.{AtEachPair, other_at}
 use Rattle.office_files.specs.Hosts.{index_of_host}
 use Rattle.office_files.specs.Layouts.{IsHostFile}
 use Rattle.office_files.specs.Stands.{Stands}
+use Rattle.office_known.specs.CatalogLaws.{index_there, host_replaced}
 use Rattle.office_known.specs.KnownLaws.{known_of_office, stands_catalog, host_of_catalog}
 use Rattle.office_changes.specs.ChangeLaws.{IsSameBackup, index_changed}
-use Rattle.store_parts.specs.Held.{IsViewOf, IsKeptView}
-use Rattle.store_hosts.specs.CatalogLaws.{index_there, host_replaced}
+use Rattle.store_parts.specs.Held.{AreCountsOf, IsViewOf, IsKeptView}
 use Rattle.store_hosts.specs.FileLaws.{files_of, named_files}
 use Rattle.store_hosts.specs.HostRuns.{ChangesHosts}
 
@@ -108,6 +109,13 @@ module _ (hosts : List Host) (backups : List (List StoredBackup)) (p : ℕ) (hos
     | inr other ↦ view_of_other kept (λ e. false≢true (sym other ∙ eq-eqb kept.host p e)) view
   ]
 
+-- ---- what is written where it was
+
+set_there : {A : Type 0} (xs : List A) (p : ℕ) (x : A) → slice_get xs p ≡ Some x → slice_set xs p x ≡ xs
+set_there [] p x e = refl
+set_there (y ∷ xs) zero x e = let same : y ≡ x = cc in ap (λ (z : _). z ∷ xs) (sym same)
+set_there (y ∷ xs) (suc p) x e = ap (λ ys. y ∷ ys) (set_there xs p x e)
+
 -- ---- the files
 
 no_host_named : (changes : List Change) (p : ℕ) → files_of changes ≡ F.Host p ∷ [] → (file : FileId) → is_same_file file (F.Host p) ≡ false
@@ -115,19 +123,21 @@ no_host_named : (changes : List Change) (p : ℕ) → files_of changes ≡ F.Hos
 no_host_named changes p is file other = named_files changes (F.Host p ∷ []) is file ∙ rw other refl
 
 module _ (digest_of : List ℕ → List ℕ) (listing : PoolListing) (backups : List (List StoredBackup)) (kept : Option KeptView) (event : Event)
-    (answer : Answer) (changes : List Change) (known : Known) (office : Office) (names : Names) (all : Files) where
+    (answer : Answer) (changes : List Change) (known : Known) (counts : List Items) (office : Office) (names : Names) (all : Files) where
   pub host_changes : (p : ℕ) (new : Host) (f : Index → Index) → MayReplace office.hosts p new f
       → (meaning_of event).carried office names
       ≡ Ok (record { answer = answer; after = record office { hosts = slice_set office.hosts p new } })
       → known ≡ known_of_office (durable office) → Leads known (with_change known p f) (F.Host p ∷ []) changes
       → IsSound office → Stands digest_of listing backups all (durable office) → IsKeptView kept office.hosts backups
-      → ChangesHosts digest_of listing kept event answer changes (with_change known p f) office names all
-  host_changes p new f may judged known_is leads sound stands view = record {
+      → AreCountsOf counts backups
+      → ChangesHosts digest_of listing kept event answer changes (with_change known p f) counts office names all
+  host_changes p new f may judged known_is leads sound stands view counted = record {
     hosts = slice_set office.hosts p new;
     backups = slice_set backups p changed.0;
     judged = judged;
     stands = changed.2;
     known_is = after_is;
+    counted = subst (AreCountsOf counts) (sym (set_there backups p changed.0 changed.1)) counted;
     view = kept_view office.hosts backups p may.host new changed.0 may.is_host changed.1 may.backups kept view;
   }
     where

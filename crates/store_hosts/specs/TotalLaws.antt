@@ -1,21 +1,13 @@
 -- Totals of a pool, and of the items of its index.
---     same_totals      lists of the same elements, no two of one key, have the same totals
 --     pool_totals      the index has as many items, bytes and marks as the pool
-use Rattle.std.specs.Prelude.{◌≡◌, ◌≢◌, ℕ, zero, suc, ◌+◌, Bool, true, false, cond, if◌then◌else◌, List, [], ◌∷◌, length, map, Some, None, is_some, slice_get}
-use Rattle.std.specs.declared.cmp.Ordering.{Ordering}
-use Rattle.std.specs.declared.cmp.Ordering.TheVariants.{Less, Equal}
-use Rattle.std.specs.Cmp.{IsTotalOrder}
-use Rattle.std.proofs.lemmas.Cmp.{tied_itself}
+use Rattle.std.specs.Prelude.{◌≡◌, ℕ, zero, suc, ◌+◌, Bool, true, false, cond, if◌then◌else◌, List, [], ◌∷◌, length, map, Some, is_some, slice_get}
+use Rattle.std.specs.declared.cmp.Ordering.TheVariants.{Less}
 use Rattle.std.specs.Cmp.Lexicographic.{nat_list_cmp_total}
-use Rattle.std.specs.List.{remove}
 use Rattle.std.specs.List.Sorted.{IsStrictlySortedBy}
 use Rattle.std.specs.Map.{keys_of}
-use Rattle.std.specs.Ordering.{eq_by_cmp}
-use Rattle.std.specs.FinMap.Entries.{find}
-use Rattle.std.proofs.Common.{refl, sym, ap, ◌∙◌, subst, inl, inr, arith}
-use Rattle.std.proofs.lemmas.Option.{slice_get_within, get_or_from_slice_get}
+use Rattle.std.proofs.Common.{refl, sym, ap, ◌∙◌, subst, inl, inr}
 use Rattle.ordered_lists.specs.Order.{IsBelowAll, IsInOrder}
-use Rattle.ordered_lists.specs.OrderLaws.{find_at, order_from_keys}
+use Rattle.ordered_lists.specs.OrderLaws.{order_from_keys}
 use Rattle.disk_trait.specs.declared.ids.PoolId.{PoolId}
 use Rattle.disk_trait.specs.declared.ids.FileId.TheVariants.{Pool as PoolFile}
 use Rattle.disk_trait.specs.Names.{is_same_file-itself}
@@ -26,109 +18,13 @@ use Rattle.pool_index.specs.ItemLaws.{id_total, one_id, item_at-id}
 use Rattle.pool_index.specs.Index.{Index}
 use Rattle.pool_changes.specs.Listed.{bytes_of, marks_of}
 use Rattle.stored_trees.specs.Resolved.{IsOneToOne}
-use Rattle.office_model.specs.Places.{Differ, Differ-remove, place_before, place_before-other, slice_get-remove}
+use Rattle.office_model.specs.Places.{Differ}
 use Rattle.office_model.specs.Pool.{Pool, byte_cmp, mark_of, how_many}
 use Rattle.office_model.specs.UsedNames.{Among}
 use Rattle.office_model.specs.events.Stats.{total}
 use Rattle.office_model.specs.laws.CleanLaws.{byte_exact}
 use Rattle.office_files.specs.Pooled.{IsListed, IsPool}
-
--- ---- lists of the same elements
-
--- the place, after the element at p was removed, of what was at another
-place_after : (p k : ℕ) → k ≢ p → (m : ℕ) × (place_before p m ≡ k)
-place_after zero zero other = absurd (other refl)
-place_after zero (suc k) other = (k, refl)
-place_after (suc p) zero other = (zero, refl)
-place_after (suc p) (suc k) other = let w = place_after p k (λ e. other (ap suc e)) in (suc w.0, ap suc w.1)
-
-module _ {A : Type 0} (f : A → ℕ) where
-  total_remove : (xs : List A) (p : ℕ) (x : A) → slice_get xs p ≡ Some x → total f xs ≡ f x + total f (remove xs p)
-  total_remove [] p x e = absurd cc
-  total_remove (y ∷ xs) zero x e = let same : y ≡ x = cc in ap (λ z. f z + total f xs) same
-  total_remove (y ∷ xs) (suc p) x e = let rest = total_remove xs p x e in omega (arith, rest)
-
-module _ {A K : Type 0} (key : A → K) (f : A → ℕ) where
-  pub same_totals : (xs ys : List A) → Differ key xs → Differ key ys → ((i : ℕ) (x : A) → slice_get xs i ≡ Some x → Among ys x)
-      → ((j : ℕ) (y : A) → slice_get ys j ≡ Some y → Among xs y) → total f xs ≡ total f ys
-  same_totals [] [] differ differ' there back = refl
-  same_totals [] (y ∷ ys) differ differ' there back = absurd (let w = back zero y refl in let e : None ≡ Some y = w.1 in cc)
-  same_totals (x ∷ xs) ys differ differ' there back =
-      let rest = same_totals xs (remove ys p) (λ i j a b e g s. less i j (differ (suc i) (suc j) a b e g s))
-      (Differ-remove key ys p differ')
-      (λ i a e. kept i a e (there (suc i) a e)) (λ m a e. again m a e (back (place_before p m) a (sym (slice_get-remove ys p m) ∙ e))) in
-      ap (λ n. f x + n) rest ∙ sym (total_remove f ys p x is)
-    where
-      p : ℕ
-      p = (there zero x refl).0
-
-      is : slice_get ys p ≡ Some x
-      is = (there zero x refl).1
-
-      less : (i j : ℕ) → suc i ≡ suc j → i ≡ j
-      less i j e = omega (arith, e)
-
-      kept : (i : ℕ) (a : A) → slice_get xs i ≡ Some a → Among ys a → Among (remove ys p) a
-      kept i a e w = step (place_after p w.0 other)
-        where
-          other : w.0 ≢ p
-          other same =
-              let one : a ≡ x = let g : Some a ≡ Some x = sym w.1 ∙ ap (slice_get ys) same ∙ is in cc in
-              let places : suc i ≡ zero = differ (suc i) zero a x e refl (ap key one) in
-              omega (arith, places)
-
-          step : (m : ℕ) × (place_before p m ≡ w.0) → Among (remove ys p) a
-          step v = (v.0, slice_get-remove ys p v.0 ∙ ap (slice_get ys) v.1 ∙ w.1)
-
-      again : (m : ℕ) (a : A) → slice_get (remove ys p) m ≡ Some a → Among (x ∷ xs) a → Among xs a
-      again m a e w = step w.0 w.1
-        where
-          step : (i : ℕ) → slice_get (x ∷ xs) i ≡ Some a → Among xs a
-          step (suc i) g = (i, g)
-          step zero g =
-              let one : x ≡ a = cc in
-              absurd (place_before-other p m
-              (differ' (place_before p m) p a x (sym (slice_get-remove ys p m) ∙ e) is (ap key (sym one))))
-
--- ---- entries in order
-
-not_below : {K : Type 0} (R : K → K → Ordering) → IsTotalOrder R → (a b : K) → a ≡ b → R a b ≡ Less → ⊥
-not_below R order a b same less = let tie : R a b ≡ Equal = ap (R a) (sym same) ∙ tied_itself order a in cc
-
-module _ {K X : Type 0} (R : K → K → Ordering) (order : IsTotalOrder R) where
-  below_at : (k : K) (es : List (K × X)) (i : ℕ) (e : K × X) → IsBelowAll R k es → slice_get es i ≡ Some e → R k e.0 ≡ Less
-  below_at k [] i e below at = absurd cc
-  below_at k (a ∷ es) zero e below at = let same : a ≡ e = cc in ap (λ (x : K × X). R k x.0) (sym same) ∙ below.0
-  below_at k (a ∷ es) (suc i) e below at = below_at k es i e below.1 at
-
-  entries_differ : (es : List (K × X)) → IsInOrder R es → Differ (λ (e : K × X). e.0) es
-  entries_differ [] sorted i j a b e g same = absurd cc
-  entries_differ (x ∷ es) sorted zero zero a b e g same = refl
-  entries_differ (x ∷ es) sorted zero (suc j) a b e g same =
-      let one : x ≡ a = cc in
-      absurd (not_below R order x.0 b.0 (ap (λ (x : K × X). x.0) one ∙ same) (below_at x.0 es j b sorted.0 g))
-  entries_differ (x ∷ es) sorted (suc i) zero a b e g same =
-      let one : x ≡ b = cc in
-      absurd (not_below R order x.0 a.0 (ap (λ (x : K × X). x.0) one ∙ sym same) (below_at x.0 es i a sorted.0 e))
-  entries_differ (x ∷ es) sorted (suc i) (suc j) a b e g same = ap suc (entries_differ es sorted.1 i j a b e g same)
-
-  entry_found : (es : List (K × X)) (i : ℕ) (e : K × X) → IsInOrder R es → slice_get es i ≡ Some e → find R e.0 es ≡ Some e.1
-  entry_found es i e sorted at =
-      let is = get_or_from_slice_get es i e e at in
-      find_at R order e.0 i es e sorted (slice_get_within es i e at) (ap (λ (x : K × X). R x.0 e.0) is ∙ tied_itself order e.0)
-      ∙ ap (λ (x : K × X). Some x.1) is
-
-  entry_place : ((a b : K) → eq_by_cmp R a b ≡ true → a ≡ b) → (es : List (K × X)) (q : K) (v : X) → find R q es ≡ Some v → Among es (q, v)
-  entry_place exact [] q v e = absurd cc
-  entry_place exact (x ∷ es) q v e = step (eq_by_cmp R q x.0) refl (entry_place exact es q v) e
-    where
-      step : (b : Bool) → eq_by_cmp R q x.0 ≡ b → (find R q es ≡ Some v → Among es (q, v)) → cond b (Some x.1) (find R q es) ≡ Some v
-          → Among (x ∷ es) (q, v)
-      step true same rest g =
-          let k = exact q x.0 same in
-          let w : x.1 ≡ v = cc in
-          (zero, λ i. Some (sym k i, w i))
-      step false other rest g = let r = rest g in (suc r.0, r.1)
+use Rattle.store_parts.specs.ListLaws.{same_totals, not_below, entries_differ, entry_found, entry_place, total-map, total-ones, mapped, mapped_there}
 
 -- ---- items in order
 
@@ -184,15 +80,7 @@ item_place (x ∷ items) id item e = step (is_same_id id x.id) (item_place items
     step true rest g = (zero, g)
     step false rest g = let r = rest g in (suc r.0, r.1)
 
--- ---- totals of mapped elements
-
-total-map : {A B : Type 0} (f : B → ℕ) (g : A → B) (xs : List A) → total f (map g xs) ≡ total (λ x. f (g x)) xs
-total-map f g [] = refl
-total-map f g (x ∷ xs) = ap (λ n. f (g x) + n) (total-map f g xs)
-
-total-ones : {A : Type 0} (xs : List A) → total (λ x. 1) xs ≡ length xs
-total-ones [] = refl
-total-ones (x ∷ xs) = let rest = total-ones xs in omega (arith, rest)
+-- ---- totals
 
 total-marks : (pool : Pool) → total (λ entry. cond entry.1 1 0) pool ≡ how_many (λ entry. entry.1) pool
 total-marks [] = refl
@@ -221,18 +109,6 @@ module _ (digest_of : List ℕ → List ℕ) (index : Index) (contents : PoolId 
 
   listed_item : (i : ℕ) (item : IndexItem) → slice_get items i ≡ Some item → index item.id ≡ Some item
   listed_item i item e = sym (each item.id) ∙ item_there items i item (pairs_order items rising) e
-
-  -- the element of a mapped list
-  mapped : {A B : Type 0} (g : A → B) (xs : List A) (i : ℕ) (y : B) → slice_get (map g xs) i ≡ Some y
-      → (x : A) × (slice_get xs i ≡ Some x) × (g x ≡ y)
-  mapped g [] i y e = absurd cc
-  mapped g (x ∷ xs) zero y e = (x, refl, cc)
-  mapped g (x ∷ xs) (suc i) y e = mapped g xs i y e
-
-  mapped_there : {A B : Type 0} (g : A → B) (xs : List A) (i : ℕ) (x : A) → slice_get xs i ≡ Some x → slice_get (map g xs) i ≡ Some (g x)
-  mapped_there g [] i x e = absurd cc
-  mapped_there g (y ∷ xs) zero x e = let same : y ≡ x = cc in ap (λ z. Some (g z)) same
-  mapped_there g (y ∷ xs) (suc i) x e = mapped_there g xs i x e
 
   entries : (f : List ℕ × Bool → ℕ) → total f (map entry items) ≡ total f pool
   entries f = same_totals (λ (e : List ℕ × Bool). e.0) f (map entry items) pool differ

@@ -5,6 +5,7 @@ use attr_records::HostName;
 use backup_rules::{Kind, RuleChange, Rules, Setting};
 use backup_views::Views;
 use disk_trait::{DiskRoom, MemoryDisk};
+use host_counts::HostCounts;
 use intent_journal::Journal;
 use office_model::{Answer, BrokenRule, Refusal};
 use open_sessions::Sessions;
@@ -90,6 +91,7 @@ fn opened(alloc: Global) -> Result<Parts, Fail> {
         journal,
         pool,
         catalog,
+        counts: HostCounts::new(alloc)?,
         sessions: Sessions::new(alloc),
         views: Views::new(),
         halted: false,

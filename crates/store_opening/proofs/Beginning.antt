@@ -22,7 +22,7 @@ use Rattle.store_parts.specs.StoredLaws.{alike_stands}
 use Rattle.store_opening.specs.declared.found.Found.{Found}
 use Rattle.store_opening.specs.declared.fault.OpenRefusal.{OpenRefusal}
 use Rattle.store_opening.specs.declared.fault.OpenRefusal.TheVariants.{Foreign, EpochsSpent, DiskFault, Memory}
-use Rattle.store_opening.specs.Recovers.{Holds, Looks, Recovers}
+use Rattle.store_opening.specs.Recovers.{Holds, IsHeld, Looks, Recovers}
 use Rattle.store_opening.specs.Begins.{MayLeave, IsPlain, IsSpent, Raised, Begins}
 
 -- what stands for one of two offices, of which one was picked, stands for one of the two
@@ -85,15 +85,15 @@ module _ {D N S : Type 0} {d : DiskGhosts D} (n : NamerGhosts N S) (old : Journa
 
     pub begins_raised : (new : Journal D d) (raised : Found N S n) (epoch : ℕ) → epoch ≡ found.catalog.epoch → epoch < last_sequence
         → raised.pool ≡ found.pool
-        → ((office : Office) (names : Names) → IsStored mid found.pool found.catalog office names
-        → IsStored new raised.pool raised.catalog (reopened office) names)
+        → ((office : Office) (names : Names) → IsHeld mid found.pool found.catalog found.counts office names
+        → IsHeld new raised.pool raised.catalog raised.counts (reopened office) names)
         → Raised new raised a b
-    begins_raised new raised epoch read room same stored = record {
+    begins_raised new raised epoch read room same held = record {
       office = recovers.office;
       is_one = recovers.is_one;
       room = subst (λ (e : ℕ). e < last_sequence) (read ∙ epoch_is) room;
       names = recovers.names;
-      stored = stored recovers.office recovers.names recovers.stored;
+      held = held recovers.office recovers.names recovers.held;
       fresh = subst (λ p. AreFresh (slots_of p.names)) (sym same) recovers.fresh;
     }
 

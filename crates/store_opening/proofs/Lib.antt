@@ -7,3 +7,4 @@ pub mod Reopening
 pub mod Running
 pub mod Telling
 pub mod Blank
+pub mod HostTotals

@@ -22,6 +22,7 @@ use Rattle.pool_changes.specs.Kept.{slots_of}
 use Rattle.pool_changes.specs.Listed.{index_of}
 use Rattle.pool_store.specs.declared.pool.Pool.{Pool}
 use Rattle.pool_store.specs.Fits.{fits_less}
+use Rattle.ref_counts.specs.Numbers.{Items}
 use Rattle.ref_counts.specs.Stored.{Backup as StoredBackup}
 use Rattle.office_model.specs.Office.{Office, Host, Names, reopened}
 use Rattle.office_model.specs.laws.SoundLaws.{IsSound-closed}
@@ -33,10 +34,10 @@ use Rattle.office_catalog.specs.Known.{Known, with_epoch}
 use Rattle.office_catalog.specs.Known as K
 use Rattle.office_catalog.specs.Changed.{after, Leads, Proposes}
 use Rattle.office_known.specs.KnownLaws.{indices_from, known_of_office, stands_catalog, head_of_catalog}
-use Rattle.store_parts.specs.Held.{IsEither, IsStored, MayBe}
+use Rattle.store_parts.specs.Held.{AreCountsOf, IsEither, IsStored, MayBe}
 use Rattle.store_parts.specs.StoredLaws.{stored_found, either_left}
 use Rattle.store_parts.specs.WriteLaws.{tells_in_kept}
-use Rattle.store_opening.specs.Recovers.{Looks}
+use Rattle.store_opening.specs.Recovers.{IsHeld, Looks}
 
 -- ---- Head alone is changed
 
@@ -117,7 +118,7 @@ module _ {D N S : Type 0} {d : DiskGhosts D} {n : NamerGhosts N S} (journal : Jo
     content_same : (id : PoolId) → applied changes at.all (F.Pool id) ≡ at.all (F.Pool id)
     content_same id = head_only changes at.all (F.Pool id) leads.named (content_apart id)
 
-    pub stored_raised : (known : Known) → known ≡ after change catalog → new.halted ≡ false
+    stored_raised : (known : Known) → known ≡ after change catalog → new.halted ≡ false
         → told new ≡ option_map (applied changes) (told journal) → (is_some (told journal) ≡ true → IsWithin (uncertain new) nothing)
         → IsStored new pool known (reopened office) names
     stored_raised known known_is ready done certain = record {
@@ -137,6 +138,15 @@ module _ {D N S : Type 0} {d : DiskGhosts D} {n : NamerGhosts N S} (journal : Jo
       used = at.used;
       digest = at.digest;
       catalog_is = known_is ∙ proposes.after_is ∙ ap (λ (k : Known). with_epoch k (k.epoch + 1)) at.catalog_is;
+    }
+
+    pub held_raised : (counts : List Items) → AreCountsOf counts at.backups → (known : Known) → known ≡ after change catalog
+        → new.halted ≡ false → told new ≡ option_map (applied changes) (told journal)
+        → (is_some (told journal) ≡ true → IsWithin (uncertain new) nothing) → IsHeld new pool known counts (reopened office) names
+    unfolding stored_raised
+    held_raised counts counted known known_is ready done certain = record {
+      stored = stored_raised known known_is ready done certain;
+      counted = counted;
     }
 
     either_raised : (found : Files) → IsOldOrNew at.all (uncertain journal) changes found

@@ -1,5 +1,5 @@
 -- What the files of a store are found to hold.
-use Rattle.std.specs.Prelude.{is_some, option_map}
+use Rattle.std.specs.Prelude.{◌⊎◌, is_some, length, option_map}
 use Rattle.std.proofs.Common.{◌≡◌, ℕ, Bool, false, true, List, Option, None, Some, refl, sym, ap, ◌∙◌, subst, inl, inr}
 use Rattle.std.proofs.lemmas.Bool.{false≢true}
 use Rattle.disk_trait.specs.declared.ids.FileId.{FileId}
@@ -25,14 +25,16 @@ use Rattle.office_files.specs.KeptLaws.{tells_kept, listed_held}
 use Rattle.office_files.specs.OneLaws.{one_listing}
 use Rattle.office_files.specs.Stands.{Stands, StandsFor}
 use Rattle.office_catalog.specs.Known.{Known}
-use Rattle.office_catalog.specs.Held.{HoldsCatalog}
+use Rattle.office_catalog.specs.Held.{HoldsCatalog, IsForeign as IsForeignToCatalog}
+use Rattle.host_counts.specs.Held.{AreTold}
 use Rattle.office_known.specs.KnownLaws.{known_of_office, stands_catalog, one_catalog}
 use Rattle.office_pool.specs.FitLaws.{fits_stands}
 use Rattle.store_parts.specs.Held.{IsEither, IsStored}
 use Rattle.store_parts.specs.WriteLaws.{tells_in_kept}
 use Rattle.store_opening.specs.declared.found.Found.{Found}
 use Rattle.store_opening.specs.Strays.{IsStray}
-use Rattle.store_opening.specs.Recovers.{Holds, Recovers}
+use Rattle.store_opening.specs.Recovers.{Holds, IsHeld, IsWithoutCounts, IsForeign, Recovers}
+use Rattle.store_opening.proofs.HostTotals.{counts_of_office}
 use Rattle.store_opening.proofs.Strays.{never_stray}
 use Rattle.store_opening.proofs.UsedNames.{used_of, used_names}
 
@@ -100,37 +102,56 @@ module _ {D N S : Type 0} {d : DiskGhosts D} {n : NamerGhosts N S} where
       stands : Stands n.digest_of (index_of slots) s.backups all office
       stands = subst (λ (index : Index). Stands n.digest_of index s.backups all office) index_is s.stands
 
+  held_one : (new : Journal D d) (found : Found N S n) (all raw : Files) (office : Office) → new.halted ≡ false → told new ≡ Some all
+      → seen raw ≡ all → ((file : FileId) → uncertain new file ≡ false) → Opens found.pool.in_one_file (slots_of found.pool.names) raw
+      → AreFresh (slots_of found.pool.names) → HoldsCatalog all found.catalog
+      → AreTold all (length found.catalog.hosts) found.counts → StandsFor n.digest_of all office
+      → IsHeld new found.pool found.catalog found.counts office (record { digest_of = n.digest_of; used = used_of found.pool.names })
+  unfolding read_one
+  held_one new found all raw office ready told_is same certain opens fresh holds told s = record {
+    stored = read_one new found all raw office ready told_is same certain opens fresh holds s;
+    counted = counts_of_office n.digest_of s.index s.backups all office s.stands found.catalog found.counts holds told;
+  }
+
   pub recovered_by : (old new : Journal D d) (found : Found N S n) (a b : Office) → old.halted ≡ false → Quiet old new
       → Holds n.digest_of old a b
       → ((all : Files) → d.files old.disk ≡ Some all → Opens found.pool.in_one_file (slots_of found.pool.names) all)
       → AreFresh (slots_of found.pool.names) → ((all : Files) → told old ≡ Some all → HoldsCatalog all found.catalog)
-      → Recovers new found a b
-  recovered_by old new found a b ready quiet holds opens fresh catalog = step holds.either
+      → ((all : Files) → told old ≡ Some all → AreTold all (length found.catalog.hosts) found.counts) → Recovers new found a b
+  recovered_by old new found a b ready quiet holds opens fresh catalog counts = step holds.either
     where
       raw : (files : Files) × (d.files old.disk ≡ Some files) × (seen files ≡ holds.all)
       raw = told_raw (d.files old.disk) holds.all holds.told_is
 
-      stored : (office : Office) → StandsFor n.digest_of holds.all office
-          → IsStored new found.pool found.catalog office (record { digest_of = n.digest_of; used = used_of found.pool.names })
-      stored office s =
-          read_one new found holds.all raw.0 office (quiet.halted_same ∙ ready) (quiet.told_same ∙ holds.told_is) raw.2
-          (λ file. quiet.certain.each file (holds.certain.each file refl)) (opens raw.0 raw.1) fresh (catalog holds.all holds.told_is) s
+      held : (office : Office) → StandsFor n.digest_of holds.all office
+          → IsHeld new found.pool found.catalog found.counts office (record { digest_of = n.digest_of; used = used_of found.pool.names })
+      held office s =
+          held_one new found holds.all raw.0 office (quiet.halted_same ∙ ready) (quiet.told_same ∙ holds.told_is) raw.2
+          (λ file. quiet.certain.each file (holds.certain.each file refl)) (opens raw.0 raw.1) fresh (catalog holds.all holds.told_is)
+          (counts holds.all holds.told_is) s
 
       step : IsEither n.digest_of a b holds.all → Recovers new found a b
       step (inl s) = record {
         office = a;
         is_one = inl refl;
         names = record { digest_of = n.digest_of; used = used_of found.pool.names };
-        stored = stored a s;
+        held = held a s;
         fresh = fresh;
       }
       step (inr s) = record {
         office = b;
         is_one = inr refl;
         names = record { digest_of = n.digest_of; used = used_of found.pool.names };
-        stored = stored b s;
+        held = held b s;
         fresh = fresh;
       }
+
+-- ---- what is foreign to hosts is foreign, and was so before a read
+
+pub foreign_hosts : (old now : Option Files) (file : FileId) (found : Option (List ℕ)) → now ≡ old
+    → IsForeignToCatalog now file found ⊎ ((all : Files) → now ≡ Some all → IsWithoutCounts all file found) → IsForeign old file found
+foreign_hosts old now file found same (inl foreign) = inr (inl (subst (λ (t : Option Files). IsForeignToCatalog t file found) same foreign))
+foreign_hosts old now file found same (inr without) = inr (inr (inl (λ all is. without all (same ∙ is))))
 
 -- ---- files of one of the two are never foreign
 
@@ -142,9 +163,8 @@ module _ {D : Type 0} {d : DiskGhosts D} (digest_of : List ℕ → List ℕ) (jo
   pub pool_known : ((all : Files) (index : Index) → d.files journal.disk ≡ Some all → TellsIndex index all → HaveFiles index all → ⊥) → ⊥
   pool_known never = of_either (λ office s. pool_calm digest_of (d.files journal.disk) holds.all office holds.told_is s never)
 
-  pub catalog_known : ((all : Files) (known : Known) → told journal ≡ Some all → HoldsCatalog all known → ⊥) → ⊥
-  catalog_known never = of_either (λ office s.
-      never holds.all (known_of_office office) holds.told_is (stands_catalog digest_of s.index s.backups holds.all office s.stands))
+  pub hosts_known : ((all : Files) (office : Office) → told journal ≡ Some all → StandsFor digest_of all office → ⊥) → ⊥
+  hosts_known never = of_either (λ office s. never holds.all office holds.told_is s)
 
   pub stray_known : (file : FileId) (found : Option (List ℕ)) → ((all : Files) → told journal ≡ Some all → IsStray all file found) → ⊥
   stray_known file found stray = of_either (λ office s. never_stray digest_of holds.all office file found s (stray holds.all holds.told_is))

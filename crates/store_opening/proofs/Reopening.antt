@@ -138,3 +138,10 @@ still_foreign old new file found refusal e quiet says =
     subst (λ (t : Option Files). IsForeign t file found)
     (sym (quiet (λ fault. let clash : Foreign file found ≡ DiskFault = sym e ∙ fault in cc)).told_same)
     (says file found e)
+
+-- nor behind it, when the disk came back
+pub closed_foreign : {D : Type 0} {d : DiskGhosts D} (old new : Journal D d) (disk : D) (file : FileId) (found : Option (List ℕ))
+    (refusal : OpenRefusal) → disk ≡ new.disk → refusal ≡ Foreign file found → ((refusal ≡ DiskFault → ⊥) → Quiet old new)
+    → SaysForeign (told old) refusal → IsForeign (option_map seen (d.files disk)) file found
+closed_foreign {D} {d} old new disk file found refusal same e quiet says =
+    subst (λ (k : D). IsForeign (option_map seen (d.files k)) file found) (sym same) (still_foreign old new file found refusal e quiet says)

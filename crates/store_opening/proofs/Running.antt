@@ -17,6 +17,7 @@ use Rattle.pool_store.specs.declared.pool.Pool.{Pool}
 use Rattle.pool_store.specs.Opened.{IsFresh}
 use Rattle.pool_store.specs.Opening.{AreFresh}
 use Rattle.backup_views.specs.declared.kept.KeptView.{KeptView}
+use Rattle.ref_counts.specs.Numbers.{Items}
 use Rattle.ref_counts.specs.Stored.{Backup as StoredBackup}
 use Rattle.open_sessions.specs.declared.sessions.Sessions.{Sessions}
 use Rattle.open_sessions.specs.Opened.{IsDump, IsRestore, claims_in, claims_in_dumps, claims_in_restores}
@@ -35,14 +36,14 @@ use Rattle.office_model.specs.Meaning.{Reply}
 use Rattle.office_model.specs.Step.{State, Running, Halted, IsPicked}
 use Rattle.office_model.specs.events.Reopen.{carried}
 use Rattle.store_parts.specs.declared.parts.StoreParts.{StoreParts}
-use Rattle.store_parts.specs.Held.{AreUsed, given, IsStored, IsKeptView, MayBe}
+use Rattle.store_parts.specs.Held.{AreUsed, given, IsKeptView, MayBe}
 use Rattle.store_parts.specs.States.{slots, IsRunning, IsHalted, InState}
 use Rattle.store_parts.specs.Runs.{Steps, Reads}
 use Rattle.store_parts.specs.RunLaws.{running_reads}
 use Rattle.store_opening.specs.declared.found.Found.{Found}
 use Rattle.store_opening.specs.declared.fault.OpenRefusal.{OpenRefusal}
 use Rattle.store_opening.specs.declared.fault.OpenRefusal.TheVariants as O
-use Rattle.store_opening.specs.Recovers.{SaysWhy}
+use Rattle.store_opening.specs.Recovers.{IsHeld, SaysWhy}
 use Rattle.store_opening.specs.Begins.{MayLeave, IsPlain, Raised, Begins}
 use Rattle.store_opening.specs.Reopens.{reply_of, halts, IsPlainReply, first_of, second_of, with_journal, IsOfFound, Reopened, Goes, Reopens}
 use Rattle.store_opening.specs.Opens.{Opened}
@@ -68,19 +69,21 @@ kept_none kept hosts backups e = subst (λ (k : Option KeptView). IsKeptView k h
 module _ {D N S : Type 0} {d : DiskGhosts D} {n : NamerGhosts N S} where
   -- a store of these parts is at work
   fresh_running : (parts : StoreParts D N S d n) (found : Found N S n) (office : Office) (names : Names) → IsOfFound parts found
-      → AreFresh (slots parts) → IsStored parts.journal parts.pool parts.catalog (reopened office) names
+      → AreFresh (slots parts) → IsHeld parts.journal parts.pool parts.catalog parts.counts (reopened office) names
       → IsRunning parts (reopened office) names
-  fresh_running parts found office names is fresh stored = record {
+  fresh_running parts found office names is fresh held = record {
     working = record {
       ready = is.ready;
-      stored = stored;
+      stored = held.stored;
+      counted = held.counted;
       sessions = record {
-        dumps = pairs_none (λ i. IsDump (given (slots parts)) (contents_of stored.all)) parts.sessions.dumps.items is.no_dumps;
-        restores = pairs_none (λ i. IsRestore (given (slots parts)) (contents_of stored.all)) parts.sessions.restores.items is.no_restores;
+        dumps = pairs_none (λ i. IsDump (given (slots parts)) (contents_of held.stored.all)) parts.sessions.dumps.items is.no_dumps;
+        restores = pairs_none (λ i. IsRestore (given (slots parts)) (contents_of held.stored.all))
+            parts.sessions.restores.items is.no_restores;
         sequence = is.first;
       };
-      view = kept_none parts.views.kept office.hosts stored.backups is.no_view;
-      sound = stored.stands.sound;
+      view = kept_none parts.views.kept office.hosts held.stored.backups is.no_view;
+      sound = held.stored.stands.sound;
     };
     claimed = λ id. fresh_claims (slots parts id) (fresh id) ∙ sym (no_claims parts.sessions id is.no_dumps is.no_restores);
   }
@@ -95,14 +98,16 @@ module _ {D N S : Type 0} {d : DiskGhosts D} {n : NamerGhosts N S} where
     answer_is = ap ReopenedAnswer (epoch_is ∙ ap (λ (k : Known). k.epoch) raised.stored.catalog_is);
     names = raised.names;
     running = fresh_running parts found raised.office raised.names is
-        (subst (λ (p : Pool N S n). AreFresh (slots_of p.names)) (sym is.pool_is) raised.fresh) stored;
+        (subst (λ (p : Pool N S n). AreFresh (slots_of p.names)) (sym is.pool_is) raised.fresh) held;
   }
     where
-      stored : IsStored parts.journal parts.pool parts.catalog (reopened raised.office) raised.names
-      stored =
-          subst (λ (j : Journal D d). IsStored j parts.pool parts.catalog (reopened raised.office) raised.names) (sym same)
-          (subst (λ (p : Pool N S n). IsStored journal p parts.catalog (reopened raised.office) raised.names) (sym is.pool_is)
-          (subst (λ (k : Known). IsStored journal found.pool k (reopened raised.office) raised.names) (sym is.catalog_is) raised.stored))
+      held : IsHeld parts.journal parts.pool parts.catalog parts.counts (reopened raised.office) raised.names
+      held =
+          subst (λ (j : Journal D d). IsHeld j parts.pool parts.catalog parts.counts (reopened raised.office) raised.names) (sym same)
+          (subst (λ (p : Pool N S n). IsHeld journal p parts.catalog parts.counts (reopened raised.office) raised.names) (sym is.pool_is)
+          (subst (λ (k : Known). IsHeld journal found.pool k parts.counts (reopened raised.office) raised.names) (sym is.catalog_is)
+          (subst (λ (c : List Items). IsHeld journal found.pool found.catalog c (reopened raised.office) raised.names) (sym is.counts_are)
+          raised.held)))
 
   pub opened_of : (parts : StoreParts D N S d n) (journal : Journal D d) (found : Found N S n) (a b : Office) → Raised journal found a b
       → IsOfFound parts found → parts.journal ≡ journal → Opened a b parts
@@ -180,6 +185,7 @@ module _ {D N S : Type 0} {d : DiskGhosts D} {n : NamerGhosts N S} where
     halted_same = λ plain. absurd plain;
     quiet = λ plain. absurd plain;
     damaged = λ file found e. absurd cc;
+    in_kind = refl;
     counted = subst (λ (j : Journal D d). Counted (d.fault_count old.journal.disk) (d.fault_count j.disk) (answered
         (ReopenedAnswer epoch) ≡ Err DiskFault)) (sym same)
         (counted_as _ _ (IsErrOf (Ok found) O.DiskFault) (answered (ReopenedAnswer epoch) ≡ Err DiskFault) (λ p. absurd cc)
@@ -202,6 +208,7 @@ module _ {D N S : Type 0} {d : DiskGhosts D} {n : NamerGhosts N S} where
         halted_same = λ plain. halted ∙ neither_halts old.halted (halts refusal) (calm_of refusal plain);
         quiet = λ plain. quiet (plain_of refusal plain);
         damaged = λ file found e. says file found (damaged_of refusal file found e);
+        in_kind = tt;
         counted = counted_as _ _ (IsErrOf {T = Found N S n} (Err refusal) O.DiskFault) (refused (reply_of refusal) ≡ Err DiskFault)
             (λ p. fault_to refusal cc) (λ q. ap (λ (r : OpenRefusal). Err r) (fault_back refusal q)) counted;
       })
@@ -233,6 +240,7 @@ module _ {D N S : Type 0} {d : DiskGhosts D} {n : NamerGhosts N S} where
     quiet = quiet;
     pool_same = ap (λ (p : StoreParts D N S d n). p.pool) stays;
     catalog_same = ap (λ (p : StoreParts D N S d n). p.catalog) stays;
+    counts_same = ap (λ (p : StoreParts D N S d n). p.counts) stays;
     sessions_same = ap (λ (p : StoreParts D N S d n). p.sessions) stays;
     halted_same = halted;
     view = λ office names at.
@@ -282,6 +290,7 @@ module _ {D N S : Type 0} {d : DiskGhosts D} {n : NamerGhosts N S} where
           r.running.used.distinct,
           r.running.digest ∙ sym at.digest,
         );
+        undamaged = tt;
         in_state = r.running;
       }
     where
@@ -296,6 +305,7 @@ module _ {D N S : Type 0} {d : DiskGhosts D} {n : NamerGhosts N S} where
       record {
         next = Running office names;
         step = ((spent_at office last ∙ ap (λ (r : BrokenRule). Err r) (sym goes.0), refl), refl, refl);
+        undamaged = tt;
         in_state = still_in old new (Running office names) at (reopens.stays (Broken rule) refl) (reopens.halted_same tt)
             (reopens.quiet tt) goes.1.now;
       }
@@ -304,18 +314,21 @@ module _ {D N S : Type 0} {d : DiskGhosts D} {n : NamerGhosts N S} where
   steps_running old new (Err Memory) office names reopens at goes = record {
     next = Running office names;
     step = (refl, refl, refl);
+    undamaged = tt;
     in_state = still_in old new (Running office names) at (reopens.stays Memory refl) (reopens.halted_same tt) (reopens.quiet tt) goes;
   }
   steps_running old new (Err DiskFault) office names reopens at goes = elim goes.1 [
     | inl may ↦ record {
       next = Halted (durable office) (durable office) names;
       step = ((refl, inl refl), refl, refl);
+      undamaged = tt;
       in_state = halted_in old new (Running office names) names (durable office) (durable office) at at.used at.digest
           (reopens.stays DiskFault refl) goes.0 may;
     }
     | inr w ↦ record {
       next = Halted w.0 (reopened w.0) names;
       step = ((one_of (durable office) w.0 w.1, inr (ap reopened (one_of (durable office) w.0 w.1))), refl, refl);
+      undamaged = tt;
       in_state = halted_in old new (Running office names) names w.0 (reopened w.0) at at.used at.digest
           (reopens.stays DiskFault refl) goes.0 w.2;
     }
@@ -331,6 +344,7 @@ module _ {D N S : Type 0} {d : DiskGhosts D} {n : NamerGhosts N S} where
       r.running.used.distinct,
       r.running.digest ∙ sym at.digest,
     );
+    undamaged = tt;
     in_state = r.running;
   }
   steps_halted old new (Err (Broken rule)) a b names reopens at goes = record {
@@ -340,6 +354,7 @@ module _ {D N S : Type 0} {d : DiskGhosts D} {n : NamerGhosts N S} where
       refl,
       refl,
     );
+    undamaged = tt;
     in_state = still_in old new (Halted a b names) at (reopens.stays (Broken rule) refl) (reopens.halted_same tt)
         (reopens.quiet tt) goes.1.now;
   }
@@ -348,17 +363,20 @@ module _ {D N S : Type 0} {d : DiskGhosts D} {n : NamerGhosts N S} where
   steps_halted old new (Err Memory) a b names reopens at goes = record {
     next = Halted a b names;
     step = ((refl, refl), refl, refl);
+    undamaged = tt;
     in_state = still_in old new (Halted a b names) at (reopens.stays Memory refl) (reopens.halted_same tt) (reopens.quiet tt) goes;
   }
   steps_halted old new (Err DiskFault) a b names reopens at goes = elim goes.1 [
     | inl may ↦ record {
       next = Halted a b names;
       step = (inl (refl, refl), refl, refl);
+      undamaged = tt;
       in_state = halted_in old new (Halted a b names) names a b at at.used at.digest (reopens.stays DiskFault refl) goes.0 may;
     }
     | inr w ↦ record {
       next = Halted w.0 (reopened w.0) names;
       step = (inr (w.1, refl), refl, refl);
+      undamaged = tt;
       in_state = halted_in old new (Halted a b names) names w.0 (reopened w.0) at at.used at.digest
           (reopens.stays DiskFault refl) goes.0 w.2;
     }

@@ -10,10 +10,11 @@ use Rattle.pool_changes.specs.Kept.{slots_of}
 use Rattle.pool_store.specs.Opening.{AreFresh}
 use Rattle.office_model.specs.Office.{Office, Names, reopened, last_sequence}
 use Rattle.office_model.specs.Step.{IsPicked}
-use Rattle.store_parts.specs.Held.{IsEither, IsStored, MayBe}
+use Rattle.store_parts.specs.Held.{IsEither, MayBe}
 use Rattle.store_opening.specs.declared.found.Found.{Found}
 use Rattle.store_opening.specs.declared.fault.OpenRefusal.{OpenRefusal}
 use Rattle.store_opening.specs.declared.fault.OpenRefusal.TheVariants.{Foreign, EpochsSpent, DiskFault, Memory}
+use Rattle.store_opening.specs.Recovers.{IsHeld}
 
 abbrev pub MayLeave : (List ℕ → List ℕ) → Office → Office → Files → Type 0
 MayLeave digest_of a b found = IsEither digest_of a b found ⊎ IsEither digest_of (reopened a) (reopened b) found
@@ -44,7 +45,8 @@ module _ {D N S : Type 0} {d : DiskGhosts D} {n : NamerGhosts N S} where
     pub is_one : IsPicked a b office
     pub room : office.epoch < last_sequence
     pub names : Names
-    pub stored : IsStored new found.pool found.catalog (reopened office) names
+    pub held : IsHeld new found.pool found.catalog found.counts (reopened office) names
+    pub open held use *
     pub fresh : AreFresh (slots_of found.pool.names)
 
   abbrev pub Begins : Office → Office → Result (Found N S n) OpenRefusal → Journal D d → Type 0

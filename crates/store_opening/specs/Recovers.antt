@@ -1,8 +1,10 @@
 -- What an opening finds in the files that a journal tells.
 --     Holds      files that stand for one of two offices, all of them durable
+--     IsHeld      what is durable of an office, and the counts of its backups
 --     Recovers      one of the two was found
+--     IsWithoutCounts      a file of a host's counts that holds none
 --     IsForeign      a file that doesn't belong to a store;  IsForeignTo      or Intent, at an opening
-use Rattle.std.specs.Prelude.{◌≡◌, ◌⊎◌, ℕ, List, Option, option_map, Some}
+use Rattle.std.specs.Prelude.{◌≡◌, ◌⊎◌, ℕ, List, length, Option, option_map, Some}
 use Rattle.disk_trait.specs.declared.ids.FileId.{FileId}
 use Rattle.disk_trait.specs.declared.ids.FileId.TheVariants.{Intent}
 use Rattle.disk_trait.specs.declared.disk.Disk.{Ghosts as DiskGhosts}
@@ -14,22 +16,33 @@ use Rattle.intent_journal.specs.Overlay.{IsForeign as IsForeignIntent}
 use Rattle.journal_view.specs.Found.{seen}
 use Rattle.journal_view.specs.View.{told, uncertain, FindsOnly}
 use Rattle.pool_changes.specs.Kept.{slots_of}
+use Rattle.pool_store.specs.declared.pool.Pool.{Pool}
 use Rattle.pool_store.specs.Opening.{AreFresh}
 use Rattle.pool_store.specs.Opened.{IsForeign as IsForeignToPool}
-use Rattle.office_catalog.specs.Held.{IsForeign as IsForeignToCatalog}
+use Rattle.ref_counts.specs.Numbers.{Items}
+use Rattle.office_catalog.specs.Known.{Known}
+use Rattle.office_catalog.specs.Held.{HoldsCatalog, IsForeign as IsForeignToCatalog}
+use Rattle.host_counts.specs.Held.{IsForeign as IsForeignToCounts}
 use Rattle.office_model.specs.Office.{Office, Names}
 use Rattle.office_model.specs.Step.{IsPicked}
-use Rattle.store_parts.specs.Held.{IsEither, IsStored, MayBe}
+use Rattle.store_parts.specs.Held.{AreCountsOf, IsEither, IsStored, MayBe}
 use Rattle.store_opening.specs.declared.found.Found.{Found}
 use Rattle.store_opening.specs.declared.fault.OpenRefusal.{OpenRefusal}
 use Rattle.store_opening.specs.declared.fault.OpenRefusal.TheVariants.{Foreign}
 use Rattle.store_opening.specs.Strays.{IsStray}
 
--- the file doesn't belong to the pool, to the catalog, or to any
+-- the file of the counts of a host that Head names, of which this was found, holds none
+pub record IsWithoutCounts (files : Files) (file : FileId) (found : Option (List ℕ)) : Type 0 where
+  pub known : Known
+  pub holds : HoldsCatalog files known
+  pub foreign : IsForeignToCounts (Some files) (length known.hosts) file found
+
+-- the file doesn't belong to the pool, to the catalog, to the counts, or to any
 abbrev pub IsForeign : (told : Option Files) → FileId → Option (List ℕ) → Type 0
 IsForeign told file found =
     IsForeignToPool told file found
-    ⊎ (IsForeignToCatalog told file found ⊎ ((all : Files) → told ≡ Some all → IsStray all file found))
+    ⊎ (IsForeignToCatalog told file found
+    ⊎ (((all : Files) → told ≡ Some all → IsWithoutCounts all file found) ⊎ ((all : Files) → told ≡ Some all → IsStray all file found)))
 
 -- what a refusal says of the files
 abbrev pub SaysForeign : (told : Option Files) → OpenRefusal → Type 0
@@ -57,10 +70,17 @@ module _ {D : Type 0} {d : DiskGhosts D} where
     pub crash : FindsOnly old new (IsEither digest_of a b)
 
 module _ {D N S : Type 0} {d : DiskGhosts D} {n : NamerGhosts N S} where
+  -- what is durable, and how often its backups name each content
+  pub record IsHeld (journal : Journal D d) (pool : Pool N S n) (catalog : Known) (counts : List Items) (office : Office) (names : Names)
+      : Type 0 where
+    pub stored : IsStored journal pool catalog office names
+    pub counted : AreCountsOf counts stored.backups
+
   -- one of the two offices was found; nothing is staged or claimed
   pub record Recovers (journal : Journal D d) (found : Found N S n) (a b : Office) : Type 0 where
     pub office : Office
     pub is_one : IsPicked a b office
     pub names : Names
-    pub stored : IsStored journal found.pool found.catalog office names
+    pub held : IsHeld journal found.pool found.catalog found.counts office names
+    pub open held use *
     pub fresh : AreFresh (slots_of found.pool.names)

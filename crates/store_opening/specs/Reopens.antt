@@ -3,7 +3,7 @@
 --     Goes      how it went, of a store that a crash would have left with one of two offices
 --     Reopens      it went so, and a refusal changed nothing but what is said here
 --     first_of, second_of      the two offices of a state, of which a crash leaves one
-use Rattle.std.specs.Prelude.{List, ℕ, ◌≡◌, ◌<◌, ◌+◌, Bool, true, false, [], None, Ok, Err, is_some, Option}
+use Rattle.std.specs.Prelude.{List, ℕ, ◌≡◌, ◌<◌, ◌+◌, Bool, true, false, [], None, Ok, Err, IfOk, is_some, Option}
 use Rattle.fault_counts.specs.Counts.{Counted}
 use Rattle.disk_trait.specs.declared.ids.FileId.{FileId}
 use Rattle.disk_trait.specs.declared.disk.Disk.{Ghosts as DiskGhosts}
@@ -17,7 +17,8 @@ use Rattle.office_model.specs.declared.refusal.Refusal.{Refusal}
 use Rattle.office_model.specs.declared.refusal.Refusal.TheVariants.{Broken, Halted as HaltedReply, DiskFault, Damaged, Memory}
 use Rattle.office_model.specs.Meaning.{Reply}
 use Rattle.office_model.specs.Office.{Office, Names, durable, reopened, last_sequence}
-use Rattle.office_model.specs.Step.{State, Running, Halted, IsPicked}
+use Rattle.office_model.specs.declared.event.Event.TheVariants.{Reopen}
+use Rattle.office_model.specs.Step.{State, Running, Halted, IsAnswerTo, IsPicked}
 use Rattle.store_parts.specs.declared.parts.StoreParts.{StoreParts}
 use Rattle.store_parts.specs.Held.{MayBe}
 use Rattle.store_parts.specs.States.{IsRunning}
@@ -69,6 +70,7 @@ module _ {D N S : Type 0} {d : DiskGhosts D} {n : NamerGhosts N S} where
     pub ready : parts.halted ≡ false
     pub pool_is : parts.pool ≡ found.pool
     pub catalog_is : parts.catalog ≡ found.catalog
+    pub counts_are : parts.counts ≡ found.counts
     pub no_dumps : parts.sessions.dumps.items ≡ []
     pub no_restores : parts.sessions.restores.items ≡ []
     pub first : parts.sessions.sequence ≡ 0
@@ -101,4 +103,5 @@ module _ {D N S : Type 0} {d : DiskGhosts D} {n : NamerGhosts N S} where
     pub quiet : IsPlainReply reply → old.journal.halted ≡ false → is_some (told old.journal) ≡ true → Quiet old.journal new.journal
     pub damaged : (file : FileId) (found : Option (List ℕ)) → reply ≡ Err (Damaged file found)
         → IsForeignTo (d.files old.journal.disk) (d.files new.journal.disk) file found
+    pub in_kind : IfOk reply (IsAnswerTo Reopen)
     pub counted : Counted (d.fault_count old.journal.disk) (d.fault_count new.journal.disk) (reply ≡ Err DiskFault)

@@ -119,6 +119,7 @@ fn take_over<D: Disk, N: Namer>(parts: &mut StoreParts<D, N>, alloc: Global, fou
 {
     parts.pool = found.pool;
     parts.catalog = found.catalog;
+    parts.counts = found.counts;
     parts.sessions = Sessions::new(alloc);
     parts.views = Views::new();
     parts.halted = false;

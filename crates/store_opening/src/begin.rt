@@ -5,7 +5,7 @@ ghost use Rattle.fault_counts.specs.Counts.{Counted};
 ghost use Rattle.journal_view.specs.View.{told, Quiet, FindsOnly};
 ghost use Rattle.office_model.specs.Office.{Office, Names, reopened};
 ghost use Rattle.store_parts.specs.Held.{IsStored};
-ghost use Rattle.store_opening.specs.Recovers.{Holds, Looks, SaysForeign};
+ghost use Rattle.store_opening.specs.Recovers.{Holds, IsHeld, Looks, SaysForeign};
 ghost use Rattle.store_opening.specs.Begins.{MayLeave, Begins};
 
 use crate::fault::{OpenRefusal, refusal_of};
@@ -27,8 +27,8 @@ fn raise<D: Disk, N: Namer>(
 ) -> Result<(), JournalFault>
     requires ready { journal.old.halted ≡ false }
     requires room { found.old.catalog.epoch < 18446744073709551615 }
-    ensures ok { OnOk result ((office : Office) (names : Names) → IsStored journal.old found.old.pool found.old.catalog office names
-        → IsStored journal.new found.new.pool found.new.catalog (reopened office) names) }
+    ensures ok { OnOk result ((office : Office) (names : Names) → IsHeld journal.old found.old.pool found.old.catalog found.old.counts office names
+        → IsHeld journal.new found.new.pool found.new.catalog found.new.counts (reopened office) names) }
     ensures pool { found.new.pool ≡ found.old.pool }
     ensures looks { (office : Office) (names : Names) → IsStored journal.old found.old.pool found.old.catalog office names
         → Looks N.digest_of journal.old journal.new office (reopened office) }

@@ -5,6 +5,7 @@ ghost use Rattle.disk_trait.specs.declared.ids.FileId.{FileId as File};
 ghost use Rattle.pool_store.specs.Opening.{OfOpening};
 
 use disk_trait::{Bytes, FileId};
+use host_counts::HostCountsFault;
 use intent_journal::{JournalFault, OpenJournalFault};
 use office_catalog::CatalogFault;
 use pool_store::PoolFault;
@@ -89,6 +90,19 @@ pub(crate) fn catalog_refusal(fault: CatalogFault) -> OpenRefusal
         CatalogFault::Foreign { file, found } => OpenRefusal::Foreign { file, found },
         CatalogFault::Disk => OpenRefusal::DiskFault,
         CatalogFault::Memory => OpenRefusal::Memory,
+    }
+}
+
+/// What a fault of reading counts is to the opening of their store.
+pub(crate) fn counts_refusal(fault: HostCountsFault) -> OpenRefusal
+    ensures foreign { (file : File) (found : Option (List ℕ)) → result ≡ OpenRefusal.Foreign file found → fault ≡ HostCountsFault.Foreign file found }
+    ensures disk { (result ≡ OpenRefusal.DiskFault) ↔ (fault ≡ HostCountsFault.Disk) }
+    ensures kind { result ≡ OpenRefusal.EpochsSpent → ⊥ }
+{
+    match fault {
+        HostCountsFault::Foreign { file, found } => OpenRefusal::Foreign { file, found },
+        HostCountsFault::Disk => OpenRefusal::DiskFault,
+        HostCountsFault::Memory => OpenRefusal::Memory,
     }
 }
 

@@ -1,6 +1,6 @@
 //! Finding the office that the files of a journal stand for.
 
-ghost use Rattle.std.specs.Prelude.{◌≡◌, true, false, List, ℕ, Option, Some, IfOk, IfErr, OnOk, Err, IsErrOf};
+ghost use Rattle.std.specs.Prelude.{◌≡◌, ◌⊎◌, true, false, length, List, ℕ, Option, Some, IfOk, IfErr, OnOk, Err, IsErrOf};
 ghost use Rattle.fault_counts.specs.Counts.{Counted};
 ghost use Rattle.disk_trait.specs.declared.ids.FileId.{FileId as File};
 ghost use Rattle.disk_trait.specs.Files.{Files};
@@ -13,13 +13,16 @@ ghost use Rattle.pool_store.specs.Complete.{HaveFiles};
 ghost use Rattle.office_catalog.specs.Held.{HoldsCatalog, IsForeign as IsForeignToCatalog};
 ghost use Rattle.office_catalog.specs.Known.{Known};
 ghost use Rattle.office_model.specs.Office.{Office};
+ghost use Rattle.office_files.specs.Stands.{StandsFor};
+ghost use Rattle.host_counts.specs.Held.{AreTold};
 ghost use Rattle.store_opening.specs.Strays.{HasNoStray};
-ghost use Rattle.store_opening.specs.Recovers.{Holds, Recovers, SaysForeign};
+ghost use Rattle.store_opening.specs.Recovers.{Holds, Recovers, IsWithoutCounts, SaysForeign};
 
-use crate::fault::{OpenRefusal, catalog_refusal, pool_refusal};
+use crate::fault::{OpenRefusal, catalog_refusal, counts_refusal, pool_refusal};
 use crate::found::Found;
 use crate::stray::refuse_strays;
 use disk_trait::{Disk, FileId};
+use host_counts::HostCounts;
 use intent_journal::Journal;
 use office_catalog::{Catalog, held_files_are_not_foreign};
 use pool_name::Namer;
@@ -66,7 +69,57 @@ fn read_catalog<D: Disk>(alloc: Global, journal: &mut Journal<D>) -> Result<Cata
     }
 }
 
-/// The pool and the catalog of a store's files.
+/// The counts of the hosts of a catalog.
+fn read_counts<D: Disk>(
+    alloc: Global,
+    journal: &mut Journal<D>,
+    catalog: &Catalog,
+) -> Result<HostCounts, OpenRefusal>
+    requires { journal.old.halted ≡ false }
+    ensures told { IfOk result (λ counts. (all : Files) → told journal.old ≡ Some all → AreTold all (length catalog.now.hosts) counts) }
+    ensures foreign { IfErr result (λ refusal. (file : File) (found : Option (List ℕ)) → refusal ≡ OpenRefusal.Foreign file found
+        → (all : Files) → told journal.old ≡ Some all → HoldsCatalog all catalog.now → IsWithoutCounts all file found) }
+    ensures kind { IfErr result (λ refusal. refusal ≡ OpenRefusal.EpochsSpent → ⊥) }
+    ensures quiet { Quiet journal.old journal.new }
+    ensures counted { Counted (D.fault_count journal.old.disk) (D.fault_count journal.new.disk) (IsErrOf result OpenRefusal.DiskFault) }
+{
+    match host_counts::read_all(alloc, journal, catalog.hosts().len()) {
+        Ok(counts) => Ok(counts),
+        Err(fault) => Err(counts_refusal(fault)),
+    }
+}
+
+/// What a store's files hold of its hosts.
+#[derive(Drop)]
+struct HeldHosts {
+    catalog: Catalog,
+    counts: HostCounts,
+}
+
+/// The catalog and the counts of a store's files.
+fn read_hosts<D: Disk>(alloc: Global, journal: &mut Journal<D>) -> Result<HeldHosts, OpenRefusal>
+    requires { journal.old.halted ≡ false }
+    ensures catalog { IfOk result (λ hosts. (all : Files) → told journal.old ≡ Some all → HoldsCatalog all hosts.catalog) }
+    ensures counts { IfOk result (λ hosts. (all : Files) → told journal.old ≡ Some all → AreTold all (length hosts.catalog.hosts) hosts.counts) }
+    ensures foreign { IfErr result (λ refusal. (file : File) (found : Option (List ℕ)) → refusal ≡ OpenRefusal.Foreign file found
+        → IsForeignToCatalog (told journal.old) file found ⊎ ((all : Files) → told journal.old ≡ Some all → IsWithoutCounts all file found)) }
+    ensures complete { IfErr result (λ refusal. (digest_of : List ℕ → List ℕ) (all : Files) (office : Office) → told journal.old ≡ Some all
+        → StandsFor digest_of all office → (file : File) (found : Option (List ℕ)) → refusal ≡ OpenRefusal.Foreign file found → ⊥) }
+    ensures kind { IfErr result (λ refusal. refusal ≡ OpenRefusal.EpochsSpent → ⊥) }
+    ensures quiet { Quiet journal.old journal.new }
+    ensures counted { Counted (D.fault_count journal.old.disk) (D.fault_count journal.new.disk) (IsErrOf result OpenRefusal.DiskFault) }
+{
+    let catalog = match read_catalog(alloc, journal) {
+        Ok(catalog) => catalog,
+        Err(refusal) => return Err(refusal),
+    };
+    match read_counts(alloc, journal, &catalog) {
+        Ok(counts) => Ok(HeldHosts { catalog, counts }),
+        Err(refusal) => Err(refusal),
+    }
+}
+
+/// The pool, the catalog and the counts of a store's files.
 fn read_parts<D: Disk, N: Namer>(
     alloc: Global,
     journal: &mut Journal<D>,
@@ -76,6 +129,7 @@ fn read_parts<D: Disk, N: Namer>(
     ensures opened { IfOk result (λ found. (all : Files) → D.files journal.old.disk ≡ Some all → Opens found.pool.in_one_file (slots_of found.pool.names) all) }
     ensures fresh { IfOk result (λ found. AreFresh (slots_of found.pool.names)) }
     ensures catalog { IfOk result (λ found. (all : Files) → told journal.old ≡ Some all → HoldsCatalog all found.catalog) }
+    ensures counts { IfOk result (λ found. (all : Files) → told journal.old ≡ Some all → AreTold all (length found.catalog.hosts) found.counts) }
     ensures foreign { IfErr result (SaysForeign (told journal.old)) }
     ensures known { IfErr result (λ refusal. (a b : Office) → Holds N.digest_of journal.old a b
         → (file : File) (found : Option (List ℕ)) → refusal ≡ OpenRefusal.Foreign file found → ⊥) }
@@ -87,8 +141,12 @@ fn read_parts<D: Disk, N: Namer>(
         Ok(pool) => pool,
         Err(refusal) => return Err(refusal),
     };
-    match read_catalog(alloc, journal) {
-        Ok(catalog) => Ok(Found { pool, catalog }),
+    match read_hosts(alloc, journal) {
+        Ok(hosts) => Ok(Found {
+            pool,
+            catalog: hosts.catalog,
+            counts: hosts.counts,
+        }),
         Err(refusal) => Err(refusal),
     }
 }

@@ -60,6 +60,7 @@ fn parts_of<D: Disk, N: Namer>(
         journal,
         pool: found.pool,
         catalog: found.catalog,
+        counts: found.counts,
         sessions: Sessions::new(alloc),
         views: Views::new(),
         halted: false,

@@ -1,5 +1,6 @@
 -- What the parts of a store hold of an office.
 --     IsStored journal pool catalog office names      what is durable: the journal's files stand for the office
+--     AreCountsOf counts backups      how often the stored backups of each host name each content
 --     IsKeptView kept hosts backups      the view that is kept is the tree of a backup
 --     IsEither, MayBe      files that stand for one of two offices;  a crash now leaves one of them
 use Rattle.std.specs.Prelude.{◌≡◌, ◌⊎◌, ℕ, ◌<◌, true, false, List, Option, Some, None, is_some, slice_get}
@@ -17,10 +18,12 @@ use Rattle.pool_store.specs.declared.pool.Pool.{Pool}
 use Rattle.pool_store.specs.Fits.{Fits}
 use Rattle.pool_store.specs.Sweeps.{AreAllUsed}
 use Rattle.backup_views.specs.declared.kept.KeptView.{KeptView}
-use Rattle.ref_counts.specs.Stored.{Backup as StoredBackup}
+use Rattle.ref_counts.specs.Numbers.{Items, number, total}
+use Rattle.ref_counts.specs.Stored.{Backup as StoredBackup, stored}
 use Rattle.office_catalog.specs.Known.{Known}
 use Rattle.office_model.specs.Office.{Office, Host, Backup, Names}
 use Rattle.office_model.specs.UsedNames.{Among, AreDistinct}
+use Rattle.office_files.specs.Pairs.{AtEachPair}
 use Rattle.office_files.specs.Stands.{Stands, StandsFor}
 use Rattle.office_known.specs.KnownLaws.{known_of_office}
 
@@ -34,6 +37,14 @@ pub record AreUsed (slots : Slots) (used : List PoolId) : Type 0 where
 -- a live or staged name
 abbrev pub given : Slots → PoolId → Type 0
 given slots id = is_given (slots id) ≡ true
+
+-- the counts of what the backups of a host are stored as
+abbrev pub AreCounts : Items → List StoredBackup → Type 0
+AreCounts items backups = (id : PoolId) → number items id ≡ total id (stored backups)
+
+-- the counts of each host, in the order of adding
+abbrev pub AreCountsOf : List Items → List (List StoredBackup) → Type 0
+AreCountsOf counts backups = AtEachPair (λ host. AreCounts) counts backups
 
 -- what is kept is the tree of the backup that it says
 pub record IsViewOf (kept : KeptView) (hosts : List Host) (backups : List (List StoredBackup)) : Type 0 where

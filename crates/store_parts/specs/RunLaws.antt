@@ -1,7 +1,8 @@
 -- Parts at work that have read or refused.
 --     running_reads      they are at work with the same office
 --     runs_reads, runs_refused, runs_memory, runs_read_fault      and the event was answered as promised
-use Rattle.std.specs.Prelude.{◌≡◌, ℕ, List, Result, Option, Ok, Err}
+--     reads_behind, runs_behind      parts of which the journal alone was read, and an event behind that
+use Rattle.std.specs.Prelude.{◌≡◌, ℕ, List, Result, Option, Ok, Err, IfOk}
 use Rattle.std.proofs.Common.{refl, sym, ap, ◌∙◌, subst, inl, inr, arith}
 use Rattle.fault_counts.specs.Counts.{Counted, Rose}
 use Rattle.disk_trait.specs.declared.ids.PoolId.{PoolId}
@@ -11,7 +12,7 @@ use Rattle.disk_trait.specs.Files.{Files}
 use Rattle.pool_name.specs.declared.namer.Namer.{Ghosts as NamerGhosts}
 use Rattle.journal_view.specs.Found.{IsAlikeBut}
 use Rattle.journal_view.specs.View.{uncertain, FindsOnly, Quiet}
-use Rattle.journal_view.specs.ViewLaws.{FindsOnly-still, FindsOnly-each, Quiet-still, Quiet-then}
+use Rattle.journal_view.specs.ViewLaws.{FindsOnly-still, FindsOnly-each, FindsOnly-then, Quiet-still, Quiet-then}
 use Rattle.pool_changes.specs.Slots.{claims_of}
 use Rattle.pool_changes.specs.Kept.{slots_of}
 use Rattle.pool_changes.specs.Listed.{index_of}
@@ -19,6 +20,7 @@ use Rattle.pool_index.specs.Index.{TellsIn}
 use Rattle.pool_store.specs.declared.pool.Pool.{Pool}
 use Rattle.pool_store.specs.Fits.{Fits}
 use Rattle.pool_store.specs.Sweeps.{AreAllUsed}
+use Rattle.ref_counts.specs.Numbers.{Items}
 use Rattle.office_catalog.specs.Known.{Known}
 use Rattle.open_sessions.specs.declared.sessions.Sessions.{Sessions}
 use Rattle.open_sessions.specs.Opened.{AreSessions, claims_in}
@@ -27,11 +29,12 @@ use Rattle.office_model.specs.declared.refusal.BrokenRule.{BrokenRule}
 use Rattle.office_model.specs.declared.refusal.Refusal.TheVariants.{Broken, DiskFault, Memory}
 use Rattle.office_model.specs.Office.{Office, Names, durable}
 use Rattle.office_model.specs.Meaning.{Carried, Judged, Reply, Reads as ReadsFiles}
-use Rattle.office_model.specs.Step.{Running, IsStep, meaning_of}
+use Rattle.office_model.specs.Step.{Running, IsStep, IsAnswerTo, meaning_of}
+use Rattle.office_model.specs.History.{IsUndamaged}
 use Rattle.office_files.specs.Pooled.{contents_of}
 use Rattle.office_files.specs.Stands.{Stands}
 use Rattle.store_parts.specs.declared.parts.StoreParts.{StoreParts}
-use Rattle.store_parts.specs.Held.{given, AreUsed, IsStored}
+use Rattle.store_parts.specs.Held.{given, AreUsed, AreCountsOf, IsKeptView, IsStored}
 use Rattle.store_parts.specs.States.{slots, IsWorking, IsRunning}
 use Rattle.store_parts.specs.Runs.{MayRecover, Steps, Runs, Reads}
 use Rattle.store_parts.specs.StoredLaws.{stored_found, stored_quiet}
@@ -81,6 +84,7 @@ module _ {D N S : Type 0} {d : DiskGhosts D} {n : NamerGhosts N S} where
           digest = at.digest;
           catalog_is = reads.catalog_same ∙ at.catalog_is;
         };
+        counted = subst (λ (counts : List Items). AreCountsOf counts at.backups) (sym reads.counts_same) at.counted;
         sessions = subst (λ (p : Pool N S n). AreSessions (given (slots_of p.names)) (contents_of at.all) office new.sessions) pool
             (subst (λ (s : Sessions). AreSessions (given (slots old)) (contents_of at.all) office s) (sym reads.sessions_same) at.sessions);
         view = reads.view office names at;
@@ -107,14 +111,17 @@ module _ {D N S : Type 0} {d : DiskGhosts D} {n : NamerGhosts N S} where
 
   pub runs_reads : (old new : StoreParts D N S d n) (event : Event) (reply : Reply) → Reads old new
       → ((office : Office) (names : Names) → IsRunning old office names → IsStep (Running office names) event reply (Running office names))
+      → ((office : Office) (names : Names) → IsRunning old office names → IsUndamaged reply) → IfOk reply (IsAnswerTo event)
       → Counted (d.fault_count old.journal.disk) (d.fault_count new.journal.disk) (reply ≡ Err DiskFault) → Runs old event reply new
-  runs_reads old new event reply reads step counted = record {
+  runs_reads old new event reply reads step undamaged in_kind counted = record {
     steps = λ office names at. record {
       next = Running office names;
       step = step office names at;
+      undamaged = undamaged office names at;
       in_state = running_reads old new office names at reads;
     };
     crash = λ office names at. crash_quiet old new office names at reads ((meaning_of event).carried office names);
+    in_kind = in_kind;
     counted = counted;
   }
 
@@ -124,6 +131,7 @@ module _ {D N S : Type 0} {d : DiskGhosts D} {n : NamerGhosts N S} where
     quiet = Quiet-still old.journal;
     pool_same = refl;
     catalog_same = refl;
+    counts_same = refl;
     sessions_same = refl;
     halted_same = refl;
     view = λ office names at. at.view;
@@ -134,13 +142,13 @@ module _ {D N S : Type 0} {d : DiskGhosts D} {n : NamerGhosts N S} where
       → Counted (d.fault_count old.journal.disk) (d.fault_count new.journal.disk) ⊥ → Runs old event (Err (Broken rule)) new
   runs_refused old new event rule reads broken counted =
       runs_reads old new event (Err (Broken rule)) reads
-      (λ office names at. step_refused office names event rule at.used.distinct (broken office names at))
+      (λ office names at. step_refused office names event rule at.used.distinct (broken office names at)) (λ office names at. tt) tt
       (counted_fine counted (λ e. e) (λ e. absurd cc))
 
   pub runs_memory : (old new : StoreParts D N S d n) (event : Event) → Reads old new
       → Counted (d.fault_count old.journal.disk) (d.fault_count new.journal.disk) ⊥ → Runs old event (Err Memory) new
   runs_memory old new event reads counted =
-      runs_reads old new event (Err Memory) reads (λ office names at. step_memory office names event at.used.distinct)
+      runs_reads old new event (Err Memory) reads (λ office names at. step_memory office names event at.used.distinct) (λ office names at. tt) tt
       (counted_fine counted (λ e. e) (λ e. absurd cc))
 
   -- a fault of the disk in a read
@@ -149,4 +157,32 @@ module _ {D N S : Type 0} {d : DiskGhosts D} {n : NamerGhosts N S} where
       → Counted (d.fault_count old.journal.disk) (d.fault_count new.journal.disk) failed → failed → Runs old event (Err DiskFault) new
   runs_read_fault old new event reads touch counted is =
       runs_reads old new event (Err DiskFault) reads
-      (λ office names at. step_read_fault office names event at.used.distinct (touch office names)) (counted_failed counted is refl)
+      (λ office names at. step_read_fault office names event at.used.distinct (touch office names)) (λ office names at. tt) tt
+      (counted_failed counted is refl)
+
+  -- parts that are as before, but for a journal that is quiet
+  pub reads_behind : (old mid : StoreParts D N S d n) → Quiet old.journal mid.journal → mid ≡ record old { journal = mid.journal }
+      → Reads old mid
+  reads_behind old mid quiet others = record {
+    quiet = quiet;
+    pool_same = ap (λ (p : StoreParts D N S d n). p.pool) others;
+    catalog_same = ap (λ (p : StoreParts D N S d n). p.catalog) others;
+    counts_same = ap (λ (p : StoreParts D N S d n). p.counts) others;
+    sessions_same = ap (λ (p : StoreParts D N S d n). p.sessions) others;
+    halted_same = ap (λ (p : StoreParts D N S d n). p.halted) others;
+    view = λ office names at.
+        subst (λ (p : StoreParts D N S d n). IsKeptView p.views.kept office.hosts at.backups) (sym others) at.view;
+  }
+
+  -- what read first, and then answered, answered
+  pub runs_behind : (old mid new : StoreParts D N S d n) (event : Event) (reply : Reply) → Reads old mid
+      → d.fault_count mid.journal.disk ≡ d.fault_count old.journal.disk → Runs mid event reply new → Runs old event reply new
+  runs_behind old mid new event reply reads same runs = record {
+    steps = λ office names at. runs.steps office names (running_reads old mid office names at reads);
+    crash = λ office names at.
+        FindsOnly-then (MayRecover n.digest_of office ((meaning_of event).carried office names)) old.journal mid.journal new.journal
+        (crash_quiet old mid office names at reads ((meaning_of event).carried office names))
+        (runs.crash office names (running_reads old mid office names at reads));
+    in_kind = runs.in_kind;
+    counted = subst (λ (k : ℕ). Counted k (d.fault_count new.journal.disk) (reply ≡ Err DiskFault)) same runs.counted;
+  }

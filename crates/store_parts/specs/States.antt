@@ -14,17 +14,18 @@ use Rattle.office_model.specs.Office.{Office, Names, IsSound, durable}
 use Rattle.office_model.specs.Step.{State, Running, Halted}
 use Rattle.office_files.specs.Pooled.{contents_of}
 use Rattle.store_parts.specs.declared.parts.StoreParts.{StoreParts}
-use Rattle.store_parts.specs.Held.{AreUsed, given, IsKeptView, IsStored, MayBe}
+use Rattle.store_parts.specs.Held.{AreUsed, given, AreCountsOf, IsKeptView, IsStored, MayBe}
 
 module _ {D N S : Type 0} {d : DiskGhosts D} {n : NamerGhosts N S} where
   abbrev pub slots : StoreParts D N S d n → Slots
   slots parts = slots_of parts.pool.names
 
-  -- at work with this office, whose open sessions name live or staged contents
+  -- at work with this office, with the counts of its backups, and open sessions that name live or staged contents
   pub record IsWorking (parts : StoreParts D N S d n) (office : Office) (names : Names) : Type 0 where
     pub ready : parts.halted ≡ false
     pub stored : IsStored parts.journal parts.pool parts.catalog (durable office) names
     pub open stored use *
+    pub counted : AreCountsOf parts.counts stored.backups
     pub sessions : AreSessions (given (slots parts)) (contents_of stored.all) office parts.sessions
     pub view : IsKeptView parts.views.kept office.hosts stored.backups
     pub sound : IsSound office

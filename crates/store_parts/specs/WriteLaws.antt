@@ -37,13 +37,13 @@ use Rattle.office_model.specs.declared.refusal.Refusal.{Refusal}
 use Rattle.office_model.specs.declared.refusal.Refusal.TheVariants as R
 use Rattle.office_model.specs.Office.{Office, Host, Names, IsSound, durable}
 use Rattle.office_model.specs.Meaning.{Carried, Reply}
-use Rattle.office_model.specs.Step.{Running, Halted, meaning_of}
+use Rattle.office_model.specs.Step.{Running, Halted, IsAnswerTo, meaning_of}
 use Rattle.office_model.specs.UsedNames.{AreNamesAfter}
 use Rattle.office_files.specs.Pooled.{contents_of}
 use Rattle.office_files.specs.Stands.{Stands, StandsFor}
 use Rattle.office_known.specs.KnownLaws.{known_of_office}
 use Rattle.store_parts.specs.declared.parts.StoreParts.{StoreParts}
-use Rattle.store_parts.specs.Held.{given, AreUsed, IsKeptView, IsEither, IsStored}
+use Rattle.store_parts.specs.Held.{given, AreUsed, AreCountsOf, IsKeptView, IsEither, IsStored}
 use Rattle.store_parts.specs.States.{slots, IsRunning}
 use Rattle.store_parts.specs.Runs.{MayRecover, Runs, Reads}
 use Rattle.store_parts.specs.Writes.{journal_answer, IsWriteFault, Writes}
@@ -86,6 +86,7 @@ module _ {D N S : Type 0} {d : DiskGhosts D} {n : NamerGhosts N S} where
     quiet = w.committed.memory refl;
     pool_same = w.pool_same;
     catalog_same = w.catalog_same;
+    counts_same = w.counts_same;
     sessions_same = w.sessions_same;
     halted_same = w.stays (λ e. absurd cc);
     view = λ office names at.
@@ -111,7 +112,8 @@ module _ {D N S : Type 0} {d : DiskGhosts D} {n : NamerGhosts N S} where
   pub runs_write_refused : (old new : StoreParts D N S d n) (event : Event) (changes : List Change) (refusal : Refusal)
       → Writes old changes (Err refusal) new
       → ((office : Office) (names : Names) → (at : IsRunning old office names) → LeadsTo n.digest_of event changes office names at.all)
-      → ((office : Office) (names : Names) → IsCommitting ((meaning_of event).touches office names)) → Runs old event (Err refusal) new
+      → ((office : Office) (names : Names) → IsRunning old office names → IsCommitting ((meaning_of event).touches office names))
+      → Runs old event (Err refusal) new
   runs_write_refused old new event changes R.Memory w leads touch =
       runs_memory old new event (write_reads old new changes w) (counted_fine w.committed.counted (λ e. absurd cc) (λ e. e))
   runs_write_refused old new event changes R.DiskFault w leads touch = record {
@@ -119,7 +121,8 @@ module _ {D N S : Type 0} {d : DiskGhosts D} {n : NamerGhosts N S} where
         let to = leads office names at in
         record {
           next = Halted (durable office) (durable to.carried.after) names;
-          step = step_halted office names event to.carried at.used.distinct to.judged (touch office names);
+          step = step_halted office names event to.carried at.used.distinct to.judged (touch office names at);
+          undamaged = tt;
           in_state = record {
             stuck = w.stops refl;
             may_be = record {
@@ -133,6 +136,7 @@ module _ {D N S : Type 0} {d : DiskGhosts D} {n : NamerGhosts N S} where
           };
         };
     crash = λ office names at. crash_written old new event changes (Err R.DiskFault) w office names at (leads office names at);
+    in_kind = tt;
     counted = counted_failed w.committed.counted refl refl;
   }
   runs_write_refused old new event changes (R.Broken rule) w leads touch = absurd w.kind
@@ -149,8 +153,9 @@ module _ {D N S : Type 0} {d : DiskGhosts D} {n : NamerGhosts N S} where
   pub runs_written : (old mid new : StoreParts D N S d n) (event : Event) (answer : Answer) (changes : List Change) (done : Unit {0})
       → Writes old changes (Ok done) mid → new.journal ≡ mid.journal
       → ((office : Office) (names : Names) → (at : IsRunning old office names) → Holds event answer changes office names at.all new)
-      → ((office : Office) (names : Names) → AreNamesAfter office names event (Ok answer) names.used) → Runs old event (Ok answer) new
-  runs_written old mid new event answer changes done w same holds stay = record {
+      → ((office : Office) (names : Names) → AreNamesAfter office names event (Ok answer) names.used) → IsAnswerTo event answer
+      → Runs old event (Ok answer) new
+  runs_written old mid new event answer changes done w same holds stay in_kind = record {
     steps = λ office names at.
         let h = holds office names at in
         record {
@@ -160,11 +165,13 @@ module _ {D N S : Type 0} {d : DiskGhosts D} {n : NamerGhosts N S} where
             stay office names,
             refl,
           );
+          undamaged = tt;
           in_state = h.running;
         };
     crash = λ office names at.
         subst (λ (j : Journal D d). FindsOnly old.journal j (MayRecover n.digest_of office ((meaning_of event).carried office names))) (sym same)
         (crash_written old mid event changes (Ok done) w office names at (holds office names at).leads);
+    in_kind = in_kind;
     counted = counted_fine
         (subst (λ (j : Journal D d). Counted (d.fault_count old.journal.disk) (d.fault_count j.disk) (journal_answer (Ok done) ≡ Err Disk)) (sym same)
         w.committed.counted) (λ e. absurd cc) (λ e. absurd cc);
@@ -175,10 +182,10 @@ module _ {D N S : Type 0} {d : DiskGhosts D} {n : NamerGhosts N S} where
       (changes : List Change) (done : Unit {0}) (backups : List (List StoredBackup)) → Writes old changes (Ok done) mid → AreChanges changes
       → LeavesIndex changes
       → Stands n.digest_of (index_of (slots old)) backups (applied changes at.all) (durable (record office { hosts = hosts }))
-      → IsKeptView old.views.kept hosts backups → IsSound (record office { hosts = hosts })
+      → IsKeptView old.views.kept hosts backups → AreCountsOf new.counts backups → IsSound (record office { hosts = hosts })
       → new.journal ≡ mid.journal → new.pool ≡ mid.pool → new.catalog ≡ known_of_office (record office { hosts = hosts })
       → new.sessions ≡ mid.sessions → new.views ≡ mid.views → new.halted ≡ mid.halted → IsRunning new (record office { hosts = hosts }) names
-  running_hosts old mid new office hosts names at changes done backups w are leaves stands view sound j p c s v h = record {
+  running_hosts old mid new office hosts names at changes done backups w are leaves stands view counted sound j p c s v h = record {
     working = record {
       ready = h ∙ w.stays (λ e. absurd cc) ∙ at.ready;
       stored = record {
@@ -208,6 +215,7 @@ module _ {D N S : Type 0} {d : DiskGhosts D} {n : NamerGhosts N S} where
         digest = at.digest;
         catalog_is = c;
       };
+      counted = counted;
       sessions = subst (λ (p : Pool N S n). AreSessions (given (slots_of p.names)) (contents_of (applied changes at.all))
           (record office { hosts = hosts }) new.sessions) pool
           (subst (λ (s : Sessions). AreSessions (given (slots old)) (contents_of (applied changes at.all)) (record office { hosts = hosts }) s)

@@ -4,6 +4,7 @@ ghost use Rattle.std.specs.Prelude.{⊤};
 
 use backup_views::Views;
 use disk_trait::Disk;
+use host_counts::HostCounts;
 use intent_journal::Journal;
 use office_catalog::Catalog;
 use open_sessions::Sessions;
@@ -17,6 +18,8 @@ pub struct StoreParts<D: Disk, N: Namer> {
     pub pool: Pool<N>,
     /// Head and the indices of hosts, as the journal's files hold them.
     pub catalog: Catalog,
+    /// How often the stored backups of each host name each content, as the journal's files hold it.
+    pub counts: HostCounts,
     pub sessions: Sessions,
     pub views: Views,
     /// Whether a commit or an opening failed, so that the office is one of two until a reopening finds which.

@@ -10,7 +10,7 @@ use Rattle.office_model.specs.declared.refusal.Refusal.{Refusal}
 use Rattle.office_model.specs.declared.refusal.Refusal.TheVariants.{Broken, Halted, DiskFault, Damaged, Memory}
 use Rattle.office_model.specs.Office.{Office, Names}
 use Rattle.office_model.specs.Meaning.{Judged, ◌>>=◌, Reads as ReadsFiles}
-use Rattle.office_model.specs.Step.{meaning_of}
+use Rattle.office_model.specs.Step.{IsAnswerTo, meaning_of}
 use Rattle.office_model.specs.UsedNames.{AreNamesAfter}
 use Rattle.store_parts.specs.declared.parts.StoreParts.{StoreParts}
 use Rattle.store_parts.specs.States.{IsRunning}
@@ -58,7 +58,8 @@ module _ {D N S : Type 0} {d : DiskGhosts D} {n : NamerGhosts N S} where
       (means : (office : Office) (names : Names) → (meaning_of event).carried office names
       ≡ (judged office >>= λ x. Ok (record { answer = f x; after = office })))
       (touches : (office : Office) (names : Names) → (meaning_of event).touches office names ≡ ReadsFiles)
-      (unnamed : (office : Office) (names : Names) (answer : Answer) → AreNamesAfter office names event (Ok answer) names.used) where
+      (unnamed : (office : Office) (names : Names) (answer : Answer) → AreNamesAfter office names event (Ok answer) names.used)
+      (in_kind : (x : A) → IsAnswerTo event (f x)) where
     carried_is : (office : Office) (names : Names) (told : Judged A) → judged office ≡ told
         → (meaning_of event).carried office names ≡ (told >>= λ x. Ok (record { answer = f x; after = office }))
     carried_is office names told e =
@@ -69,7 +70,7 @@ module _ {D N S : Type 0} {d : DiskGhosts D} {n : NamerGhosts N S} where
         → Counted (d.fault_count old.journal.disk) (d.fault_count new.journal.disk) failed → (failed → ⊥) → Runs old event (Ok (f x)) new
     runs_ok new x reads is counted fine =
         runs_reads old new event (Ok (f x)) reads
-        (λ office names at. (carried_is office names (Ok x) (is office names at), unnamed office names (f x), refl))
+        (λ office names at. (carried_is office names (Ok x) (is office names at), unnamed office names (f x), refl)) (λ office names at. tt) (in_kind x)
         (counted_fine counted fine (λ e. absurd cc))
 
     pub runs_err : {T : Type 0} (new : StoreParts D N S d n) (refusal : Refusal) → Reads old new → IsRefusal old judged refusal
@@ -80,6 +81,7 @@ module _ {D N S : Type 0} {d : DiskGhosts D} {n : NamerGhosts N S} where
         (counted_fine counted (λ e. cc) (λ e. e))
     runs_err new (Damaged file found) reads is counted =
         runs_reads old new event (Err (Damaged file found)) reads (λ office names at. absurd (is office names at))
+        (λ office names at. absurd (is office names at)) tt
         (counted_fine counted (λ e. cc) (λ e. cc))
     runs_err new DiskFault reads is counted = runs_read_fault old new event reads touches counted refl
     runs_err new Memory reads is counted = runs_memory old new event reads (counted_fine counted (λ e. cc) (λ e. e))

@@ -1,5 +1,5 @@
 -- Which backup's view is kept after a load, and that the tables that it reads aren't damaged.
-use Rattle.std.specs.Prelude.{◌≡◌, ◌==◌, ◌&&◌, ◌<◌, ℕ, zero, suc, ◌-◌, take, get_or, Bool, true, false, List, [], ◌∷◌, drop, length, Option, Some, None, Result, Ok, Err, OnOk, slice_get, if◌then◌else◌}
+use Rattle.std.specs.Prelude.{◌≡◌, ◌==◌, ◌&&◌, ◌<◌, ℕ, zero, suc, ◌-◌, take, get_or, Bool, true, false, List, [], ◌∷◌, drop, length, Option, Some, None, Result, Ok, Err, OnOk, IfOk, slice_get, if◌then◌else◌}
 use Rattle.std.specs.Cmp.{first_so, second_so}
 use Rattle.std.proofs.Common.{refl, sym, ap, ◌∙◌, subst, arith}
 use Rattle.std.proofs.lemmas.List.{take_rest}
@@ -36,7 +36,7 @@ use Rattle.store_parts.specs.States.{slots, IsRunning}
 use Rattle.store_parts.specs.Runs.{Reads}
 use Rattle.store_reads.specs.CatalogLaws.{IsLineFound, host_there, no_host, index_there, host_of_index, line_there, line_at_backup, no_backup, backup_there, backup_at_there, backup_of_at, backup_of_none, one_backup}
 use Rattle.store_reads.specs.TreeLaws.{tables_from, tree_from_at, first_dropped}
-use Rattle.store_reads.specs.Shown.{refusal_of_view, ShowsBackup, IsLoaded, IsReadFault}
+use Rattle.store_reads.specs.Shown.{refusal_of_view, ShowsBackup, IsLoaded, IsTreeAt, IsReadFault}
 
 -- ---- the trees that are told of
 
@@ -68,6 +68,10 @@ same_line o e f = cc
 pub on_ok : {A E P Q : Type 0} (result : Result A E) → (P → Q) → OnOk result P → OnOk result Q
 on_ok (Ok x) f p = f p
 on_ok (Err e) f p = tt
+
+pub if_ok : {A E : Type 0} {P Q : A → Type 0} (result : Result A E) → ((x : A) → P x → Q x) → IfOk result P → IfOk result Q
+if_ok (Ok x) f p = f x p
+if_ok (Err e) f p = tt
 
 there : {A : Type 0} (xs : List A) (i : ℕ) → i < length xs → (x : A) × (slice_get xs i ≡ Some x)
 there [] i h = absurd (omega arith)
@@ -204,6 +208,23 @@ module _ {D N S : Type 0} {d : DiskGhosts D} {n : NamerGhosts N S} where
         (subst (λ (found : Option (List ℕ)). IsTableFile table.0 found)
         (sym (said.no_table.there at.all at.told_is ∙ ap at.all said.file_is)) table.1.file)
 
+    -- the tree that they tell is that of the backup
+    pub tree_is : (tree : Rows)
+        → ((all : Files) (tables : List Rows) → told old.journal ≡ Some all → AreTables all place lines tables
+        → tree ≡ tree_from lines tables)
+        → IsTreeAt old place line tree
+    tree_is tree tells office names at shown stored_there is_shown is_stored =
+        let h = host_of old office names at place index is_index in
+        let same : h.shown ≡ shown = same_line (slice_get at.backups place) h.is_shown is_shown in
+        let here : lines ≡ drop line (lines_of h.host.backups) = lines_are ∙ ap (drop line) h.lines in
+        let tables : AreTables at.all place lines (drop line (stored h.shown)) =
+        subst (λ (ls : List Line). AreTables at.all place ls (drop line (stored h.shown))) (sym here)
+        (tables_from (IsListed (index_of (slots old))) (contents_of at.all) at.all place h.host h.shown h.stands line) in
+        tells at.all (drop line (stored h.shown)) at.told_is tables
+        ∙ ap (λ (ls : List Line). tree_from ls (drop line (stored h.shown))) here
+        ∙ tree_from_at (IsListed (index_of (slots old))) (contents_of at.all) at.all place h.host h.shown h.stands line stored_there
+        (ap (λ (l : List StoredBackup). slice_get l line) same ∙ is_stored)
+
   -- the same of lines that were read
   module _ (old : StoreParts D N S d n) (place line : ℕ) (index : Index) (read : List Line)
       (is_index : slice_get old.catalog.hosts place ≡ Some index) (read_is : read ≡ index.lines) where
@@ -235,6 +256,12 @@ module _ {D N S : Type 0} {d : DiskGhosts D} {n : NamerGhosts N S} where
     pub read_fault : (fault : ViewFault) → SaysOneDamaged (told old.journal) place given_lines fault
         → IsReadFault old (refusal_of_view fault)
     read_fault = load_fault old place line index given_lines is_index lines_are
+
+    pub read_tree_is : (tree : Rows)
+        → ((all : Files) (tables : List Rows) → told old.journal ≡ Some all → AreTables all place given_lines tables
+        → tree ≡ tree_from given_lines tables)
+        → IsTreeAt old place line tree
+    read_tree_is = tree_is old place line index given_lines is_index lines_are
 
   -- ---- a load by name and number
 
@@ -272,6 +299,31 @@ module _ {D N S : Type 0} {d : DiskGhosts D} {n : NamerGhosts N S} where
           tree = ap (λ (x : Backup). x.tree) (sym backups) ∙ is.tree;
           whole = is.whole;
           told = is.told;
+        })
+
+  -- the tree of the backup itself
+  module _ (old : StoreParts D N S d n) (name : List ℕ) (number place line : ℕ)
+      (is_place : Some place ≡ host_named (names_of old.catalog.hosts) name)
+      (is_line : IsLineFound old.catalog place number (Some line)) where
+    pub loaded_tree : (tree : Rows) → IsTreeAt old place line tree → IsLoaded old name number tree
+    loaded_tree tree is office names at =
+        let h = host_there old.catalog (durable office) at.catalog_is name place is_place in
+        let b = backup_there old.catalog (durable office) at.catalog_is place h.host h.there number line is_line in
+        let at_b = backup_at_there old.catalog (durable office) at.catalog_is place h.host h.there number line is_line in
+        let shown =
+        pair_at (StandsHost (IsListed (index_of (slots old))) (contents_of at.all) at.all) office.hosts at.backups
+        at.stands.hosts place h.host h.there in
+        let s =
+        pair_at (λ i. IsShown (IsListed (index_of (slots old))) (contents_of at.all)) h.host.backups shown.0
+        shown.2.shown line b.backup b.there in
+        let rows : tree ≡ s.0.rows = is office names at shown.0 s.0 shown.1 s.1 in
+        subst (λ (rs : Rows). ShowsBackup (IsListed (index_of (slots old))) (contents_of at.all) office.hosts name number rs) (sym rows)
+        (record {
+          backup = b.backup;
+          is = backup_of_at office.hosts name place number h.host h.is ∙ ap (λ j. j >>= λ x. Ok x.value) at_b;
+          tree = s.2.tree;
+          whole = s.2.whole;
+          told = s.2.told;
         })
 
   -- ---- refused by name or number

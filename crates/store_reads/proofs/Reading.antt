@@ -138,6 +138,7 @@ module _ {D N S : Type 0} {d : DiskGhosts D} {n : NamerGhosts N S} where
     quiet = Quiet-then old.journal mid.journal new.journal reads.quiet looks.quiet;
     pool_same = looks.pool_same ∙ reads.pool_same;
     catalog_same = looks.catalog_same ∙ reads.catalog_same;
+    counts_same = looks.counts_same ∙ reads.counts_same;
     sessions_same = looks.sessions_same ∙ reads.sessions_same;
     halted_same = looks.halted_same ∙ reads.halted_same;
     view = λ office names at.
@@ -151,7 +152,7 @@ module _ {D N S : Type 0} {d : DiskGhosts D} {n : NamerGhosts N S} where
         → Counted (count_of old) (count_of new) (Failed {T = Unit {0}} (Err refusal)) → Runs old (Lookup name number path) (Err refusal) new
     lookup_refused refusal is counted =
         runs_err old (Lookup name number path) (λ office. LookupEvent.node_of_path office.hosts name number path) Entry
-        (λ office names. refl) (λ office names. refl) (λ office names answer. refl) new refusal reads
+        (λ office names. refl) (λ office names. refl) (λ office names answer. refl) (λ x. refl) new refusal reads
         (refused_later old (λ office. backup_of office.hosts name number)
         (λ backup. found NoPath (node_at backup.tree path) >>= λ item. Ok (node_of item)) refusal is) counted
 
@@ -167,14 +168,14 @@ module _ {D N S : Type 0} {d : DiskGhosts D} {n : NamerGhosts N S} where
           → (failed → ⊥) → Runs old (Lookup name number path) (Ok (Entry node)) new
       lookup_ok node e counted fine =
           runs_ok old (Lookup name number path) (λ office. LookupEvent.node_of_path office.hosts name number path) Entry
-          (λ office names. refl) (λ office names. refl) (λ office names answer. refl) new node reads
+          (λ office names. refl) (λ office names. refl) (λ office names answer. refl) (λ x. refl) new node reads
           (λ office names at. lookup_told office names at ∙ e) counted fine
 
       pub lookup_err : (refusal : Refusal) {failed : Type 0} → Answers {A = Node} (node_told record_at) (Err refusal)
           → Counted (count_of old) (count_of new) failed → (failed → ⊥) → Runs old (Lookup name number path) (Err refusal) new
       lookup_err refusal answers counted fine =
           runs_err old (Lookup name number path) (λ office. LookupEvent.node_of_path office.hosts name number path) Entry
-          (λ office names. refl) (λ office names. refl) (λ office names answer. refl) {T = Node} new refusal reads
+          (λ office names. refl) (λ office names. refl) (λ office names answer. refl) (λ x. refl) {T = Node} new refusal reads
           (refused_answer old (λ office. LookupEvent.node_of_path office.hosts name number path)
           (node_told record_at) refusal lookup_told answers)
           (counted_fine counted fine (answers_fine (node_told record_at) refusal answers))
@@ -187,7 +188,7 @@ module _ {D N S : Type 0} {d : DiskGhosts D} {n : NamerGhosts N S} where
         → Runs old (ReadFile name number path) (Err refusal) mid
     file_refused refusal is counted =
         runs_err old (ReadFile name number path) (λ office. ReadFileEvent.file_of office.hosts name number path) Content
-        (λ office names. refl) (λ office names. refl) (λ office names answer. refl) mid refusal reads
+        (λ office names. refl) (λ office names. refl) (λ office names answer. refl) (λ x. refl) mid refusal reads
         (refused_later old (λ office. backup_of office.hosts name number)
         (λ backup. found NoPath (node_at backup.tree path) >>= ReadFileEvent.file_bytes) refusal is) counted
 
@@ -205,7 +206,7 @@ module _ {D N S : Type 0} {d : DiskGhosts D} {n : NamerGhosts N S} where
           → (failed → ⊥) → Runs old (ReadFile name number path) (Err (Broken rule)) mid
       file_rule rule e counted fine =
           runs_err old (ReadFile name number path) (λ office. ReadFileEvent.file_of office.hosts name number path) Content
-          (λ office names. refl) (λ office names. refl) (λ office names answer. refl) {T = Node} mid (Broken rule) reads
+          (λ office names. refl) (λ office names. refl) (λ office names answer. refl) (λ x. refl) {T = Node} mid (Broken rule) reads
           (λ office names at. file_told office names at ∙ ap (λ j. j >>= λ content. Ok (bytes_of (contents_of at.all) content)) e)
           (counted_fine counted fine (λ e. cc))
 
@@ -229,7 +230,7 @@ module _ {D N S : Type 0} {d : DiskGhosts D} {n : NamerGhosts N S} where
             → Counted (count_of mid) (count_of new) also → (also → ⊥) → Runs old (ReadFile name number path) (Ok (Content bytes)) new
         file_ok bytes read more fine_too =
             runs_ok old (ReadFile name number path) (λ office. ReadFileEvent.file_of office.hosts name number path) Content
-            (λ office names. refl) (λ office names. refl) (λ office names answer. refl) new bytes (reads_then old mid new reads looks)
+            (λ office names. refl) (λ office names. refl) (λ office names answer. refl) (λ x. refl) new bytes (reads_then old mid new reads looks)
             (λ office names at. file_told office names at
             ∙ ap (λ j. j >>= λ content. Ok (bytes_of (contents_of at.all) content)) is
             ∙ ap (λ (b : List ℕ). Ok b) (sym (read at.all (reads.quiet.told_same ∙ at.told_is))))
@@ -249,5 +250,5 @@ module _ {D N S : Type 0} {d : DiskGhosts D} {n : NamerGhosts N S} where
             → Runs old (ReadFile name number path) (Err refusal) new
         file_err refusal fault more =
             runs_err old (ReadFile name number path) (λ office. ReadFileEvent.file_of office.hosts name number path) Content
-            (λ office names. refl) (λ office names. refl) (λ office names answer. refl) new refusal (reads_then old mid new reads looks)
+            (λ office names. refl) (λ office names. refl) (λ office names answer. refl) (λ x. refl) new refusal (reads_then old mid new reads looks)
             (file_fault refusal fault) (counted_then counted fine more)

@@ -1,11 +1,12 @@
 -- What a read of a backup finds, and how it is refused.
 --     ShowsBackup given contents hosts name number rows      the tree of the backup of this name and number is that of the rows
 --     IsLoaded parts name number rows      in each office that the parts are at work with
+--     IsTreeAt parts host line tree      the tree is that of the backup at this line of this host
 --     node_told, content_told, list_told, entries_told      what rows say to Lookup, ReadFile and List
 --     IsRefusal parts judged refusal      a rule that is broken there, or a fault
 --     Looks old new      files were read, and the parts are as before
 --     Answers judged reply      what was judged, or want of memory
-use Rattle.std.specs.Prelude.{⊤, ◌≡◌, ℕ, List, [], ◌∷◌, Option, Some, None, Result, Ok, Err, option_map}
+use Rattle.std.specs.Prelude.{⊤, ◌≡◌, ℕ, List, [], ◌∷◌, Option, Some, None, Result, Ok, Err, option_map, slice_get}
 use Rattle.disk_trait.specs.declared.ids.PoolId.{PoolId}
 use Rattle.disk_trait.specs.declared.ids.FileId.TheVariants.{Pool as PoolFile}
 use Rattle.disk_trait.specs.declared.disk.Disk.{Ghosts as DiskGhosts}
@@ -21,6 +22,7 @@ use Rattle.backup_views.specs.declared.fault.ViewFault.TheVariants as V
 use Rattle.pool_changes.specs.Listed.{index_of}
 use Rattle.pool_store.specs.declared.fault.PoolFault.{PoolFault}
 use Rattle.pool_store.specs.declared.fault.PoolFault.TheVariants as P
+use Rattle.ref_counts.specs.Stored.{Backup as StoredBackup}
 use Rattle.stored_trees.specs.Resolved.{resolved, AreTold}
 use Rattle.office_model.specs.declared.answer.NamedNode.{NamedNode}
 use Rattle.office_model.specs.declared.nodes.Node.{Node}
@@ -133,6 +135,12 @@ module _ {D N S : Type 0} {d : DiskGhosts D} {n : NamerGhosts N S} where
       (office : Office) (names : Names) → (at : IsRunning parts office names)
       → ShowsBackup (IsListed (index_of (slots parts))) (contents_of at.all) office.hosts name number rows
 
+  -- the rows that are stored for the backup at this line of this host
+  abbrev pub IsTreeAt : StoreParts D N S d n → ℕ → ℕ → Rows → Type 0
+  IsTreeAt parts host line tree =
+      (office : Office) (names : Names) (at : IsRunning parts office names) (shown : List StoredBackup) (stored : StoredBackup)
+      → slice_get at.backups host ≡ Some shown → slice_get shown line ≡ Some stored → tree ≡ stored.rows
+
   -- a rule that is broken there, want of memory or a fault of the disk; a damaged file can't be there
   abbrev pub IsRefusal : {A : Type 0} → StoreParts D N S d n → (Office → Judged A) → Refusal → Type 0
   IsRefusal parts judged (R.Broken rule) = (office : Office) (names : Names) → IsRunning parts office names → judged office ≡ Err rule
@@ -161,6 +169,7 @@ module _ {D N S : Type 0} {d : DiskGhosts D} {n : NamerGhosts N S} where
     pub quiet : Quiet old.journal new.journal
     pub pool_same : new.pool ≡ old.pool
     pub catalog_same : new.catalog ≡ old.catalog
+    pub counts_same : new.counts ≡ old.counts
     pub sessions_same : new.sessions ≡ old.sessions
     pub halted_same : new.halted ≡ old.halted
     pub views_same : new.views ≡ old.views

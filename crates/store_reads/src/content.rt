@@ -32,7 +32,7 @@ fn refusal_of(fault: PoolFault) -> Refusal
 }
 
 /// The bytes of a content, none if there is no id: then nothing is read.
-pub(crate) fn read_content<D: Disk, N: Namer>(
+pub fn read_content<D: Disk, N: Namer>(
     parts: &mut StoreParts<D, N>,
     alloc: Global,
     content: Option<PoolId>,

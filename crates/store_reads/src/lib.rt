@@ -13,6 +13,7 @@
 //! | [`lookup`] | the node at a path, without the bytes of a file |
 //! | [`list`] | what lies directly in a directory |
 //! | [`read_file`] | the bytes of the file at a path |
+//! | [`read_backup`], [`read_content`], [`node_of`] | for other events: the tree of a backup, a content's bytes, a record's node |
 #![tactic(auto)]
 
 mod content;
@@ -23,7 +24,11 @@ mod nodes;
 mod read_file_event;
 #[cfg(test)]
 mod tests;
+mod tree;
 
+pub use content::read_content;
 pub use list_event::list;
 pub use lookup_event::lookup;
+pub use nodes::node_of;
 pub use read_file_event::read_file;
+pub use tree::read_backup;

@@ -18,7 +18,7 @@ use std::alloc::Global;
 use store_parts::StoreParts;
 
 /// What a fault of a view's tables is to a caller of the store.
-fn refusal_of(fault: ViewFault) -> Refusal
+pub(crate) fn refusal_of(fault: ViewFault) -> Refusal
     ensures { result ≡ refusal_of_view fault }
 {
     match fault {

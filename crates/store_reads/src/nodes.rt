@@ -8,7 +8,7 @@ use office_model::{FileNode, Node};
 use std::alloc::{AllocError, Global};
 
 /// The node that a record says, without the bytes of a file, None for a deletion mark; or want of memory.
-pub(crate) fn node_of(alloc: Global, stored: &Record) -> Result<Option<Node>, AllocError>
+pub fn node_of(alloc: Global, stored: &Record) -> Result<Option<Node>, AllocError>
     ensures { IfOk result (λ node. node ≡ node_in stored.now) }
 {
     match stored {

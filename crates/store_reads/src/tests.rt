@@ -9,6 +9,7 @@ use attr_tables::{Record, Row, StoredFile, Table, write_table};
 use backup_rules::{Kind, Line, Rules};
 use backup_views::Views;
 use disk_trait::{Disk, DiskRoom, FileId, MemoryDisk, PoolId};
+use host_counts::HostCounts;
 use intent_journal::Journal;
 use office_catalog::{Catalog, CatalogChange};
 use office_model::{Answer, EntryList, Node, Refusal};
@@ -206,6 +207,7 @@ fn parts_of(alloc: Global) -> Result<StoreParts<MemoryDisk, FirstByteNamer>, Fai
         journal,
         pool,
         catalog,
+        counts: HostCounts::new(alloc)?,
         sessions: Sessions {
             dumps: Vec::new(alloc),
             restores: Vec::new(alloc),

@@ -9,6 +9,7 @@ returns-in-Ok-gather-clause-planned g c =
     planned_of c.args.parts.now c.gather.new.journal c.args.at c.args.now c.index-dump.result.now
     (slice_get_read _ _ _ _ refl c.requires.within c.index-dump.ensures) c.in-Ok.lines c.in-Ok-tree.rows c.in-Ok.ensures.judged c.in-Ok-tree.ensures
     c.in-Ok-gather.gathered.folding c.in-Ok-gather.gathered.counts c.build.result c.in-Ok-gather.ensures.folded c.in-Ok-gather.ensures.counts
+    c.in-Ok-gather.ensures.within
     c.build.ensures.built
 
 pub returns-in-Ok-gather-clause-refused : goal.returns-in-Ok-gather-clause-refused

@@ -1,6 +1,6 @@
 -- The event is a reading that plans, and a commit behind it.
 use Rattle.store_commits.specs.EventLaws.{runs_no_session, runs_not_planned}
-use Rattle.store_commits.specs.HoldLaws.{changes_planned, fits_planned, runs_not_written, runs_committed}
+use Rattle.store_commits.specs.HoldLaws.{changes_planned, fits_planned, within_planned, runs_not_written, runs_committed}
 use Rattle.store_commits.proofs.event.commit_dump.Goals as goal
 
 pub returns-in-None : goal.returns-in-None
@@ -28,6 +28,12 @@ accept_commit-requires-clause-fits g c =
     c.in-Some.ensures.within c.in-Ok.ensures.quiet c.in-Ok.ensures.others c.in-Ok.ensures.planned c.write.new.self.catalog
     c.in-Ok-write.ensures.catalog_same
 
+pub accept_commit-requires-clause-counted : goal.accept_commit-requires-clause-counted
+accept_commit-requires-clause-counted g c =
+    within_planned c.args.parts.now c.plan_commit.new.parts c.args.session c.args.now c.in-Some.at c.in-Ok.plan c.in-Some.ensures.index
+    c.in-Some.ensures.within c.in-Ok.ensures.quiet c.in-Ok.ensures.others c.in-Ok.ensures.planned c.write.new.self.counts
+    c.in-Ok-write.ensures.counts_same
+
 pub returns : goal.returns
 returns g c =
     runs_committed c.args.parts.now c.plan_commit.new.parts c.args.session c.args.now c.in-Some.at c.in-Ok.plan c.in-Some.ensures.index
@@ -37,6 +43,7 @@ returns g c =
       pool = c.accept_commit.ensures.pool;
       form = c.accept_commit.ensures.form;
       catalog = c.accept_commit.ensures.catalog;
+      counts = c.accept_commit.ensures.counts;
       dumps = c.accept_commit.ensures.dumps;
       restores = c.accept_commit.ensures.restores;
       sequence = c.accept_commit.ensures.sequence;

@@ -10,10 +10,10 @@ returns-in-None g c = runs_refused _ _ _ _ (reads_still _) (abort_refused _ c.ar
     (counted_still _ _ (λ e. e))
 
 pub returns-in-Err : goal.returns-in-Err
-returns-in-Err g c = runs_memory _ _ _ (reads_same _ _ refl c.in-Err.ensures.err refl refl refl refl) (counted_still _ _ (λ e. e))
+returns-in-Err g c = runs_memory _ _ _ (reads_same _ _ refl c.in-Err.ensures.err refl refl refl refl refl) (counted_still _ _ (λ e. e))
 
 pub returns : goal.returns
 returns g c = runs_aborted _ c.args.session _ c.in-Some.at c.index.result.now c.in-Some.ensures.index
-    (slice_get_read _ _ _ _ refl c.in-Some.ensures.within c.index.ensures) refl refl refl refl
+    (slice_get_read _ _ _ _ refl c.in-Some.ensures.within c.index.ensures) refl refl refl refl refl
     c.in-Ok.ensures.go c.release_dump.ensures.form c.take_dump-dump.ensures.others (ap (λ v. v.items) c.take_dump-dump.ensures.restores)
     c.take_dump-dump.ensures.sequence

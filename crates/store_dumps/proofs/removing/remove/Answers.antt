@@ -18,7 +18,7 @@ pub returns-in-Ok-remove : goal.returns-in-Ok-remove
 returns-in-Ok-remove g c = runs_removed _ c.args.session c.args.path.now c.in-Some.at c.index.result.now c.in-Some.ensures.index
     (slice_get_read _ _ _ _ refl c.in-Some.ensures.within c.index.ensures) _
     (c.in-Ok-remove.ensures.ok c.index.result.now
-    (slice_get_read _ _ _ _ refl c.in-Some.ensures.within c.index.ensures)) refl refl refl refl
+    (slice_get_read _ _ _ _ refl c.in-Some.ensures.within c.index.ensures)) refl refl refl refl refl
     (go_alike (slots_of c.args.parts.now.pool.names) (slots_of c.release_rows.new.pool.names) _ _
     (c.within.ensures ∙ (λ i. within_rows (c.as_slice.ensures.value i)
     ((c.rows.ensures.rows ∙ c.in-Ok.ensures) i))) c.release_rows.ensures.go)
@@ -27,7 +27,7 @@ returns-in-Ok-remove g c = runs_removed _ c.args.session c.args.path.now c.in-So
     (ap (λ v. v.items) c.in-Ok-remove.ensures.restores) c.in-Ok-remove.ensures.sequence
 
 pub returns-in-Err-NoPath : goal.returns-in-Err-NoPath
-returns-in-Err-NoPath g c = runs_alike_refused _ _ _ _ refl refl refl refl refl
+returns-in-Err-NoPath g c = runs_alike_refused _ _ _ _ refl refl refl refl refl refl
     (record {
       dumps = c.in-Err-NoPath.ensures.err;
       restores = ap
@@ -40,7 +40,7 @@ returns-in-Err-NoPath g c = runs_alike_refused _ _ _ _ refl refl refl refl refl
     (slice_get_read _ _ _ _ refl c.in-Some.ensures.within c.index.ensures)))
 
 pub returns : goal.returns
-returns g c = runs_alike_memory _ _ _ refl refl refl refl refl
+returns g c = runs_alike_memory _ _ _ refl refl refl refl refl refl
     (record {
       dumps = c.in-Err-Memory.ensures.err;
       restores = ap

@@ -7,7 +7,7 @@ pub returns-in-Ok-refuse_strays-clause-recovers : goal.returns-in-Ok-refuse_stra
 returns-in-Ok-refuse_strays-clause-recovers g c = λ a b holds.
     recovered_by c.args.journal.now _ c.in-Ok.found a b c.requires
     (Quiet-then c.args.journal.now c.read_parts.new.journal _ c.in-Ok.ensures.quiet c.in-Ok-refuse_strays.ensures.quiet)
-    holds c.in-Ok.ensures.opened c.in-Ok.ensures.fresh c.in-Ok.ensures.catalog
+    holds c.in-Ok.ensures.opened c.in-Ok.ensures.fresh c.in-Ok.ensures.catalog c.in-Ok.ensures.counts
 
 pub returns-in-Ok-refuse_strays-clause-whole : goal.returns-in-Ok-refuse_strays-clause-whole
 returns-in-Ok-refuse_strays-clause-whole g c = λ all is.
@@ -23,8 +23,8 @@ returns-in-Err-refuse_strays-clause-quiet g c = Quiet-then c.args.journal.now c.
 
 pub returns-in-Err-refuse_strays-clause-foreign : goal.returns-in-Err-refuse_strays-clause-foreign
 returns-in-Err-refuse_strays-clause-foreign g c = λ file found e.
-    inr (inr (λ all is. c.in-Err-refuse_strays.ensures.stray file found e all (c.in-Ok.ensures.quiet.told_same
-    ∙ is) (c.in-Ok.ensures.catalog all is)))
+    inr (inr (inr (λ all is. c.in-Err-refuse_strays.ensures.stray file found e all (c.in-Ok.ensures.quiet.told_same
+    ∙ is) (c.in-Ok.ensures.catalog all is))))
 
 pub returns-in-Err-refuse_strays-clause-known : goal.returns-in-Err-refuse_strays-clause-known
 returns-in-Err-refuse_strays-clause-known g c = λ a b holds file found e.

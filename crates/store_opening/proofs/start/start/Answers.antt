@@ -2,7 +2,7 @@ use Rattle.std.proofs.Common.{ap}
 use Rattle.journal_view.specs.Found.{Finds}
 use Rattle.store_opening.specs.Begins.{MayLeave}
 use Rattle.store_opening.proofs.Running.{opened_of}
-use Rattle.store_opening.proofs.Reopening.{left_of, left_at, crash_at}
+use Rattle.store_opening.proofs.Reopening.{left_of, left_at, crash_at, closed_foreign}
 use Rattle.store_opening.proofs.start.start.Goals as goal
 
 pub returns-in-Ok-clause-opened : goal.returns-in-Ok-clause-opened
@@ -24,3 +24,8 @@ pub returns-in-Err-clause-left_crash : goal.returns-in-Err-clause-left_crash
 returns-in-Err-clause-left_crash g c = λ a b holds.
     crash_at (Finds (MayLeave g.N.Namer.digest_of a b)) c.args.journal.disk c.begin.new.journal.disk c.close.result c.close.ensures
     (c.in-Err.ensures.crash a b holds)
+
+pub returns-in-Err-clause-foreign : goal.returns-in-Err-clause-foreign
+returns-in-Err-clause-foreign g c = λ file found e.
+    closed_foreign c.args.journal c.begin.new.journal c.close.result file found c.in-Err.refusal c.close.ensures e c.in-Err.ensures.quiet
+    c.in-Err.ensures.foreign

@@ -1,0 +1,43 @@
+-- A reading that plans, and a commit behind it.
+use Rattle.std.proofs.Common.{ap, ◌∙◌}
+use Rattle.journal_view.specs.View.{told}
+use Rattle.store_deletions.specs.RunLaws.{changes_planned, fits_planned, runs_not_planned, runs_not_written, runs_shortened}
+use Rattle.store_deletions.proofs.shorten.shorten.Goals as goal
+
+pub returns-in-Err : goal.returns-in-Err
+returns-in-Err g c = λ event answer shortening.
+    runs_not_planned c.args.parts.now event answer c.args.host c.args.numbers.now shortening c.plan_deletion.new.parts
+    (record { quiet = c.in-Err.ensures.quiet; others = c.in-Err.ensures.others }) c.in-Err.refusal c.in-Err.ensures.refused
+    c.in-Err.ensures.counted
+
+pub write-requires-clause-changes : goal.write-requires-clause-changes
+write-requires-clause-changes g c =
+    changes_planned c.args.parts.now.catalog (told c.args.parts.now.journal) c.args.parts.now.counts c.args.host c.args.numbers.now
+    c.in-Ok.plan c.in-Ok.ensures.within c.in-Ok.ensures.planned
+
+pub accept-requires-clause-fits : goal.accept-requires-clause-fits
+accept-requires-clause-fits g c =
+    fits_planned c.args.parts.now.catalog (told c.args.parts.now.journal) c.args.parts.now.counts c.args.host c.args.numbers.now
+    c.in-Ok.plan c.in-Ok.ensures.within c.in-Ok.ensures.planned c.write.new.self.catalog
+    (c.in-Ok-write.ensures.catalog_same ∙ ap (λ p. p.catalog) c.in-Ok.ensures.others)
+
+pub returns-in-Err-write : goal.returns-in-Err-write
+returns-in-Err-write g c = λ event answer shortening.
+    runs_not_written c.args.parts.now c.plan_deletion.new.parts event answer c.args.host c.args.numbers.now shortening c.in-Ok.plan
+    c.in-Ok.ensures.within c.in-Ok.ensures.planned (record { quiet = c.in-Ok.ensures.quiet; others = c.in-Ok.ensures.others })
+    (c.in-Ok.ensures.counted.stays (λ e. absurd cc)) c.write.new.self c.in-Err-write.refusal c.in-Err-write.ensures
+
+pub returns : goal.returns
+returns g c = λ event answer shortening.
+    runs_shortened c.args.parts.now c.plan_deletion.new.parts event answer c.args.host c.args.numbers.now shortening c.in-Ok.plan
+    c.in-Ok.ensures.within c.in-Ok.ensures.planned (record { quiet = c.in-Ok.ensures.quiet; others = c.in-Ok.ensures.others })
+    (c.in-Ok.ensures.counted.stays (λ e. absurd cc)) c.write.new.self c.accept.new.parts c.in-Ok-write.field-0 c.in-Ok-write.ensures
+    (record {
+      catalog = c.accept.ensures.catalog;
+      counts = c.accept.ensures.counts;
+      views = c.accept.ensures.views;
+      journal = c.accept.ensures.journal;
+      pool = c.accept.ensures.pool;
+      sessions = c.accept.ensures.sessions;
+      halted = c.accept.ensures.halted;
+    })

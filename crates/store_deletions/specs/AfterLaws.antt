@@ -1,0 +1,178 @@
+-- What a deletion that was planned leads to, for parts at work.
+--     host_at_work      the host that it is of, as the parts hold it
+--     IsShortened, shortened      the files after it stand for the office after it; so do the catalog and the counts
+--     not_damaged, counts_of      none of the host's tables is damaged, and there are counts of it
+use Rattle.std.specs.Prelude.{◌≡◌, ◌≢◌, ◌⊎◌, ◌<◌, ℕ, zero, suc, List, [], ◌∷◌, length, Option, Some, slice_get, slice_set}
+use Rattle.std.proofs.Common.{refl, sym, ap, ◌∙◌, subst, inl, inr, arith}
+use Rattle.std.proofs.lemmas.Option.{slice_get_within}
+use Rattle.disk_trait.specs.declared.ids.FileId.{FileId}
+use Rattle.disk_trait.specs.declared.ids.FileId.TheVariants as F
+use Rattle.disk_trait.specs.declared.disk.Disk.{Ghosts as DiskGhosts}
+use Rattle.disk_trait.specs.Files.{Files}
+use Rattle.pool_name.specs.declared.namer.Namer.{Ghosts as NamerGhosts}
+use Rattle.intent_journal.specs.Changes.{applied}
+use Rattle.journal_view.specs.View.{told}
+use Rattle.backup_rules.specs.declared.lines.Line.{Line}
+use Rattle.backup_index.specs.Index.{Index as HostIndex, index_of as host_index_of}
+use Rattle.backup_views.specs.Faults.{IsDamaged}
+use Rattle.pool_index.specs.Index.{Index}
+use Rattle.pool_changes.specs.Listed.{index_of}
+use Rattle.ref_counts.specs.Numbers.{Items}
+use Rattle.ref_counts.specs.Stored.{Backup as StoredBackup, stored}
+use Rattle.office_catalog.specs.Known.{Known, known_of, with_change}
+use Rattle.office_catalog.specs.Held.{HoldsCatalog}
+use Rattle.office_catalog.specs.Changed.{after}
+use Rattle.office_model.specs.declared.answer.Answer.{Answer}
+use Rattle.office_model.specs.declared.event.Event.{Event}
+use Rattle.office_model.specs.Office.{Office, Host, Backup, Names, IsSound, durable}
+use Rattle.office_model.specs.Parts.{lines_of}
+use Rattle.office_model.specs.Places.{in_set}
+use Rattle.office_model.specs.laws.SoundLaws.{IsSound-closed, IsSound-carried}
+use Rattle.office_files.specs.Pairs.{AtEachPair, other_at, pair_at}
+use Rattle.office_files.specs.Hosts.{index_of_host, StandsHost}
+use Rattle.office_files.specs.Pooled.{contents_of, IsListed}
+use Rattle.office_files.specs.Stands.{Stands}
+use Rattle.office_known.specs.KnownLaws.{known_of_office, stands_catalog}
+use Rattle.office_deletion.specs.DeletionLaws.{IsDeletion, lines_left}
+use Rattle.office_deletion.specs.OfficeLaws.{deletion_stands}
+use Rattle.office_known.specs.CatalogLaws.{index_there, host_replaced}
+use Rattle.store_parts.specs.declared.parts.StoreParts.{StoreParts}
+use Rattle.store_parts.specs.Held.{AreCounts, AreCountsOf}
+use Rattle.store_parts.specs.States.{slots, IsRunning}
+use Rattle.store_deletions.specs.declared.plan.DeletionPlan.{DeletionPlan}
+use Rattle.store_deletions.specs.Planned.{left_index, left_host, left_shown, IsHostAtWork, IsPlanned}
+use Rattle.store_deletions.specs.Shortens.{Shortens}
+
+-- ---- lists side by side
+
+module _ {A B : Type 0} (R : A → B → Type 0) where
+  -- an element of each is replaced
+  pairs_set : (xs : List A) (ys : List B) (p : ℕ) (x : A) (y : B) → R x y → AtEachPair (λ i. R) xs ys
+      → AtEachPair (λ i. R) (slice_set xs p x) (slice_set ys p y)
+  pairs_set xs ys p x y r pairs = record {
+    counted = length-set ys p y ∙ pairs.counted ∙ sym (length-set xs p x);
+    each = λ i a b e f. step i a b (in_set xs p x i a e) (in_set ys p y i b f);
+  }
+    where
+      length-set : {C : Type 0} (zs : List C) (p : ℕ) (z : C) → length (slice_set zs p z) ≡ length zs
+      length-set [] p z = refl
+      length-set (w ∷ zs) zero z = refl
+      length-set (w ∷ zs) (suc p) z = ap suc (length-set zs p z)
+
+      step : (i : ℕ) (a : A) (b : B) → ((i ≢ p) × (slice_get xs i ≡ Some a)) ⊎ ((i ≡ p) × (a ≡ x) × (p < length xs))
+          → ((i ≢ p) × (slice_get ys i ≡ Some b)) ⊎ ((i ≡ p) × (b ≡ y) × (p < length ys)) → R a b
+      step i a b (inl e) (inl f) = pairs.each i a b e.1 f.1
+      step i a b (inl e) (inr f) = absurd (e.0 f.0)
+      step i a b (inr e) (inl f) = absurd (f.0 e.0)
+      step i a b (inr e) (inr f) = subst (λ (a : A). R a b) (sym e.1) (subst (R x) (sym f.1) r)
+
+-- there is an element at each place within
+pub within_there : {A : Type 0} (xs : List A) (i : ℕ) → i < length xs → (x : A) × (slice_get xs i ≡ Some x)
+within_there [] i within = absurd (omega (arith, within))
+within_there (x ∷ xs) zero within = (x, refl)
+within_there (x ∷ xs) (suc i) within = within_there xs i (omega (arith, within))
+
+-- the line of a backup that is there
+backup_there : (backups : List Backup) (i : ℕ) (line : Line) → slice_get (lines_of backups) i ≡ Some line
+    → (backup : Backup) × (slice_get backups i ≡ Some backup) × (backup.line ≡ line)
+backup_there [] i line e = absurd cc
+backup_there (b ∷ backups) zero line e = (b, refl, cc)
+backup_there (b ∷ backups) (suc i) line e = backup_there backups i line e
+
+-- ---- parts at work
+
+module _ {D N S : Type 0} {d : DiskGhosts D} {n : NamerGhosts N S} where
+  module _ (old : StoreParts D N S d n) (p : ℕ) (office : Office) (names : Names) (at : IsRunning old office names) (host : Host)
+      (here : slice_get office.hosts p ≡ Some host) where
+    abbrev pool : Index
+    pool = index_of (slots old)
+
+    -- what is stored of its backups
+    abbrev found : (shown : List StoredBackup) × (slice_get at.backups p ≡ Some shown)
+        × StandsHost (IsListed pool) (contents_of at.all) at.all p host shown
+    found = pair_at (StandsHost (IsListed pool) (contents_of at.all) at.all) office.hosts at.backups at.stands.hosts p host here
+
+    host_at_work : (items : Items) → slice_get old.counts p ≡ Some items
+        → IsHostAtWork pool old.catalog items at.all p host found.0
+    host_at_work items are = record {
+      stands = found.2;
+      holds = subst (HoldsCatalog at.all) (sym at.catalog_is)
+          (stands_catalog n.digest_of pool at.backups at.all (durable office) at.stands);
+      index = ap (λ (k : Known). slice_get k.hosts p) at.catalog_is ∙ index_there office.hosts p host here;
+      numbered = (at.sound.hosts.each p host here).backups.numbered;
+      few = (at.sound.hosts.each p host here).numbers;
+      counted = at.counted.each p items found.0 are found.1;
+    }
+
+    -- a table of the host is a table
+    pub not_damaged : (file : FileId) (bytes : Option (List ℕ))
+        → ((index : HostIndex) → slice_get old.catalog.hosts p ≡ Some index → IsDamaged (told old.journal) p index.lines file bytes) → ⊥
+    not_damaged file bytes says =
+        let index : slice_get old.catalog.hosts p ≡ Some (index_of_host p host) =
+        ap (λ (k : Known). slice_get k.hosts p) at.catalog_is ∙ index_there office.hosts p host here in
+        let said = says (index_of_host p host) index in
+        let b = backup_there host.backups said.index said.line said.is_line in
+        let rows = other_at host.backups (stored found.0) said.index b.0 found.2.tables.counted b.1 in
+        let table = found.2.tables.each said.index b.0 rows.0 b.1 rows.1 in
+        said.no_table.none rows.0 (record {
+          layout = table.layout;
+          fits = table.fits;
+          is = said.no_table.there at.all at.told_is ∙ ap at.all said.file_is
+              ∙ ap (λ (line : Line). at.all (F.Table p line.number)) (sym b.2) ∙ table.is;
+        })
+
+  -- there are counts of each host
+  pub counts_of : (old : StoreParts D N S d n) (p : ℕ) (office : Office) (names : Names) (at : IsRunning old office names) (host : Host)
+      → slice_get office.hosts p ≡ Some host → (items : Items) × (slice_get old.counts p ≡ Some items)
+  counts_of old p office names at host here =
+      let shown = found old p office names at host here in
+      let within = slice_get_within at.backups p shown.0 shown.1 in
+      within_there old.counts p (omega (arith, at.counted.counted, within))
+
+  -- what holds after a deletion that was planned, by the backups that are stored then
+  pub record IsShortened (old : StoreParts D N S d n) (plan : DeletionPlan) (p : ℕ) (all : Files) (after_it : Office) : Type 0 where
+    pub backups : List (List StoredBackup)
+    pub stands : Stands n.digest_of (index_of (slots old)) backups (applied plan.changes all) (durable after_it)
+    pub counted : AreCountsOf (slice_set old.counts p plan.counts) backups
+    pub known : after plan.catalog old.catalog ≡ known_of_office after_it
+
+  module _ (old : StoreParts D N S d n) (p : ℕ) (numbers : List ℕ) (items : Items) (plan : DeletionPlan)
+      (has_items : slice_get old.counts p ≡ Some items) (planned : IsPlanned old.catalog (told old.journal) items p numbers plan)
+      (office : Office) (names : Names) (at : IsRunning old office names) (event : Event) (answer : Answer)
+      (s : Shortens event answer office names p numbers) where
+    abbrev host : Host
+    host = s.host
+
+    abbrev shown : List StoredBackup
+    shown = (found old p office names at s.host s.is_host).0
+
+    abbrev office_then : Office
+    office_then = record office { hosts = slice_set office.hosts p (left_host numbers s.host) }
+
+    deletion : IsDeletion numbers at.all (applied plan.changes at.all) p host (left_host numbers host) shown
+    deletion =
+        planned.deletes (index_of (slots old)) at.all host shown at.told_is
+        (host_at_work old p office names at s.host s.is_host items has_items)
+
+    pub sound_then : IsSound office_then
+    sound_then = IsSound-carried office names event (record { answer = answer; after = office_then }) at.sound s.judged
+
+    index_then : left_index numbers (index_of_host p host) ≡ index_of_host p (left_host numbers host)
+    index_then =
+        ap (λ (ls : List Line). host_index_of p host.name host.rules host.good host.bad host.next ls)
+        (sym (lines_left numbers host.backups))
+
+    pub shortened : IsShortened old plan p at.all office_then
+    shortened = record {
+      backups = slice_set at.backups p (left_shown numbers host shown);
+      stands = deletion_stands n.digest_of (index_of (slots old)) at.backups at.all (applied plan.changes at.all) (durable office) p host
+          (left_host numbers host) numbers shown s.is_host refl (found old p office names at s.host s.is_host).1
+          (λ file metadata other. planned.others at.all file other) (λ id listed. planned.others at.all (F.Pool id) refl) deletion
+          (IsSound-closed office_then office.epoch sound_then) at.stands;
+      counted = pairs_set AreCounts old.counts at.backups p plan.counts (left_shown numbers host shown)
+          (planned.counted (index_of (slots old)) at.all host shown at.told_is
+          (host_at_work old p office names at s.host s.is_host items has_items)) at.counted;
+      known = planned.known ∙ ap (λ (k : Known). with_change k p (left_index numbers)) at.catalog_is
+          ∙ ap (known_of office.epoch)
+          (host_replaced (left_index numbers) host (left_host numbers host) p office.hosts s.is_host index_then);
+    }

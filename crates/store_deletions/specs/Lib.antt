@@ -1,0 +1,14 @@
+pub mod Planned
+pub mod Tables
+pub mod Written
+pub mod Built
+pub mod WrittenLaws
+pub mod LeftLaws
+pub mod BoundLaws
+pub mod BuildLaws
+pub mod PlanLaws
+pub mod Faults
+pub mod Shortens
+pub mod MeaningLaws
+pub mod AfterLaws
+pub mod RunLaws

@@ -1,0 +1,186 @@
+-- What was built is the plan.
+--     planned_of      if the tables are those that the files tell
+--     planned_by      by the tables that were read
+use Rattle.std.specs.Prelude.{◌≡◌, ℕ, zero, suc, ◌+◌, ◌-◌, ◌<◌, ◌≤◌, ◌^◌, List, [], ◌∷◌, length, Option, Some, slice_get}
+use Rattle.std.proofs.Common.{refl, sym, ap, ◌∙◌, subst, arith}
+use Rattle.std.proofs.lemmas.Bool.Decides.{nat_tests}
+use Rattle.disk_trait.specs.declared.ids.PoolId.{PoolId}
+use Rattle.disk_trait.specs.declared.ids.FileId.TheVariants as F
+use Rattle.disk_trait.specs.Files.{Files}
+use Rattle.intent_journal.specs.declared.changes.Change.{Change}
+use Rattle.intent_journal.specs.Changes.{applied, AreChanges}
+use Rattle.backup_rules.specs.declared.lines.Line.{Line}
+use Rattle.backup_index.specs.Index.{Index as HostIndex}
+use Rattle.merge_view.specs.Views.{Rows}
+use Rattle.pool_index.specs.Index.{Index}
+use Rattle.ref_counts.specs.Numbers.{Items, total, capped}
+use Rattle.ref_counts.specs.Numbers as N
+use Rattle.ref_counts.specs.Stored.{Backup as StoredBackup, stored, AreWhole}
+use Rattle.backup_delete.specs.Folds.{folded_tables, Change as TableChange, changes, change_at, added_tables, taken_tables}
+use Rattle.backup_delete.specs.FoldLaws.{folded-stored}
+use Rattle.backup_delete.specs.Counted.{folded-total, taken-within}
+use Rattle.office_model.specs.Office.{Host}
+use Rattle.office_model.specs.Parts.{lines_of}
+use Rattle.office_catalog.specs.Known.{Known, IsCatalog, with_change, changed_at}
+use Rattle.office_files.specs.Hosts.{index_of_host}
+use Rattle.office_files.specs.KeptLaws.{IsHostFile-same}
+use Rattle.office_files.specs.Pooled.{contents_of, IsListed}
+use Rattle.office_known.specs.KnownLaws.{host_of_catalog}
+use Rattle.office_deletion.specs.DeletionLaws.{length_lines, length_rows, rows_of, left_backups, lines_left, as_backups, are_whole, IsChangedTo, IsDeletion}
+use Rattle.office_deletion.specs.DeletionLaws as D
+use Rattle.store_deletions.specs.declared.plan.DeletionPlan.{DeletionPlan}
+use Rattle.store_deletions.specs.Planned.{left_index, left_host, left_shown, IsHostAtWork, IsPlanned}
+use Rattle.store_deletions.specs.Built.{IsBuilt}
+use Rattle.store_deletions.specs.Tables.{AreTables, tables_of_host}
+use Rattle.store_deletions.specs.Written.{table_part, written}
+use Rattle.store_deletions.specs.WrittenLaws.{IsOne, one_change, are_tables, are_written, at_index, at_table, at_counts, at_other}
+use Rattle.store_deletions.specs.LeftLaws.{left_numbered}
+use Rattle.store_deletions.specs.BoundLaws.{few_counted}
+
+some_same : {A : Type 0} (x y : A) → Some x ≡ Some y → x ≡ y
+some_same x y e = cc
+
+changed_here : (f : HostIndex → HostIndex) (hosts : List HostIndex) (host : ℕ) (index : HostIndex) → slice_get hosts host ≡ Some index
+    → slice_get (changed_at f host hosts) host ≡ Some (f index)
+changed_here f [] host index e = absurd cc
+changed_here f (h ∷ hosts) zero index e = let same : h ≡ index = cc in ap (λ (i : HostIndex). Some (f i)) same
+changed_here f (h ∷ hosts) (suc host) index e = changed_here f hosts host index e
+
+-- numbers that stay below the greatest one
+next_number : (old taken added new : ℕ) → new + taken ≡ old + added → new < 2 ^ 64 → old < 2 ^ 64 → taken ≤ old
+    → capped ((old - capped taken) + capped added) ≡ new
+next_number old taken added new e a b c = grind (arith, nat_tests)
+
+-- what is stored of the backups that are left
+module _ (pool : Index) (catalog : Known) (counts : Items) (all : Files) (number : ℕ) (host : Host) (shown : List StoredBackup)
+    (numbers : List ℕ) (at : IsHostAtWork pool catalog counts all number host shown) where
+  abbrev lines : List Line
+  lines = lines_of host.backups
+
+  left_stored : folded_tables numbers lines (stored shown) ≡ stored (left_shown numbers host shown)
+  left_stored =
+      let is = as_backups (IsListed pool) (contents_of all) host.backups shown at.stands.shown in
+      let counted : length (rows_of shown) ≡ length lines =
+      length_rows shown ∙ at.stands.shown.counted ∙ sym (length_lines host.backups) in
+      ap (λ (s : List StoredBackup). folded_tables numbers lines (stored s)) is
+      ∙ folded-stored numbers lines (rows_of shown) counted
+      (subst AreWhole is (are_whole (IsListed pool) (contents_of all) host.backups shown at.stands.shown))
+
+  same_length : length (stored shown) ≡ length lines
+  same_length = at.stands.tables.counted ∙ sym (length_lines host.backups)
+
+  -- how often the tables that are left name a content
+  left_counted : (id : PoolId)
+      → capped ((N.number counts id - capped (total id (taken_tables numbers lines (stored shown))))
+      + capped (total id (added_tables (changes numbers lines (stored shown)))))
+      ≡ total id (stored (left_shown numbers host shown))
+  left_counted id =
+      ap (λ (n : ℕ). capped ((n - capped (total id (taken_tables numbers lines (stored shown))))
+      + capped (total id (added_tables (changes numbers lines (stored shown))))))
+      (at.counted id)
+      ∙ next_number (total id (stored shown)) (total id (taken_tables numbers lines (stored shown)))
+      (total id (added_tables (changes numbers lines (stored shown)))) (total id (stored (left_shown numbers host shown)))
+      (ap (λ (t : List Rows). total id t + total id (taken_tables numbers lines (stored shown))) (sym left_stored)
+      ∙ folded-total id numbers lines (stored shown) same_length)
+      (few_counted (IsListed pool) (contents_of all) host.next (left_backups numbers host.backups) (left_shown numbers host shown)
+      (left_numbered numbers host.next host.backups at.numbered) at.few
+      (D.left_shown (IsListed pool) (contents_of all) numbers host.backups shown at.stands.shown) id)
+      (few_counted (IsListed pool) (contents_of all) host.next host.backups shown at.numbered at.few at.stands.shown id)
+      (taken-within id numbers lines (stored shown))
+
+  index_left : left_index numbers (index_of_host number host) ≡ index_of_host number (left_host numbers host)
+  index_left = ap (λ (ls : List Line). record (index_of_host number host) { lines = ls }) (sym (lines_left numbers host.backups))
+
+module _ (catalog : Known) (told : Option Files) (old : Items) (number : ℕ) (numbers : List ℕ) (tables : List Rows) (plan : DeletionPlan)
+    (b : IsBuilt catalog number tables old numbers plan)
+    (read : (all : Files) (others : List Rows) → told ≡ Some all → AreTables all number b.index.lines others → tables ≡ others) where
+  abbrev made : List TableChange
+  made = changes numbers b.index.lines tables
+
+  one : IsOne b.listed (F.Host number)
+  one = one_change b.listed (F.Host number) b.leads.named
+
+  once : AreChanges (table_part number made)
+  once = are_tables number 0 b.index.next numbers b.index.lines tables b.is_host.sound.in_turn
+
+  module _ (pool : Index) (all : Files) (host : Host) (shown : List StoredBackup) (is : told ≡ Some all)
+      (at : IsHostAtWork pool catalog old all number host shown) where
+    index_is : b.index ≡ index_of_host number host
+    index_is = some_same b.index (index_of_host number host) (sym b.here ∙ at.index)
+
+    lines_are : b.index.lines ≡ lines_of host.backups
+    lines_are = ap (λ (i : HostIndex). i.lines) index_is
+
+    tables_are : tables ≡ stored shown
+    tables_are = read all (stored shown) is (subst (λ (ls : List Line). AreTables all number ls (stored shown)) (sym lines_are)
+        (tables_of_host (IsListed pool) (contents_of all) all number host shown at.stands))
+
+    counted : (id : PoolId) → N.number plan.counts id ≡ total id (stored (left_shown numbers host shown))
+    counted id =
+        b.counted id
+        ∙ (λ i. capped ((N.number old id - capped (total id (taken_tables numbers (lines_are i) (tables_are i))))
+        + capped (total id (added_tables (changes numbers (lines_are i) (tables_are i))))))
+        ∙ left_counted pool catalog old all number host shown numbers at id
+
+    image_is : applied plan.changes all ≡ applied (written b.listed number made plan.counts) all
+    image_is = ap (λ (cs : List Change). applied cs all) b.changes_are
+
+    at_file : (file : _) → applied plan.changes all file ≡ applied (written b.listed number made plan.counts) all file
+    at_file file = ap (λ (f : Files). f file) image_is
+
+    deletes : IsDeletion numbers all (applied plan.changes all) number host (left_host numbers host) shown
+    deletes = record {
+      backups_are = refl;
+      numbered = left_numbered numbers host.next host.backups at.numbered;
+      index = IsHostFile-same (index_of_host number (left_host numbers host)) (applied b.listed all (F.Host number))
+          (applied plan.changes all (F.Host number)) (at_file (F.Host number) ∙ at_index b.listed number made plan.counts one once all)
+          (host_of_catalog (applied b.listed all) (with_change catalog number (left_index numbers)) number
+          (index_of_host number (left_host numbers host))
+          (changed_here (left_index numbers) catalog.hosts number (index_of_host number host) at.index
+          ∙ ap (λ (i : HostIndex). Some i) (index_left pool catalog old all number host shown numbers at))
+          (b.leads.leads all at.holds));
+      tables = λ n.
+          subst (IsChangedTo (change_at (changes numbers (lines_of host.backups) (stored shown)) n) (all (F.Table number n)))
+          (sym (at_file (F.Table number n)))
+          (subst (λ (m : List TableChange). IsChangedTo (change_at m n) (all (F.Table number n))
+          (applied (written b.listed number made plan.counts) all (F.Table number n)))
+          (λ i. changes numbers (lines_are i) (tables_are i))
+          (at_table b.listed number made plan.counts one once all b.fit n));
+      counts = record {
+        items = plan.counts;
+        fits = b.counts_fit;
+        each = counted;
+        is = at_file (F.Counts number) ∙ at_counts b.listed number made plan.counts one once all;
+      };
+    }
+
+  pub planned_of : IsPlanned catalog told old number numbers plan
+  planned_of = record {
+    fits = b.fits;
+    known = b.known;
+    are = subst AreChanges (sym b.changes_are) (are_written b.listed number made plan.counts one once);
+    others = λ all file out.
+        ap (λ (cs : List Change). applied cs all file) b.changes_are ∙ at_other b.listed number made plan.counts one once all file out;
+    deletes = deletes;
+    counted = counted;
+  }
+
+-- the tables that were read are those of the host's lines
+pub planned_by : (catalog : Known) (told : Option Files) (old : Items) (number file : ℕ) (numbers : List ℕ) (tables given : List Rows)
+    (index : HostIndex) (all_lines : List Line) (plan : DeletionPlan) → IsCatalog catalog.hosts → slice_get catalog.hosts number ≡ Some index
+    → file ≡ index.host → all_lines ≡ index.lines → given ≡ tables
+    → ((all : Files) (others : List Rows) → told ≡ Some all → AreTables all file all_lines others → tables ≡ others)
+    → IsBuilt catalog number given old numbers plan → IsPlanned catalog told old number numbers plan
+planned_by catalog told old number file numbers tables given index all_lines plan are here file_is are_lines same reads b =
+    planned_of catalog told old number numbers given plan b
+    (λ all others is told_are. same ∙ reads all others is
+    (subst (λ (f : ℕ). AreTables all f all_lines others) (sym (file_is ∙ (are.each number index here).number))
+    (subst (λ (ls : List Line). AreTables all number ls others)
+    (ap (λ (i : HostIndex). i.lines) (some_same b.index index (sym b.here ∙ here)) ∙ sym are_lines) told_are)))
+
+-- and the host's index has as many lines
+pub as_many : (catalog : Known) (number : ℕ) (index : HostIndex) (all_lines : List Line) (tables given : List Rows)
+    → slice_get catalog.hosts number ≡ Some index → all_lines ≡ index.lines → given ≡ tables → length tables ≡ length all_lines
+    → (other : HostIndex) → slice_get catalog.hosts number ≡ Some other → length given ≡ length other.lines
+as_many catalog number index all_lines tables given here are_lines same each other there =
+    ap length same ∙ each ∙ ap length are_lines ∙ ap (λ (i : HostIndex). length i.lines) (some_same index other (sym here ∙ there))

@@ -1,0 +1,97 @@
+//! The plan of a deletion.
+
+ghost use Rattle.std.specs.Prelude.{◌≡◌, ◌<◌, false, length, Some, IfOk, IfErr, IsErrOf, slice_get};
+ghost use Rattle.fault_counts.specs.Counts.{Counted};
+ghost use Rattle.journal_view.specs.View.{told, Quiet};
+ghost use Rattle.ref_counts.specs.Numbers.{Items};
+ghost use Rattle.store_deletions.specs.Planned.{IsPlanned, IsPlanFault};
+ghost use Rattle.store_deletions.specs.Faults.{IsReadRefusal};
+
+use crate::build::build;
+use crate::plan::DeletionPlan;
+use crate::tables::read_tables;
+use backup_views::ViewFault;
+use disk_trait::Disk;
+use intent_journal::Journal;
+use office_catalog::Catalog;
+use office_model::{BrokenRule, Refusal};
+use pool_name::Namer;
+use ref_counts::Counts;
+use std::alloc::Global;
+use store_parts::StoreParts;
+
+/// What a fault of reading a table is to a caller.
+fn refusal_of(fault: ViewFault) -> Refusal
+    ensures disk { fault ≡ ViewFault.Disk → result ≡ Refusal.DiskFault }
+    ensures no_other { result ≡ Refusal.DiskFault → fault ≡ ViewFault.Disk }
+    ensures kind { IsReadRefusal fault result }
+{
+    match fault {
+        ViewFault::Disk => Refusal::DiskFault,
+        ViewFault::Memory => Refusal::Memory,
+        ViewFault::Damaged { file, found } => Refusal::Damaged { file, found },
+    }
+}
+
+/// The plan of the deletion of the backups of these numbers from a host of a catalog, by its counts and by the tables of all its
+/// backups, which are read.
+fn plan_of<D: Disk>(
+    alloc: Global,
+    journal: &mut Journal<D>,
+    catalog: &Catalog,
+    counts: &Counts,
+    host: usize,
+    numbers: &[u32],
+) -> Result<DeletionPlan, Refusal>
+    requires ready { journal.old.halted ≡ false }
+    requires within { host < length catalog.now.hosts }
+    ensures planned { IfOk result (IsPlanned catalog.now (told journal.old) counts.now host numbers.now) }
+    ensures refused { IfErr result (IsPlanFault (told journal.old) catalog.now host) }
+    ensures quiet { Quiet journal.old journal.new }
+    ensures counted { Counted (D.fault_count journal.old.disk) (D.fault_count journal.new.disk) (IsErrOf result Refusal.DiskFault) }
+{
+    let index = &catalog.hosts()[host];
+    let tables = match read_tables(alloc, journal, index.host(), index.lines().lines()) {
+        Ok(tables) => tables,
+        Err(fault) => return Err(refusal_of(fault)),
+    };
+    match build(alloc, catalog, host, tables.as_slice(), counts, numbers) {
+        Ok(plan) => Ok(plan),
+        Err(_) => Err(Refusal::Memory),
+    }
+}
+
+/// Plans the deletion of the backups of these numbers from a host. The tables of all its backups are read; nothing changes. A host
+/// without counts is refused: a store at work has none.
+pub fn plan_deletion<D: Disk, N: Namer>(
+    parts: &mut StoreParts<D, N>,
+    alloc: Global,
+    host: usize,
+    numbers: &[u32],
+) -> Result<DeletionPlan, Refusal>
+    requires ready { parts.old.journal.halted ≡ false }
+    requires within { host < length parts.old.catalog.hosts }
+    ensures planned { IfOk result (λ plan. (counts : Items) → slice_get parts.old.counts host ≡ Some counts
+        → IsPlanned parts.old.catalog (told parts.old.journal) counts host numbers.now plan) }
+    ensures refused { IfErr result (λ refusal. (counts : Items) → slice_get parts.old.counts host ≡ Some counts
+        → IsPlanFault (told parts.old.journal) parts.old.catalog host refusal) }
+    ensures within { IfOk result (λ plan. host < length parts.old.counts) }
+    ensures quiet { Quiet parts.old.journal parts.new.journal }
+    ensures others { parts.new ≡ record parts.old { journal = parts.new.journal } }
+    ensures counted { Counted (D.fault_count parts.old.journal.disk) (D.fault_count parts.new.journal.disk) (IsErrOf result Refusal.DiskFault) }
+{
+    let Some(counts) = parts.counts.of_host(host) else {
+        return Err(Refusal::Broken(BrokenRule::NoHost));
+    };
+    match plan_of(
+        alloc,
+        &mut parts.journal,
+        &parts.catalog,
+        counts,
+        host,
+        numbers,
+    ) {
+        Ok(plan) => Ok(plan),
+        Err(refusal) => Err(refusal),
+    }
+}

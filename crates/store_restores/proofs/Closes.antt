@@ -1,0 +1,95 @@
+-- What a close leaves.
+use Rattle.std.specs.Prelude.{◌≡◌, ◌≤◌, ℕ, Some, None, Ok, Err, slice_get}
+use Rattle.std.specs.List.{remove}
+use Rattle.std.proofs.Common.{refl, subst, arith}
+use Rattle.disk_trait.specs.declared.ids.PoolId.{PoolId}
+use Rattle.disk_trait.specs.declared.disk.Disk.{Ghosts as DiskGhosts}
+use Rattle.pool_name.specs.declared.namer.Namer.{Ghosts as NamerGhosts}
+use Rattle.fault_counts.specs.Counts.{Counted}
+use Rattle.journal_view.specs.View.{Quiet}
+use Rattle.pool_changes.specs.Slots.{claims_of}
+use Rattle.merge_view.specs.Views.{Rows}
+use Rattle.stored_trees.specs.Occurrences.{occurrences}
+use Rattle.open_sessions.specs.declared.sessions.OpenRestore.{OpenRestore}
+use Rattle.open_sessions.specs.Opened.{claims_in}
+use Rattle.open_sessions.specs.SessionLaws.{claims_in_restores-remove, AreSessions-claimed}
+use Rattle.open_sessions.specs.CallLaws.{AreSessions-restore_taken, claims_in-restore_taken}
+use Rattle.office_model.specs.declared.session.SessionName.{SessionName}
+use Rattle.office_model.specs.declared.answer.Answer.TheVariants.{Done}
+use Rattle.office_model.specs.declared.event.Event.TheVariants.{CloseRead}
+use Rattle.office_model.specs.declared.refusal.BrokenRule.TheVariants.{NoSession}
+use Rattle.office_model.specs.Office.{Office, Names}
+use Rattle.office_model.specs.laws.SoundLaws.{IsSound-carried}
+use Rattle.office_model.specs.events.CloseRead as CloseReadEvent
+use Rattle.office_files.specs.Pooled.{contents_of}
+use Rattle.store_parts.specs.declared.parts.StoreParts.{StoreParts}
+use Rattle.store_parts.specs.Held.{given}
+use Rattle.store_parts.specs.States.{slots, IsRunning}
+use Rattle.store_parts.specs.Runs.{Runs}
+use Rattle.store_dumps.specs.Claims.{LetsGo}
+use Rattle.store_restores.proofs.Found.{place_of, no_restore, restore_found}
+use Rattle.store_restores.proofs.Running.{count_of, near_lost, running_stays, runs_ok}
+
+module _ {D N S : Type 0} {d : DiskGhosts D} {n : NamerGhosts N S} (old : StoreParts D N S d n) (session : SessionName) where
+  pub close_refused : None ≡ place_of old.sessions.restores.items session
+      → (office : Office) (names : Names) → IsRunning old office names → CloseReadEvent.carried session office ≡ Err NoSession
+  close_refused e office names at = rw (no_restore old session e office names at) refl
+
+  module _ (new : StoreParts D N S d n) (index : ℕ) (restore : OpenRestore)
+      (e : Some index ≡ place_of old.sessions.restores.items session) (there : slice_get old.sessions.restores.items index ≡ Some restore)
+      (quiet : Quiet old.journal new.journal) (catalog : new.catalog ≡ old.catalog) (counts : new.counts ≡ old.counts)
+      (views : new.views ≡ old.views)
+      (halted : new.halted ≡ old.halted)
+      (rows : Rows) (rows_are : rows ≡ restore.rows)
+      (go : ((id : PoolId) → occurrences id rows ≤ claims_of (slots old id)) → LetsGo (λ id. occurrences id rows) (slots old) (slots new))
+      (form : new.pool.in_one_file ≡ old.pool.in_one_file)
+      (restores : new.sessions.restores.items ≡ remove old.sessions.restores.items index)
+      (dumps : new.sessions.dumps ≡ old.sessions.dumps) (sequence : new.sessions.sequence ≡ old.sessions.sequence) where
+    gone : (office : Office) (names : Names) → IsRunning old office names
+        → LetsGo (λ id. occurrences id restore.rows) (slots old) (slots new)
+    gone office names at =
+        subst (λ (rs : Rows). ((id : PoolId) → occurrences id rs ≤ claims_of (slots old id))
+        → LetsGo (λ id. occurrences id rs) (slots old) (slots new))
+        rows_are go (λ id. omega (arith, at.claimed id, claims_in_restores-remove old.sessions.restores.items id index restore there))
+
+    abbrev without : Office → Office
+    without office = record office { restores = remove office.restores index }
+
+    running_closed : (office : Office) (names : Names) (at : IsRunning old office names)
+        → CloseReadEvent.carried session office ≡ Ok (record { answer = Done; after = without office })
+        → IsRunning new (without office) names
+    running_closed office names at judged =
+        running_stays old new office (without office) names at
+        (record {
+          quiet = quiet;
+          catalog = catalog;
+          counts = counts;
+          views = views;
+          halted = halted;
+          form = form;
+          names = near_lost (slots old) (slots new) (λ id. occurrences id restore.rows) (gone office names at);
+        })
+        (AreSessions-claimed (given (slots old)) (contents_of at.all) (given (slots new)) (contents_of at.all) (without office) new.sessions
+        (λ id g some. ((gone office names at id).given g (let same = claimed id in omega (arith, same, some)), refl))
+        (AreSessions-restore_taken old.sessions new.sessions dumps (given (slots old)) (contents_of at.all) office at.sessions index
+        restores sequence))
+        claimed refl refl
+        (IsSound-carried office names (CloseRead session) (record { answer = Done; after = without office }) at.sound judged)
+      where
+        claimed : (id : PoolId) → claims_of (slots new id) ≡ claims_in new.sessions id
+        claimed id = omega (
+          arith,
+          (gone office names at id).claims,
+          at.claimed id,
+          claims_in-restore_taken old.sessions new.sessions dumps id index restore there restores,
+        )
+
+    pub runs_closed : {failed : Type 0} → Counted (count_of old) (count_of new) failed → (failed → ⊥)
+        → Runs old (CloseRead session) (Ok Done) new
+    runs_closed counted fine =
+        runs_ok old new (CloseRead session) quiet counted fine Done
+        (λ office names at.
+        let found = restore_found old session index restore e there office names at in
+        let judged : CloseReadEvent.carried session office ≡ Ok (record { answer = Done; after = without office }) = rw found.is_at refl in
+        record { next = without office; judged = judged; running = running_closed office names at judged })
+        (λ office names. refl) refl

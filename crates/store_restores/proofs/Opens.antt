@@ -1,0 +1,287 @@
+-- What an opening of a restore leaves.
+use Rattle.std.specs.Prelude.{◌≡◌, ◌<◌, ◌≤◌, ◌+◌, ◌-◌, ◌^◌, ℕ, Bool, true, false, List, [], ◌∷◌, ◌++◌, nat_le, Option, Some, None, Result, Ok, Err, if◌then◌else◌}
+use Rattle.std.proofs.Common.{refl, sym, ap, ◌∙◌, subst, arith}
+use Rattle.std.proofs.lemmas.Bool.Decides.{nat_tests}
+use Rattle.fault_counts.specs.Counts.{Counted}
+use Rattle.disk_trait.specs.declared.ids.PoolId.{PoolId}
+use Rattle.disk_trait.specs.declared.disk.Disk.{Ghosts as DiskGhosts}
+use Rattle.pool_name.specs.declared.namer.Namer.{Ghosts as NamerGhosts}
+use Rattle.attr_records.specs.Items.{Tree}
+use Rattle.attr_tables.specs.declared.records.Record.{Record}
+use Rattle.attr_tables.specs.declared.records.Record.TheVariants.{File, Dir, Link, Deleted}
+use Rattle.attr_tables.specs.RecordLaws.{same_id}
+use Rattle.intent_journal.specs.declared.journal.Journal.{Journal}
+use Rattle.journal_view.specs.ViewLaws.{Quiet-then}
+use Rattle.pool_changes.specs.declared.slot.Slot.{Slot}
+use Rattle.pool_changes.specs.declared.slot.Slot.TheVariants.{Live, Staged, Doomed}
+use Rattle.pool_changes.specs.Slots.{is_live, is_given, claims_of}
+use Rattle.pool_changes.specs.Kept.{slots_of}
+use Rattle.pool_changes.specs.Listed.{index_of}
+use Rattle.pool_store.specs.declared.pool.Pool.{Pool}
+use Rattle.backup_views.specs.declared.kept.Views.{Views}
+use Rattle.merge_view.specs.Views.{Rows}
+use Rattle.stored_trees.specs.Resolved.{IsTold, IsToldContent, AreTold}
+use Rattle.stored_trees.specs.ResolvedLaws.{AreTold-kept}
+use Rattle.stored_trees.specs.Occurrences.{is_content, names as names_of, occurrences}
+use Rattle.office_catalog.specs.Known.{Known}
+use Rattle.office_model.specs.declared.answer.Answer.TheVariants.{Restore as RestoreAnswer}
+use Rattle.office_model.specs.declared.event.Event.TheVariants.{OpenRead}
+use Rattle.office_model.specs.declared.refusal.BrokenRule.{BrokenRule}
+use Rattle.office_model.specs.declared.refusal.BrokenRule.TheVariants.{NumbersSpent}
+use Rattle.office_model.specs.declared.refusal.Refusal.{Refusal}
+use Rattle.office_model.specs.declared.refusal.Refusal.TheVariants.{Broken, Halted, DiskFault, Damaged, Memory}
+use Rattle.office_model.specs.declared.session.SessionName.{SessionName}
+use Rattle.office_model.specs.Meaning.{Carried, Judged, ◌>>=◌, ◌>>◌, breaks}
+use Rattle.office_model.specs.Office.{Office, Restore, Names, last_sequence}
+use Rattle.office_model.specs.Parts.{backup_of}
+use Rattle.office_model.specs.laws.SoundLaws.{IsSound-carried}
+use Rattle.office_model.specs.events.OpenDump.{next_session}
+use Rattle.office_model.specs.events.OpenRead as OpenReadEvent
+use Rattle.office_files.specs.Pooled.{contents_of, IsListed}
+use Rattle.open_sessions.specs.declared.sessions.Sessions.{Sessions}
+use Rattle.open_sessions.specs.Opened.{IsRestore, claims_in}
+use Rattle.open_sessions.specs.PlaceLaws.{IsAt-start}
+use Rattle.open_sessions.specs.CallLaws.{AreSessions-restore_opened, claims_in-restore_opened}
+use Rattle.store_parts.specs.declared.parts.StoreParts.{StoreParts}
+use Rattle.store_parts.specs.Held.{given, IsKeptView}
+use Rattle.store_parts.specs.States.{slots, IsRunning}
+use Rattle.store_parts.specs.StoredLaws.{listed_live}
+use Rattle.store_parts.specs.Runs.{Reads, Runs}
+use Rattle.store_parts.specs.RunLaws.{counted_fine, runs_reads, runs_refused, runs_memory, runs_read_fault}
+use Rattle.store_dumps.specs.Claims.{Gains}
+use Rattle.store_reads.specs.Shown.{ShowsBackup, IsLoaded, IsRefusal, Looks}
+use Rattle.store_restores.specs.Opening.{session_of, fresh, IsOpened, HasOpened, HasKept}
+use Rattle.store_restores.proofs.Running.{count_of, near_gained, running_kept, sessions_given, running_stays, runs_ok, runs_same}
+
+-- ---- rows that are told name given contents
+
+module _ (given : PoolId → Type 0) (contents : PoolId → List ℕ) (id : PoolId) where
+  content_given : (size : ℕ) (content : Option PoolId) → IsToldContent given contents size content → is_content id content ≡ true → given id
+  content_given size None told e = absurd cc
+  content_given size (Some other) told e = subst given (same_id other id e) told.0
+
+  node_given : (node : Record) → IsTold given contents node → names_of id node ≡ true → given id
+  node_given (File file) told e = content_given file.size file.content told e
+  node_given (Dir dir) told e = absurd cc
+  node_given (Link link) told e = absurd cc
+  node_given Deleted told e = absurd cc
+
+  pub named_given : (rows : Rows) → AreTold given contents rows → 0 < occurrences id rows → given id
+  named_given [] told some = absurd (omega (arith, some))
+  named_given (row ∷ rows) told some =
+      either (names_of id row.1) (node_given row.1 told.0) (λ more. named_given rows told.1 more) some
+    where
+      either : (b : Bool) → (b ≡ true → given id) → (0 < occurrences id rows → given id) → 0 < (if b then 1 else 0) + occurrences id rows
+          → given id
+      either true here behind some = here refl
+      either false here behind some = behind (omega (arith, some))
+
+-- a live name is a given one
+live_given : (slot : Option Slot) → is_live slot ≡ true → is_given slot ≡ true
+live_given None e = e
+live_given (Some (Live size mark claims)) e = refl
+live_given (Some (Staged size claims)) e = refl
+live_given (Some Doomed) e = e
+
+abbrev pub Failed : {T : Type 0} → Result T Refusal → Type 0
+Failed {T} reply = reply ≡ Err DiskFault
+
+pub not_failed : {T : Type 0} (x : T) → Failed (Ok x) → ⊥
+not_failed x e = cc
+
+-- ---- the model
+
+spent : (sequence : ℕ) → 2 ^ 64 - 1 ≤ sequence → nat_le last_sequence sequence ≡ true
+spent sequence h = grind (arith, nat_tests)
+
+unspent : (sequence : ℕ) → sequence < 2 ^ 64 - 1 → nat_le last_sequence sequence ≡ false
+unspent sequence h = grind (arith, nat_tests)
+
+abbrev opened : Office → Tree → Office
+opened office tree = record office {
+  restores = office.restores ++ OpenReadEvent.new_restore (next_session office) tree ∷ [];
+  sequence = office.sequence + 1;
+}
+
+module _ {D N S : Type 0} {d : DiskGhosts D} {n : NamerGhosts N S} where
+  pub reads_of : (old mid : StoreParts D N S d n) → Looks old mid → Reads old mid
+  reads_of old mid looks = record {
+    quiet = looks.quiet;
+    pool_same = looks.pool_same;
+    catalog_same = looks.catalog_same;
+    counts_same = looks.counts_same;
+    sessions_same = looks.sessions_same;
+    halted_same = looks.halted_same;
+    view = λ office names at.
+        subst (λ (views : Views). IsKeptView views.kept office.hosts at.backups) (sym looks.views_same) at.view;
+  }
+
+  module _ (old mid : StoreParts D N S d n) (name : List ℕ) (number : ℕ) (looks : Looks old mid) where
+    -- ---- refused
+
+    rule_first : (rule : BrokenRule) (office : Office) → backup_of office.hosts name number ≡ Err rule
+        → OpenReadEvent.carried name number office ≡ Err rule
+    rule_first rule office e = rw e refl
+
+    pub open_refused : {T : Type 0} (refusal : Refusal) → IsRefusal old (λ office. backup_of office.hosts name number) refusal
+        → Counted (count_of old) (count_of mid) (Failed {T = T} (Err refusal)) → Runs old (OpenRead name number) (Err refusal) mid
+    open_refused (Broken rule) is counted =
+        runs_refused old mid (OpenRead name number) rule (reads_of old mid looks)
+        (λ office names at. rule_first rule office (is office names at)) (counted_fine counted (λ e. cc) (λ e. e))
+    open_refused (Damaged file found) is counted =
+        runs_reads old mid (OpenRead name number) (Err (Damaged file found)) (reads_of old mid looks)
+        (λ office names at. absurd (is office names at)) (λ office names at. absurd (is office names at)) tt
+        (counted_fine counted (λ e. cc) (λ e. cc))
+    open_refused DiskFault is counted =
+        runs_read_fault old mid (OpenRead name number) (reads_of old mid looks) (λ office names. refl) counted refl
+    open_refused Memory is counted =
+        runs_memory old mid (OpenRead name number) (reads_of old mid looks) (counted_fine counted (λ e. cc) (λ e. e))
+    open_refused Halted is counted = absurd is
+
+    module _ (rows : Rows) (loaded : IsLoaded old name number rows) {failed : Type 0}
+        (counted : Counted (count_of old) (count_of mid) failed) (fine : failed → ⊥) where
+      judged_by : (office : Office) (names : Names) (at : IsRunning old office names)
+          → OpenReadEvent.carried name number office
+          ≡ (breaks NumbersSpent (nat_le last_sequence office.sequence)
+          >> Ok (record { answer = RestoreAnswer (next_session office); after = opened office (loaded office names at).backup.tree }))
+      judged_by office names at = rw (loaded office names at).is
+          (moved (nat_le last_sequence office.sequence)
+          (office.restores ++ OpenReadEvent.new_restore (next_session office) (loaded office names at).backup.tree ∷ []))
+        where
+          made : List Restore → Judged Carried
+          made restores = Ok (record {
+            answer = RestoreAnswer (next_session office);
+            after = record office { restores = restores; sequence = office.sequence + 1 };
+          })
+
+          moved : (b : Bool) (restores : List Restore)
+              → ((breaks NumbersSpent b >> Ok restores) >>= made) ≡ (breaks NumbersSpent b >> made restores)
+          moved true restores = refl
+          moved false restores = refl
+
+      sequence_is : (office : Office) (names : Names) → IsRunning old office names → office.sequence ≡ mid.sessions.sequence
+      sequence_is office names at = sym at.sessions.sequence ∙ ap (λ (s : Sessions). s.sequence) (sym looks.sessions_same)
+
+      pub open_spent : 2 ^ 64 - 1 ≤ mid.sessions.sequence → Runs old (OpenRead name number) (Err (Broken NumbersSpent)) mid
+      open_spent many =
+          runs_refused old mid (OpenRead name number) NumbersSpent (reads_of old mid looks)
+          (λ office names at. judged_by office names at
+          ∙ ap (λ b. breaks NumbersSpent b
+          >> Ok (record { answer = RestoreAnswer (next_session office); after = opened office (loaded office names at).backup.tree }))
+          (ap (nat_le last_sequence) (sequence_is office names at) ∙ spent mid.sessions.sequence many))
+          (counted_fine counted fine (λ e. e))
+
+      -- ---- memory
+
+      kept_since : (new : StoreParts D N S d n) → HasKept mid new → HasKept old new
+      kept_since new kept = record {
+        quiet = Quiet-then old.journal mid.journal new.journal looks.quiet kept.quiet;
+        catalog = kept.catalog ∙ looks.catalog_same;
+        counts = kept.counts ∙ looks.counts_same;
+        views = kept.views ∙ looks.views_same;
+        halted = kept.halted ∙ looks.halted_same;
+        form = kept.form ∙ ap (λ (p : Pool N S n). p.in_one_file) looks.pool_same;
+        sessions = record {
+          dumps = kept.sessions.dumps ∙ ap (λ (s : Sessions). s.dumps.items) looks.sessions_same;
+          restores = kept.sessions.restores ∙ ap (λ (s : Sessions). s.restores.items) looks.sessions_same;
+          sequence = kept.sessions.sequence ∙ ap (λ (s : Sessions). s.sequence) looks.sessions_same;
+        };
+        names = λ id. kept.names id ∙ ap (λ (p : Pool N S n). slots_of p.names id) looks.pool_same;
+      }
+
+      pub open_memory : (new : StoreParts D N S d n) → HasKept mid new → new.journal ≡ mid.journal
+          → Runs old (OpenRead name number) (Err Memory) new
+      open_memory new kept journal =
+          runs_same old new (OpenRead name number) (kept_since new kept).quiet
+          (subst (λ (j : Journal D d). Counted (count_of old) (d.fault_count j.disk) failed) (sym journal) counted) fine
+          (λ office names at. running_kept old new office names at (kept_since new kept))
+
+      -- ---- opened
+
+      opened_since : (new : StoreParts D N S d n) (session : SessionName) → HasOpened mid rows session new → HasOpened old rows session new
+      opened_since new session has = record {
+        quiet = Quiet-then old.journal mid.journal new.journal looks.quiet has.quiet;
+        catalog = has.catalog ∙ looks.catalog_same;
+        counts = has.counts ∙ looks.counts_same;
+        views = has.views ∙ looks.views_same;
+        halted = has.halted ∙ looks.halted_same;
+        form = has.form ∙ ap (λ (p : Pool N S n). p.in_one_file) looks.pool_same;
+        sessions = subst (λ (s : Sessions). IsOpened s old.catalog.epoch rows session new.sessions) looks.sessions_same
+            (subst (λ (k : Known). IsOpened mid.sessions k.epoch rows session new.sessions) looks.catalog_same has.sessions);
+        claims = subst (λ (p : Pool N S n). ((id : PoolId) → 0 < occurrences id rows → is_given (slots_of p.names id) ≡ true)
+            → Gains (λ id. occurrences id rows) (slots_of p.names) (slots new)) looks.pool_same has.claims;
+      }
+
+      module _ (new : StoreParts D N S d n) (session : SessionName) (has : HasOpened old rows session new) (office : Office) (names : Names)
+          (at : IsRunning old office names) where
+        abbrev shows : ShowsBackup (IsListed (index_of (slots old))) (contents_of at.all) office.hosts name number rows
+        shows = loaded office names at
+
+        told : AreTold (given (slots old)) (contents_of at.all) rows
+        told = AreTold-kept (IsListed (index_of (slots old))) (given (slots old)) (contents_of at.all) (contents_of at.all)
+            (λ id listed. (live_given (slots old id) (listed_live (slots old) id listed), refl)) rows shows.told
+
+        gains : Gains (λ id. occurrences id rows) (slots old) (slots new)
+        gains = has.claims (λ id some. named_given (given (slots old)) (contents_of at.all) id rows told some)
+
+        abbrev next : Office
+        next = opened office shows.backup.tree
+
+        named : session ≡ next_session office
+        named = has.sessions.name_is ∙ λ i. session_of (ap (λ (k : Known). k.epoch) at.catalog_is i) (at.sessions.sequence i)
+
+        is_restore : IsRestore (given (slots old)) (contents_of at.all)
+            (OpenReadEvent.new_restore (next_session office) shows.backup.tree) (fresh session rows)
+        is_restore = record {
+          name = named;
+          tree = shows.tree;
+          rows = record { whole = shows.whole; told = told };
+          place = IsAt-start shows.backup.tree;
+        }
+
+        claimed : (id : PoolId) → claims_of (slots new id) ≡ claims_in new.sessions id
+        claimed id = omega (
+          arith,
+          (gains id).claims,
+          at.claimed id,
+          claims_in-restore_opened old.sessions new.sessions has.sessions.dumps id (fresh session rows) has.sessions.restores,
+        )
+
+        running_opened : OpenReadEvent.carried name number office ≡ Ok (record { answer = RestoreAnswer session; after = next })
+            → IsRunning new next names
+        running_opened judged =
+            running_stays old new office next names at
+            (record {
+              quiet = has.quiet;
+              catalog = has.catalog;
+              counts = has.counts;
+              views = has.views;
+              halted = has.halted;
+              form = has.form;
+              names = near_gained (slots old) (slots new) (λ id. occurrences id rows) gains;
+            })
+            (sessions_given old new office names at next (λ id g. (gains id).given ∙ g)
+            (AreSessions-restore_opened old.sessions new.sessions has.sessions.dumps (given (slots old)) (contents_of at.all) office
+            at.sessions (OpenReadEvent.new_restore (next_session office) shows.backup.tree) (fresh session rows)
+            is_restore has.sessions.restores has.sessions.sequence))
+            claimed refl refl
+            (IsSound-carried office names (OpenRead name number) (record { answer = RestoreAnswer session; after = next }) at.sound judged)
+
+      pub open_made : (new : StoreParts D N S d n) (session : SessionName) → mid.sessions.sequence < 2 ^ 64 - 1
+          → HasOpened mid rows session new → new.journal ≡ mid.journal → Runs old (OpenRead name number) (Ok (RestoreAnswer session)) new
+      open_made new session few mid_has journal =
+          let has = opened_since new session mid_has in
+          runs_ok old new (OpenRead name number) has.quiet
+          (subst (λ (j : Journal D d). Counted (count_of old) (d.fault_count j.disk) failed) (sym journal) counted) fine
+          (RestoreAnswer session)
+          (λ office names at.
+          let after : Office = opened office (loaded office names at).backup.tree in
+          let passes : nat_le last_sequence office.sequence ≡ false
+          = ap (nat_le last_sequence) (sequence_is office names at) ∙ unspent mid.sessions.sequence few in
+          let judged : OpenReadEvent.carried name number office ≡ Ok (record { answer = RestoreAnswer session; after = after })
+          = judged_by office names at
+          ∙ ap (λ b. breaks NumbersSpent b >> Ok (record { answer = RestoreAnswer (next_session office); after = after })) passes
+          ∙ ap (λ (s : SessionName). Ok (record { answer = RestoreAnswer s; after = after }))
+          (sym (named new session has office names at)) in
+          record { next = after; judged = judged; running = running_opened new session has office names at judged })
+          (λ office names. refl) refl
