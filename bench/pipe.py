@@ -1,6 +1,7 @@
 #!/usr/bin/env python3
 """Measures bin/backup_server over its command `pipe`. bench/README.md says what."""
 import argparse
+import hashlib
 import os
 import platform
 import subprocess
@@ -17,13 +18,14 @@ def request(line, body=None):
 
 
 class Server:
-    """A run of the program on a fresh store."""
+    """A run of the program on a store."""
 
     def __init__(self, store):
         words = [f"{TOP}/bin/backup_server", "pipe", "--store", store]
         self.run = subprocess.Popen(words, stdin=subprocess.PIPE, stdout=subprocess.PIPE)
-        self.ask(request("PUT /hosts/pc1"))
-        self.ask(request("POST /hosts/pc1/dumps?kind=full"))
+
+    def open_dump(self, kind):
+        return self.ask(request(f"POST /hosts/pc1/dumps?kind={kind}")).decode().split('"')[3]
 
     def response(self):
         """Reads one response, and gives its body."""
@@ -66,26 +68,71 @@ def timed(call, *arguments):
     return time.monotonic() - start, answer
 
 
-def measure_small(store, count, size):
-    body = b"x" * size
-    puts = [request(f"PUT /dumps/1-0/entry?path=f{i}&kind=file", body) for i in range(count)]
+def content(size, number):
+    """Bytes of this size, other ones for each number."""
+    return (b"%d " % number * (size // 2 + 1))[:size]
+
+
+def written(room, bodies):
+    """Writes bodies to files, one each, and syncs them at the end."""
+    os.mkdir(room)
+    for number, body in enumerate(bodies):
+        with open(f"{room}/{number}", "wb") as it:
+            it.write(body)
+    os.sync()
+
+
+def hashed(bodies):
+    for body in bodies:
+        hashlib.md5(body).digest()
+
+
+def ratio(taken, other):
+    return f"{taken:.2f} s, {taken / max(other, 0.001):.1f} times"
+
+
+def measure_small(room, count, size):
+    """Many small files of contents that differ, and a commit of them; opening the store; and GETs of the newest and the
+    oldest of ten backups."""
+    bodies = [content(size, number) for number in range(count)]
+    write, _ = timed(written, f"{room}/written", bodies)
+    digest, _ = timed(hashed, bodies)
+    store = f"{room}/small"
     server = Server(store)
-    put, _ = timed(server.ask_all, puts)
-    commit, _ = timed(server.ask, request("POST /dumps/1-0/commit"))
+    server.ask(request("PUT /hosts/pc1"))
+    dump = server.open_dump("full")
+    put, _ = timed(server.ask_all, [request(f"PUT /dumps/{dump}/entry?path=f{n}&kind=file", b) for n, b in enumerate(bodies)])
+    commit, _ = timed(server.ask, request(f"POST /dumps/{dump}/commit"))
+    print(f"{count} files of {size} bytes, all different: written and synced in {write:.2f} s, hashed in {digest:.2f} s")
+    print(f"  PUTs {ratio(put, write)} the writing ({count / put:.0f} a second); commit {ratio(commit, write)} the writing")
+    again, _ = timed(server.ask, request("POST /reopen"))
+    print(f"  opening the store {ratio(again, digest)} the hashing")
+    for turn in range(1, 10):
+        dump = server.open_dump("incr")
+        changed = [request(f"PUT /dumps/{dump}/entry?path=f{n}&kind=file", content(size, count * turn + n)) for n in range(0, count, 100)]
+        server.ask_all(changed)
+        server.ask(request(f"POST /dumps/{dump}/commit"))
+    gets = min(count, 10_000)
+    for number, what in ((9, "newest"), (0, "oldest")):
+        asked = [request(f"GET /hosts/pc1/backups/{number}/file?path=f{n}") for n in range(gets)]
+        get, _ = timed(server.ask_all, asked)
+        print(f"  {gets} GETs of the {what} of ten backups: {get:.2f} s ({gets / get:.0f} a second)")
     server.end()
-    print(f"{count} files of {size} bytes: PUTs {put:.2f} s ({count / put:.0f} a second), commit {commit:.2f} s")
 
 
 def measure_large(store, size):
     body = os.urandom(size)
+    digest, _ = timed(hashed, [body])
     server = Server(store)
-    put, _ = timed(server.ask, request("PUT /dumps/1-0/entry?path=f&kind=file", body))
-    commit, _ = timed(server.ask, request("POST /dumps/1-0/commit"))
+    server.ask(request("PUT /hosts/pc1"))
+    dump = server.open_dump("full")
+    put, _ = timed(server.ask, request(f"PUT /dumps/{dump}/entry?path=f&kind=file", body))
+    commit, _ = timed(server.ask, request(f"POST /dumps/{dump}/commit"))
     get, found = timed(server.ask, request("GET /hosts/pc1/backups/0/file?path=f"))
     server.end()
     assert found == body
     rate = size / 1_000_000
-    print(f"one file of {size} bytes: PUT {rate / put:.0f} MB/s, commit {commit:.2f} s, GET {rate / get:.0f} MB/s")
+    print(f"one file of {size} bytes, hashed at {rate / digest:.0f} MB/s: PUT {rate / put:.0f} MB/s, commit {commit:.2f} s, GET {rate / get:.0f} MB/s")
 
 
 def main():
@@ -100,7 +147,7 @@ def main():
     load = os.getloadavg()[0]
     print(f"{platform.machine()}, {os.cpu_count()} processors, load {load:.1f}, {platform.system()} {platform.release()}")
     with tempfile.TemporaryDirectory(dir=said.folder) as room:
-        measure_small(f"{room}/small", said.count, said.small)
+        measure_small(room, said.count, said.small)
         measure_large(f"{room}/large", said.large)
 
 

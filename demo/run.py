@@ -1,6 +1,6 @@
 #!/usr/bin/env python3
-"""Sends a few requests to a fresh store, one after the other, and prints each before its response.
-It runs bin/backup_server, as `make build` makes it: `make demo` does both."""
+"""Sends requests to a fresh store in one run of the program, and to the same store in another, one after the other, and
+prints each before its response. It runs bin/backup_server, as `make build` makes it: `make demo` does both."""
 import os
 import shutil
 import subprocess
@@ -14,13 +14,21 @@ NOTES = b"Buy milk.\nCall Ada.\n"
 TODO = b"1. Back up.\n"
 
 # what is shown, the request's line, its body
-STEPS = [
+FIRST = [
     ("A machine of the office is added.", "PUT /hosts/laptop", None),
     ("A full dump of it begins, and gets a name.", "POST /hosts/laptop/dumps?kind=full", None),
     ("A file is put into the dump.", "PUT /dumps/1-0/entry?path=notes.txt&kind=file", NOTES),
     ("And another.", "PUT /dumps/1-0/entry?path=todo.txt&kind=file", TODO),
     ("The dump becomes backup 0. From this response on it is kept.", "POST /dumps/1-0/commit", None),
-    ("A file of that backup is given back.", "GET /hosts/laptop/backups/0/file?path=notes.txt", None),
+]
+SECOND = [
+    ("The program was started again: the backup is there.", "GET /hosts/laptop/backups", None),
+    ("An incremental dump begins with the newest backup.", "POST /hosts/laptop/dumps?kind=incr", None),
+    ("The second file goes.", "DELETE /dumps/2-0/entry?path=todo.txt", None),
+    ("The dump becomes backup 1.", "POST /dumps/2-0/commit", None),
+    ("Backup 1 has one file.", "GET /hosts/laptop/backups/1/list", None),
+    ("Backup 0 has both, as it had.", "GET /hosts/laptop/backups/0/list", None),
+    ("A file of it is given back.", "GET /hosts/laptop/backups/0/file?path=todo.txt", None),
 ]
 
 
@@ -40,13 +48,11 @@ def response(stream):
     return first.decode().strip(), stream.read(length)
 
 
-def main():
-    if not os.path.exists(PROGRAM):
-        sys.exit("bin/backup_server isn't there: make build first")
-    shutil.rmtree(STORE, ignore_errors=True)
+def serve(steps):
+    """Runs the program over the store, and gives its status and the body of the last response."""
     run = subprocess.Popen([PROGRAM, "pipe", "--store", STORE], stdin=subprocess.PIPE, stdout=subprocess.PIPE)
     body = b""
-    for shown, line, sent in STEPS:
+    for shown, line, sent in steps:
         print(f"\n{shown}\n> {line}")
         for text in (sent or b"").decode().splitlines():
             print(f"> {text}")
@@ -57,10 +63,18 @@ def main():
         for text in body.decode().splitlines():
             print(f"< {text}")
     run.stdin.close()
-    status = run.wait()
-    if status != 0 or body != NOTES:
-        sys.exit(f"not as it should be: status {status}")
-    print(f"\nSeen: notes.txt came back byte for byte. The store is in {STORE}.")
+    return run.wait(), body
+
+
+def main():
+    if not os.path.exists(PROGRAM):
+        sys.exit("bin/backup_server isn't there: make build first")
+    shutil.rmtree(STORE, ignore_errors=True)
+    first, _ = serve(FIRST)
+    second, body = serve(SECOND)
+    if first != 0 or second != 0 or body != TODO:
+        sys.exit(f"not as it should be: statuses {first} and {second}")
+    print(f"\nSeen: todo.txt came back byte for byte from another run. The store is in {STORE}.")
 
 
 main()

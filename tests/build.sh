@@ -9,7 +9,7 @@ cd "$top"
 rm -rf build/empty
 mkdir -p bin build
 crates=$(grep -c '^[a-z]' crates.txt)
-echo "proving the program's crates (of $crates in all), then compiling: from nothing this takes about half an hour on four processors"
+echo "proving the program's crates (of $crates in all), then compiling: from nothing count on an hour of four processors"
 status=0
 {
     (cd crates/backup_server && ${RT:-rt} run -- pipe --store "$top/build/empty") </dev/null 2>&1 || echo "ended with $?"

@@ -55,19 +55,32 @@ expect 'words that are no command line make nothing'
 
 attempt pipe --store empty/a/b
 judge 'no input' 0 ''
-[ "$(ls empty/a/b | tr '\n' ' ')" = 'head lock ' ]
-expect 'a store without hosts has its head and the lock alone'
+[ "$(ls empty/a/b | tr '\n' ' ')" = 'gate head intent lock ' ]
+expect 'a store without hosts has its head, the journal and the lock alone'
 [ "$(stat -c %a empty/a/b empty/a/b/head empty/a/b/lock | tr '\n' ' ')" = '700 600 600 ' ]
 expect 'the folder and its files are their owner'"'"'s alone'
 
-find empty -type f -exec cksum {} + >before
 printf 'PUT /hosts/pc1 HTTP/1.1\r\nHost: b\r\n\r\n' >in
+printf 'HTTP/1.1 201 Created\r\nContent-Type: application/json\r\nContent-Length: 14\r\n\r\n{"host":"pc1"}' >want
 attempt pipe --store empty/a/b
-judge 'a folder that has a head' 5 'foreign head
-in the folder empty/a/b'
-find empty -type f -exec cksum {} + >after
+judge 'a second run on a store' 0 ''
+printf 'GET /hosts HTTP/1.1\r\nHost: b\r\n\r\n' >in
+printf 'HTTP/1.1 200 OK\r\nContent-Type: application/json\r\nContent-Length: 17\r\n\r\n{"hosts":["pc1"]}' >want
+attempt pipe --store empty/a/b
+judge 'a third run has what the second one added' 0 ''
+
+: >in
+: >want
+mkdir -p foreign
+printf abc >foreign/head
+: >foreign/lock
+find foreign -type f -exec cksum {} + >before
+attempt pipe --store foreign
+judge 'a head that is none' 5 'foreign head
+in the folder foreign'
+find foreign -type f -exec cksum {} + >after
 cmp -s before after
-expect 'a folder that has a head stays as it was'
+expect 'a folder with a foreign head stays as it was'
 
 : >plain
 attempt pipe --store plain/store
@@ -89,12 +102,12 @@ judge 'an empty path' 8 "the folder  can't be made or opened: No such file or di
 attempt pipe --store cut
 judge 'a body cut after 7 of 10 bytes' 1 'input ended inside a request'
 
-printf 'GET /stats HTTP/1.1\r\nHost: b\r\n\r\n' >in
+printf 'GET /nothing HTTP/1.1\r\nHost: b\r\n\r\n' >in
 printf 'HTTP/1.1 404 Not Found\r\nContent-Type: application/json\r\nContent-Length: 21\r\n\r\n{"refused":"NoRoute"}' >want
 attempt pipe --store routes
 judge 'a target that has no route' 0 ''
 
-printf 'GET /stats HTTP/1.1\r\n\r\n' >in
+printf 'GET /hosts HTTP/1.1\r\n\r\n' >in
 printf 'HTTP/1.1 400 Bad Request\r\nContent-Type: application/json\r\nContent-Length: 21\r\nConnection: close\r\n\r\n{"refused":"BadHead"}' >want
 attempt pipe --store heads
 judge 'a head without its Host' 1 'request not understood'
@@ -145,7 +158,7 @@ mkdir -p strange
 attempt pipe --store strange
 printf 'HTTP/1.1 201 Created\r\nContent-Type: application/json\r\nContent-Length: 14\r\n\r\n{"host":"pc1"}' >want
 judge 'a folder with other files' 0 ''
-[ "$(ls strange | tr '\n' ' ')" = 'head host-00 lock table-1 ' ]
+[ "$(LC_ALL=C ls strange | tr '\n' ' ')" = 'counts-0 gate head host-0 host-00 intent lock table-1 ' ]
 expect 'other files stay'
 
 # Two processes on one folder: the first has the lock until its input ends.
@@ -166,7 +179,7 @@ wait "$first"
 [ $? = 0 ] && [ ! -s first ] && [ ! -s first_err ]
 expect 'the first process goes on and ends'
 attempt pipe --store taken
-[ "$status" = 5 ]
+[ "$status" = 0 ]
 expect 'after it the folder is free'
 
 echo "$passed passed, $failed failed"

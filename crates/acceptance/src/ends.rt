@@ -1,10 +1,14 @@
 //! A run of the program over ends in memory.
 
 use admin_cli::{Done, run};
+use backup_rules::Rules;
 use disk_trait::{Disk, DiskRoom, FileId, MemoryDisk};
+use pool_name::Md5Namer;
+use request_events::Defaults;
 use std::alloc::{AllocError, Global};
 use std::test::Fail;
 use stream_traits::{FixedClock, MemoryLink, Moment};
+use wake_schedule::Zone;
 
 /// What a run is made of.
 #[derive(Clone, Copy)]
@@ -27,8 +31,8 @@ pub const QUIET: Case<'static> = Case {
     input: &[],
     disk_fails: u64::MAX,
     disk_room: DiskRoom {
-        changes: 1_000,
-        bytes: 1_000_000,
+        changes: 2_000,
+        bytes: 2_000_000,
     },
     link_fails: u64::MAX,
     link_room: 65_536,
@@ -78,6 +82,17 @@ pub fn new_clock() -> FixedClock {
     FixedClock::new(Moment::new(1_700_000_000).unwrap_or(Moment::first()))
 }
 
+/// What a server without a settings file adds to requests.
+pub fn defaults(alloc: Global) -> Result<Defaults, AllocError> {
+    match Zone::read("UTC") {
+        Ok(zone) => Ok(Defaults {
+            rules: Rules::defaults(alloc)?,
+            zone,
+        }),
+        Err(_) => Err(AllocError),
+    }
+}
+
 /// Runs a case over this disk.
 pub fn run_over(
     alloc: Global,
@@ -87,7 +102,15 @@ pub fn run_over(
     let words = words_of(alloc, case.line)?;
     let link = link_of(alloc, case)?;
     let mut clock = new_clock();
-    Ok(run(alloc, words.as_slice(), disk, &mut clock, link))
+    Ok(run(
+        alloc,
+        words.as_slice(),
+        &defaults(alloc)?,
+        disk,
+        Md5Namer,
+        &mut clock,
+        link,
+    ))
 }
 
 /// Whether a run ended as it was to.

@@ -4,18 +4,17 @@
 //! compare what comes out with what was written down by hand: the responses, the store's files, the
 //! status and what is said on standard error. So they show what no clause of the crates below says:
 //! that calls succeed where there is memory, how things are printed, and that the definitions mean
-//! the bytes that users see. Others put the same events to the store and to the plain office, and take
-//! runs and stores into threads.
+//! the bytes that users see. Others take runs and stores into threads.
 #![tactic(auto)]
 
+#[cfg(test)]
+mod crashes;
 #[cfg(test)]
 mod ends;
 #[cfg(test)]
 mod faults;
 #[cfg(test)]
 mod files;
-#[cfg(test)]
-mod offices;
 #[cfg(test)]
 mod refusals;
 #[cfg(test)]

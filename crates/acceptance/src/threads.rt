@@ -1,12 +1,13 @@
 //! Runs and stores in threads.
 
-use crate::ends::{Case, QUIET, Want, disk_of, expect_end, link_of, new_clock, words_of};
+use crate::ends::{Case, QUIET, Want, defaults, disk_of, expect_end, link_of, new_clock, words_of};
 use crate::files::{COMMIT, COMMITTED, CONTENT, READ};
 use admin_cli::{Done, run};
-use attr_records::HostName;
 use disk_trait::{Disk, MemoryDisk};
-use first_model::{Answer, Event, Refusal};
-use first_store::Store;
+use office_model::{Answer, Event, Refusal};
+use office_store::Store;
+use pool_name::Md5Namer;
+use request_events::Defaults;
 use std::alloc::Global;
 use std::test::Fail;
 use std::thread::{Threads, join};
@@ -18,11 +19,22 @@ fn run_apart<D: Disk + Send + Drop, C: Clock + Drop, L: Link + Drop>(
     rt: &impl Threads,
     alloc: Global,
     words: Vec<String>,
+    defaults: Defaults,
     disk: D,
     mut clock: C,
     link: L,
 ) -> Done<D, L> {
-    let work = move || run(alloc, words.as_slice(), disk, &mut clock, link);
+    let work = move || {
+        run(
+            alloc,
+            words.as_slice(),
+            &defaults,
+            disk,
+            Md5Namer,
+            &mut clock,
+            link,
+        )
+    };
     let (seen, ()) = join(rt, work, || ());
     seen
 }
@@ -31,9 +43,9 @@ fn run_apart<D: Disk + Send + Drop, C: Clock + Drop, L: Link + Drop>(
 fn apply_apart<D: Disk + Send + Drop>(
     rt: &impl Threads,
     alloc: Global,
-    mut store: Store<D>,
+    mut store: Store<D, Md5Namer>,
     event: Event,
-) -> (Result<Answer, Refusal>, Store<D>) {
+) -> (Result<Answer, Refusal>, Store<D, Md5Namer>) {
     let work = move || {
         let reply = store.apply(alloc, &event);
         (reply, store)
@@ -52,7 +64,7 @@ fn expect_apart(
     let words = words_of(alloc, case.line)?;
     let disk = disk_of(alloc, case)?;
     let link = link_of(alloc, case)?;
-    let done = run_apart(rt, alloc, words, disk, new_clock(), link);
+    let done = run_apart(rt, alloc, words, defaults(alloc)?, disk, new_clock(), link);
     expect_end(alloc, &done, want)
 }
 
@@ -70,21 +82,20 @@ fn a_run_serves_within_a_thread(rt: HostRuntime) -> Result<(), Fail> {
     expect_apart(&rt, rt.alloc(), &case, &want)
 }
 
-/// Adds a host to a store, in a thread.
-fn expect_added_apart(rt: &impl Threads, alloc: Global, disk: MemoryDisk) -> Result<(), Fail> {
-    let Ok(store) = Store::open(alloc, disk) else {
+/// Asks a store for its hosts, in a thread.
+fn expect_asked_apart(rt: &impl Threads, alloc: Global, disk: MemoryDisk) -> Result<(), Fail> {
+    let Ok(store) = Store::open(alloc, disk, Md5Namer) else {
         return Err(Fail::new("no store"));
     };
-    let host = HostName::read(alloc, b"pc1")?;
-    let (reply, store) = apply_apart(rt, alloc, store, Event::AddHost { host });
-    if matches!(reply, Ok(Answer::Done)) && !store.halted() {
+    let (reply, store) = apply_apart(rt, alloc, store, Event::Hosts);
+    if matches!(reply, Ok(Answer::Hosts(_))) && !store.is_halted() {
         return Ok(());
     }
-    Err(Fail::new("no host was added"))
+    Err(Fail::new("no hosts were told"))
 }
 
 #[test]
 fn a_store_serves_within_a_thread(rt: HostRuntime) -> Result<(), Fail> {
     let disk = disk_of(rt.alloc(), &QUIET)?;
-    expect_added_apart(&rt, rt.alloc(), disk)
+    expect_asked_apart(&rt, rt.alloc(), disk)
 }

@@ -1,65 +1,92 @@
 -- A run that served its connection, from what the layers below it say.
-use Rattle.std.specs.Prelude.{IsSome}
-use Rattle.disk_trait.specs.declared.ids.FileId.TheVariants.{Head}
-use Rattle.std.proofs.Common.{◌≡◌, ℕ, ◌-◌, ◌^◌, ◌<◌, Bool, true, false, List, Option, None, Some, refl, sym, ap, ◌∙◌, subst, inl, inr, ◌⊎◌, arith}
+--     serves, refuses, complete
+use Rattle.std.specs.Prelude.{◌≤◌, IsSome, ◌||◌, ◌⊎◌}
+use Rattle.std.proofs.Common.{◌≡◌, ℕ, ◌-◌, ◌^◌, ◌<◌, Bool, true, false, List, Option, None, Some, refl, sym, ap, ◌∙◌, subst, inl, inr, arith}
+use Rattle.std.proofs.lemmas.Bool.{false≢true}
 use Rattle.fault_counts.specs.Counts.{Rose, Counted}
-use Rattle.disk_trait.specs.declared.disk.Disk.{Ghosts}
+use Rattle.disk_trait.specs.declared.disk.Disk.{Ghosts as DiskGhosts}
 use Rattle.disk_trait.specs.Files.{Files}
-use Rattle.first_model.specs.Office.{Office, reopened}
-use Rattle.first_model.specs.Step.{Call, State, Running, Halted}
-use Rattle.first_store.specs.declared.store.Store.{Store}
-use Rattle.first_store.specs.declared.port.DirectPort.{DirectPort}
-use Rattle.first_store.specs.Kept.{Tells, InState, Moves, Opens}
+use Rattle.disk_trait.specs.Images.{Leaves, leaves_then, leaves_wider}
+use Rattle.pool_name.specs.declared.namer.Namer.{Ghosts as NamerGhosts}
+use Rattle.journal_view.specs.Found.{Finds}
+use Rattle.journal_view.specs.FoundLaws.{finds_wider}
+use Rattle.office_model.specs.Office.{Office, reopened}
+use Rattle.office_model.specs.Step.{Call, State, Running}
+use Rattle.store_opening.specs.declared.fault.OpenRefusal.{OpenRefusal}
+use Rattle.store_opening.specs.declared.fault.OpenRefusal.TheVariants as O
+use Rattle.store_opening.specs.Begins.{MayLeave}
+use Rattle.store_opening.specs.Opens.{IsOf, HasLast, Opened}
+use Rattle.office_store.specs.declared.store.Store.{Store}
+use Rattle.office_store.specs.declared.port.DirectPort.{DirectPort}
+use Rattle.office_store.specs.Moves.{MayRecoverIn, Moves, Goes}
+use Rattle.office_store.specs.EndLaws.{is_halted, halted_rose, halted_as, left_of}
 use Rattle.stream_traits.specs.Seen.{LinkSeen}
+use Rattle.request_events.specs.declared.defaults.Defaults.{Defaults}
 use Rattle.browse_http.specs.declared.end.End.{End}
 use Rattle.browse_http.specs.declared.end.End.TheVariants.{Ended, Truncated, BadRequest, LinkFault, Memory}
 use Rattle.browse_http.specs.Talk.{ServesLink, calls_of}
 use Rattle.admin_cli.specs.declared.note.Note.{Note}
-use Rattle.admin_cli.specs.declared.note.Note.TheVariants.{Nothing, InputEnded, NotUnderstood, Usage, LinkFailed, DiskFailed, Foreign, NoMemory}
-use Rattle.admin_cli.specs.Run.{status_of, note_of, IsLeft, IsServed, LeadsOnDisk, Serves, Refuses, IsCause, IsComplete}
+use Rattle.admin_cli.specs.declared.note.Note.TheVariants.{Nothing, InputEnded, NotUnderstood, Usage, LinkFailed, DiskFailed, Foreign, EpochsSpent, NoMemory}
+use Rattle.admin_cli.specs.Run.{status_of, note_of, note_of_refusal, StandsForEither, IsServed, Serves, IsUnopened, IsCause, Refuses, IsComplete}
 
-is_false : (b : Bool) → (b ≡ true → ⊥) → b ≡ false
-is_false true h = absurd (h refl)
-is_false false h = refl
-
-module _ {D : Type 0} {d : Ghosts D} (disk : D) (store store' : Store D d) (opened : Opens disk store) where
-  -- from the opening on, the disk's count rose exactly where the store is halted at the end
-  counted : (calls : List Call) → Moves store calls store' → Counted (d.fault_count disk) (d.fault_count store'.disk) (store'.halted ≡ true)
-  counted calls moved = record {
-    later = let since = opened.calm in let later = moved.later in omega arith;
-    rose = λ halted. step (moved.stops halted);
-    stays = λ running. (moved.calm (is_false store'.halted running)).1 ∙ opened.calm;
-  }
+module _ {D N S : Type 0} {d : DiskGhosts D} {n : NamerGhosts N S} (disk : D) (store store' : Store D N S d n)
+    (opened : (a b : Office) → IsOf n.digest_of (d.files disk) (d.uncertain disk) a b → Opened a b store.parts)
+    (begun : (a b : Office) → IsOf n.digest_of (d.files disk) (d.uncertain disk) a b
+    → Leaves d.moment d.left_since disk store.parts.journal.disk (Finds (MayLeave n.digest_of a b)))
+    (calm : d.fault_count store.parts.journal.disk ≡ d.fault_count disk) where
+  is_served : (calls : List Call) → Moves store calls store' → (a b : Office) → StandsForEither d n.digest_of disk a b
+      → IsServed d n.digest_of disk store'.parts.journal.disk calls (store'.parts.halted || store'.parts.journal.halted) a b
+  is_served calls moved a b stands =
+      let o = opened a b stands in
+      let g = moved.goes (Running (reopened o.office) o.names) o.running (o.running.sound, o.running.used.distinct) in
+      record {
+        office = o.office;
+        is_one = o.is_one;
+        names = o.names;
+        opening = d.fault_count store.parts.journal.disk;
+        since = omega (arith, calm);
+        last = g.next;
+        history = g.leads;
+        left = left_of store' g.next g.in_state;
+        halted_is = halted_as store' g.next g.in_state;
+        rose = λ halted. rose_of o g halted;
+        crash = leaves_then
+            (leaves_wider (begun a b stands)
+            (λ image finds. finds_wider (MayLeave n.digest_of a b) (during o) image (λ found may. inl may) finds))
+            (leaves_wider g.crash (λ image finds. finds_wider (MayRecoverIn n.digest_of
+            (Running (reopened o.office) o.names) (d.fault_count store.parts.journal.disk) calls) (during o) image (λ found may. inr may) finds));
+      }
     where
-      step : (store.halted ≡ true) ⊎ Rose (d.fault_count store.disk) (d.fault_count store'.disk) → Rose (d.fault_count disk) (d.fault_count store'.disk)
-      step (inl was) = let ready = opened.ready in cc
-      step (inr rose) = let since = opened.calm in omega arith
+      during : Opened a b store.parts → Files → Type 0
+      during o found =
+          MayLeave n.digest_of a b found
+          ⊎ MayRecoverIn n.digest_of (Running (reopened o.office) o.names) (d.fault_count store.parts.journal.disk) calls found
 
-  is_left : (calls : List Call) → Moves store calls store' → (last : State) → InState store' last → IsLeft d.files d.fault_count disk store'.disk last store'.halted
-  is_left calls moved (Running office) at = (at.ready, at.tells)
-  is_left calls moved (Halted before next) at = (at.halted, (counted calls moved).rose at.halted)
+      rose_of : (o : Opened a b store.parts) (g : Goes store (Running (reopened o.office) o.names) calls store')
+          → (store'.parts.halted || store'.parts.journal.halted) ≡ true
+          → Rose (d.fault_count disk) (d.fault_count store'.parts.journal.disk)
+      rose_of o g halted =
+          subst (λ (k : ℕ). Rose k (d.fault_count store'.parts.journal.disk)) calm
+          (subst (λ (k : ℕ). Rose (d.fault_count store.parts.journal.disk) k) (sym g.leads.faults_is)
+          (halted_rose (Running (reopened o.office) o.names) (d.fault_count store.parts.journal.disk) g.leads.entries g.leads.legal refl
+          (ap is_halted (sym g.leads.state_is) ∙ sym (halted_as store' g.next g.in_state) ∙ halted)))
 
-  is_served : (calls : List Call) → Moves store calls store' → (office : Office) → Tells d.files disk office
-      → IsServed d.files d.fault_count disk store'.disk calls store'.halted office
-  is_served calls moved office tells =
-      let lead = moved.leads (Running (reopened office)) (opened.running office tells) in
-      record { opening = d.fault_count store.disk; since = let since = opened.calm in omega arith; last = lead.0; history = lead.1; left = is_left calls moved lead.0 lead.2 }
-
-  pub serves : (words : Option (List ℕ)) (port port' : DirectPort D d) (link link' : LinkSeen) (moments moments' : Option (List ℕ)) (end : End)
-      (disk' : D) (halted : Bool) (note : Note)
+  pub serves : (defaults : Defaults) (words : Option (List ℕ)) (port port' : DirectPort D N S d n) (link link' : LinkSeen) (moments moments' : Option (List ℕ))
+      (end : End) (disk' : D) (halted : Bool) (note : Note)
       → IsSome words → port.store ≡ store
-      → ServesLink (λ (p : DirectPort D d) calls (q : DirectPort D d). Moves p.store calls q.store) port port' link link' moments moments' end
-      → store' ≡ port'.store → disk' ≡ store'.disk → halted ≡ store'.halted → note ≡ note_of end halted
-      → Serves d.files d.fault_count disk disk' words link link' moments moments' note
-  serves words port port' link link' moments moments' end disk' halted note named port_is served store_is disk_is halted_is note_is =
+      → ServesLink defaults (λ (p : DirectPort D N S d n) calls (q : DirectPort D N S d n). Moves p.store calls q.store)
+      port port' link link' moments moments' end
+      → store' ≡ port'.store → disk' ≡ store'.parts.journal.disk → halted ≡ (store'.parts.halted || store'.parts.journal.halted)
+      → note ≡ note_of end halted
+      → Serves d n.digest_of defaults disk disk' words link link' moments moments' note
+  serves defaults words port port' link link' moments moments' end disk' halted note named port_is served store_is disk_is halted_is note_is =
       let moved : Moves store (calls_of served.talk.exchanges) store' =
       subst (λ q. Moves store (calls_of served.talk.exchanges) q) (sym store_is)
       (subst (λ p. Moves p (calls_of served.talk.exchanges) port'.store) port_is served.talk.moved) in
       rw (note_is, disk_is, halted_is) (record {
         named = named;
-        no_head = opened.absent;
         end = end;
-        halted = store'.halted;
+        halted = store'.parts.halted || store'.parts.journal.halted;
         talk = record {
           unread = served.unread;
           talk = record {
@@ -78,46 +105,62 @@ module _ {D : Type 0} {d : Ghosts D} (disk : D) (store store' : Store D d) (open
           sent = served.sent;
           counted = served.counted;
         };
-        counted = counted (calls_of served.talk.exchanges) moved;
+        later = omega (arith, calm, moved.later);
         note_is = refl;
       })
 
-module _ {D : Type 0} (files : D → Option Files) (faults : D → ℕ) (disk disk' : D) (store : Option (List ℕ)) (linked linked' : ℕ) (note : Note) where
-  served_complete : (end : End) (halted : Bool) → (end ≡ LinkFault → Rose linked linked') → (halted ≡ true → Rose (faults disk) (faults disk'))
-      → faults disk < 2 ^ 64 - 1 → faults disk' ≡ faults disk → linked < 2 ^ 64 - 1 → linked' ≡ linked
-      → note ≡ note_of end halted → (status_of note ≡ 0) ⊎ ((status_of note ≡ 1) ⊎ (status_of note ≡ 6))
-  served_complete Memory halted link disk_halted a b c d e = inr (inr (ap status_of e))
-  served_complete LinkFault halted link disk_halted a b c d e = let rose : Rose linked linked' = link refl in absurd (omega arith)
-  served_complete Ended true link disk_halted a b c d e = let rose : Rose (faults disk) (faults disk') = disk_halted refl in absurd (omega arith)
-  served_complete Ended false link disk_halted a b c d e = inl (ap status_of e)
-  served_complete Truncated true link disk_halted a b c d e = let rose : Rose (faults disk) (faults disk') = disk_halted refl in absurd (omega arith)
-  served_complete Truncated false link disk_halted a b c d e = inr (inl (ap status_of e))
-  served_complete BadRequest true link disk_halted a b c d e = let rose : Rose (faults disk) (faults disk') = disk_halted refl in absurd (omega arith)
-  served_complete BadRequest false link disk_halted a b c d e = inr (inl (ap status_of e))
+none_named : IsSome {T = List ℕ} None → ⊥
+none_named named = false≢true named
 
-  refused_complete : (said : Note) → IsCause files faults disk disk' store said → (all : Files) → files disk ≡ Some all → all Head ≡ None → IsSome store
-      → faults disk < 2 ^ 64 - 1 → faults disk' ≡ faults disk → (status_of said ≡ 0) ⊎ ((status_of said ≡ 1) ⊎ (status_of said ≡ 6))
-  refused_complete Usage cause all told none some a b = absurd (no_store cause.0 some)
-    where
-      no_store : store ≡ None → IsSome store → ⊥
-      no_store e s = let none : IsSome {T = List ℕ} None = subst IsSome e s in cc
-  refused_complete DiskFailed cause all told none some a b = let rose : Rose (faults disk) (faults disk') = cause.1 in absurd (omega arith)
-  refused_complete (Foreign file) cause all told none some a b = absurd (no_head (all Head) none (cause.2 all told))
-    where
-      no_head : (head : Option (List ℕ)) → head ≡ None → IsSome head → ⊥
-      no_head None e s = cc
-      no_head (Some bytes) e s = cc
-  refused_complete NoMemory cause all told none some a b = inr (inr refl)
-  refused_complete Nothing cause all told none some a b = absurd cause
-  refused_complete InputEnded cause all told none some a b = absurd cause
-  refused_complete NotUnderstood cause all told none some a b = absurd cause
-  refused_complete LinkFailed cause all told none some a b = absurd cause
+-- no store was opened
+pub refuses : {D : Type 0} (d : DiskGhosts D) (digest_of : List ℕ → List ℕ) (disk disk' : D) (store : Option (List ℕ)) (link : LinkSeen)
+    (moments : Option (List ℕ)) (refusal : OpenRefusal) (note : Note) → IsSome store → note ≡ note_of_refusal refusal
+    → IsUnopened d digest_of disk disk' refusal → Refuses d digest_of disk disk' store link link moments moments note
+refuses d digest_of disk disk' None link moments refusal note named note_is is = absurd (none_named named)
+refuses d digest_of disk disk' (Some store) link moments refusal note named note_is is =
+    record { cause = (refusal, note_is, is); untouched = refl; unasked = refl }
 
-pub complete : {D : Type 0} (files : D → Option Files) (faults : D → ℕ) (disk disk' : D) (store : Option (List ℕ)) (note : Note) (link link' : LinkSeen)
-    (moments moments' : Option (List ℕ))
-    → Serves files faults disk disk' store link link' moments moments' note ⊎ Refuses files faults disk disk' store link link' moments moments' note
-    → IsComplete files faults disk disk' store link.faults link'.faults note
-complete files faults disk disk' store note link link' moments moments' (inl s) = λ all told none some a b c d.
-    served_complete files faults disk disk' store link.faults link'.faults note s.end s.halted s.talk.counted.rose s.counted.rose a b c d s.note_is
-complete files faults disk disk' store note link link' moments moments' (inr r) = λ all told none some a b c d.
-    refused_complete files faults disk disk' store link.faults link'.faults note note r.cause all told none some a b
+module _ {D : Type 0} (d : DiskGhosts D) (digest_of : List ℕ → List ℕ) (disk disk' : D) (linked linked' : ℕ) (note : Note) where
+  abbrev EndsWell : Note → Office → Office → Type 0
+  EndsWell said a b =
+      (status_of said ≡ 0) ⊎ ((status_of said ≡ 1) ⊎ ((status_of said ≡ 6) ⊎ ((said ≡ EpochsSpent) × HasLast a b)))
+
+  served_complete : (a b : Office) (end : End) (halted : Bool) → (end ≡ LinkFault → Rose linked linked')
+      → (halted ≡ true → Rose (d.fault_count disk) (d.fault_count disk'))
+      → d.fault_count disk < 2 ^ 64 - 1 → d.fault_count disk' ≡ d.fault_count disk → linked < 2 ^ 64 - 1 → linked' ≡ linked
+      → EndsWell (note_of end halted) a b
+  served_complete a b Memory halted link stopped m same l same_link = inr (inr (inl refl))
+  served_complete a b LinkFault halted link stopped m same l same_link =
+      let rose : Rose linked linked' = link refl in absurd (omega (arith, rose, l, same_link))
+  served_complete a b Ended true link stopped m same l same_link =
+      let rose : Rose (d.fault_count disk) (d.fault_count disk') = stopped refl in absurd (omega (arith, rose, m, same))
+  served_complete a b Ended false link stopped m same l same_link = inl refl
+  served_complete a b Truncated true link stopped m same l same_link =
+      let rose : Rose (d.fault_count disk) (d.fault_count disk') = stopped refl in absurd (omega (arith, rose, m, same))
+  served_complete a b Truncated false link stopped m same l same_link = inr (inl refl)
+  served_complete a b BadRequest true link stopped m same l same_link =
+      let rose : Rose (d.fault_count disk) (d.fault_count disk') = stopped refl in absurd (omega (arith, rose, m, same))
+  served_complete a b BadRequest false link stopped m same l same_link = inr (inl refl)
+
+  unopened_complete : (a b : Office) (refusal : OpenRefusal) → StandsForEither d digest_of disk a b
+      → IsUnopened d digest_of disk disk' refusal → d.fault_count disk < 2 ^ 64 - 1 → d.fault_count disk' ≡ d.fault_count disk
+      → EndsWell (note_of_refusal refusal) a b
+  unopened_complete a b (O.Foreign file found) stands is m same = absurd (is.left a b stands)
+  unopened_complete a b O.EpochsSpent stands is m same = inr (inr (inr (refl, (is.left a b stands).0)))
+  unopened_complete a b O.DiskFault stands is m same =
+      let rose : Rose (d.fault_count disk) (d.fault_count disk') = is.counted.rose refl in absurd (omega (arith, rose, m, same))
+  unopened_complete a b O.Memory stands is m same = inr (inr (inl refl))
+
+  pub complete : (defaults : Defaults) (store : Option (List ℕ)) (link link' : LinkSeen) (moments moments' : Option (List ℕ))
+      → Serves d digest_of defaults disk disk' store link link' moments moments' note
+      ⊎ Refuses d digest_of disk disk' store link link' moments moments' note
+      → link.faults ≡ linked → link'.faults ≡ linked' → IsComplete d digest_of disk disk' store linked linked' note
+  complete defaults store link link' moments moments' (inl s) is is' = λ a b stands some m same l same_link.
+      subst (λ (said : Note). EndsWell said a b) (sym s.note_is)
+      (served_complete a b s.end s.halted
+      (λ e. subst (λ (k : ℕ). Rose k linked') is (subst (λ (k : ℕ). Rose link.faults k) is' (s.talk.counted.rose e)))
+      (s.talk.talk.moved a b stands).rose m same l same_link)
+  complete defaults None link link' moments moments' (inr r) is is' = λ a b stands some m same l same_link. absurd (none_named some)
+  complete defaults (Some store) link link' moments moments' (inr r) is is' = λ a b stands some m same l same_link.
+      subst (λ (said : Note). EndsWell said a b) (sym r.cause.1)
+      (unopened_complete a b r.cause.0 stands r.cause.2 m same)

@@ -1,21 +1,31 @@
 -- What the program promises for its command `pipe`.
+--     status_of, note_of      the status of a note, and the note of a run that served its connection
+--     IsServed      one legal history of the calls, from one of the offices that the disk stood for, and what the disk is left with
+--     Serves, Refuses      a connection was served; no store was opened
+--     IsComplete      how a run ends if nothing failed
 use Rattle.std.specs.Prelude.{◌≡◌, ℕ, ◌-◌, ◌^◌, ◌<◌, ◌≤◌, Bool, true, false, List, Option, None, Some, IsSome, ◌⊎◌, if◌then◌else◌}
-use Rattle.std.specs.Option.{ForSome}
 use Rattle.fault_counts.specs.Counts.{Rose, Counted}
-use Rattle.disk_trait.specs.declared.ids.FileId.TheVariants.{Head}
-use Rattle.disk_trait.specs.Files.{Files, SameButOne}
+use Rattle.disk_trait.specs.declared.disk.Disk.{Ghosts as DiskGhosts}
+use Rattle.disk_trait.specs.Files.{Files}
+use Rattle.disk_trait.specs.Images.{Leaves}
 use Rattle.stream_traits.specs.Seen.{LinkSeen}
-use Rattle.first_model.specs.Office.{Office, durable, reopened}
-use Rattle.first_model.specs.Step.{Call, State, Running, Halted}
-use Rattle.first_model.specs.History.{Leads}
-use Rattle.first_store.specs.Kept.{Tells}
-use Rattle.first_store.specs.declared.open.OpenFault.{OpenFault}
-use Rattle.first_store.specs.declared.open.OpenFault.TheVariants as O
+use Rattle.journal_view.specs.Found.{Finds}
+use Rattle.office_model.specs.Office.{Office, Names, reopened}
+use Rattle.office_model.specs.Step.{Call, State, Running, Halted, IsPicked}
+use Rattle.office_model.specs.History.{Leads}
+use Rattle.store_opening.specs.declared.fault.OpenRefusal.{OpenRefusal}
+use Rattle.store_opening.specs.declared.fault.OpenRefusal.TheVariants as O
+use Rattle.store_opening.specs.Begins.{MayLeave}
+use Rattle.store_opening.specs.Opens.{IsOf, HasLast, Left}
+use Rattle.store_opening.specs.Recovers.{SaysWhy}
+use Rattle.store_opening.specs.Reopens.{first_of, second_of}
+use Rattle.office_store.specs.Moves.{MayRecoverIn}
+use Rattle.request_events.specs.declared.defaults.Defaults.{Defaults}
 use Rattle.browse_http.specs.declared.end.End.{End}
 use Rattle.browse_http.specs.declared.end.End.TheVariants.{Ended, Truncated, BadRequest, LinkFault, Memory}
 use Rattle.browse_http.specs.Talk.{ServesLink}
 use Rattle.admin_cli.specs.declared.note.Note.{Note}
-use Rattle.admin_cli.specs.declared.note.Note.TheVariants.{Nothing, InputEnded, NotUnderstood, Usage, LinkFailed, DiskFailed, Foreign, NoMemory}
+use Rattle.admin_cli.specs.declared.note.Note.TheVariants.{Nothing, InputEnded, NotUnderstood, Usage, LinkFailed, DiskFailed, Foreign, EpochsSpent, NoMemory}
 
 -- the status of a run, by what it says as it ends
 abbrev pub status_of : Note → ℕ
@@ -26,6 +36,7 @@ status_of Usage = 2
 status_of LinkFailed = 3
 status_of DiskFailed = 4
 status_of (Foreign file) = 5
+status_of EpochsSpent = 5
 status_of NoMemory = 6
 
 -- what a run says that served its connection: want of memory first, then the link's fault, a halted store, and the connection's end
@@ -36,70 +47,79 @@ note_of Ended halted = if halted then DiskFailed else Nothing
 note_of Truncated halted = if halted then DiskFailed else InputEnded
 note_of BadRequest halted = if halted then DiskFailed else NotUnderstood
 
--- the state that a disk is in after its store was closed: it stands for the durable part of an office at work; of a stopped one
--- nothing is said but that its disk's count rose
-abbrev pub IsLeft : {D : Type 0} → (D → Option Files) → (D → ℕ) → D → D → State → (halted : Bool) → Type 0
-IsLeft files faults disk disk' (Running office) halted = (halted ≡ false) × Tells files disk' (durable office)
-IsLeft files faults disk disk' (Halted before next) halted = (halted ≡ true) × Rose (faults disk) (faults disk')
+-- what a run says that opened no store
+abbrev pub note_of_refusal : OpenRefusal → Note
+note_of_refusal (O.Foreign file found) = Foreign file
+note_of_refusal O.EpochsSpent = EpochsSpent
+note_of_refusal O.DiskFault = DiskFailed
+note_of_refusal O.Memory = NoMemory
 
--- the disk's files and its count are as they were
-pub record IsUntouched {D : Type 0} (files : D → Option Files) (faults : D → ℕ) (disk disk' : D) : Type 0 where
-  pub files_same : files disk' ≡ files disk
-  pub count_same : faults disk' ≡ faults disk
+abbrev pub is_halted : State → Bool
+is_halted (Running office names) = false
+is_halted (Halted before next names) = true
 
--- there is one legal history of these calls, from the office that the disk stood for, opened, to the state that the disk is left in
-pub record IsServed {D : Type 0} (files : D → Option Files) (faults : D → ℕ) (disk disk' : D) (calls : List Call) (halted : Bool) (office : Office) : Type 0 where
-  pub opening : ℕ
-  pub since : faults disk ≤ opening
-  pub last : State
-  pub history : Leads (Running (reopened office)) opening calls last (faults disk')
-  pub left : IsLeft files faults disk disk' last halted
+module _ {D : Type 0} (d : DiskGhosts D) (digest_of : List ℕ → List ℕ) where
+  -- whatever a crash of the disk leaves now, it stands for one of two offices
+  abbrev pub StandsForEither : D → Office → Office → Type 0
+  StandsForEither disk = IsOf digest_of (d.files disk) (d.uncertain disk)
 
--- The calls lead from one disk to another: where the first stands for an office, there is one legal history of them from that
--- office, opened, to the state that the second is left in.
-abbrev pub LeadsOnDisk : {D : Type 0} → (D → Option Files) → (D → ℕ) → (halted : Bool) → D → List Call → D → Type 0
-LeadsOnDisk files faults halted disk calls disk' = (office : Office) → Tells files disk office → IsServed files faults disk disk' calls halted office
+  -- There is one legal history of these calls, from one of the two offices that the disk stood for, opened, to a last state. The
+  -- disk handed back stands for the durable part of its office, or for one of its two if it is halted, for which a fault of the
+  -- disk was counted. And a crash at any moment of the run leaves an office as an opening or one of the events may leave it.
+  pub record IsServed (disk disk' : D) (calls : List Call) (halted : Bool) (a b : Office) : Type 0 where
+    pub office : Office
+    pub is_one : IsPicked a b office
+    pub names : Names
+    pub opening : ℕ
+    pub since : d.fault_count disk ≤ opening
+    pub last : State
+    pub history : Leads (Running (reopened office) names) opening calls last (d.fault_count disk')
+    pub left : StandsForEither disk' (first_of last) (second_of last)
+    pub halted_is : halted ≡ is_halted last
+    pub rose : halted ≡ true → Rose (d.fault_count disk) (d.fault_count disk')
+    pub crash : Leaves d.moment d.left_since disk disk' (Finds (λ found.
+        MayLeave digest_of a b found ⊎ MayRecoverIn digest_of (Running (reopened office) names) opening calls found))
 
--- The words name a store, it was opened, and one connection was served: its talk, over calls that lead from the disk that came in to
--- that handed back. The disk's count rose exactly where the store is halted (and the link's, as the talk says, exactly where the
--- link's fault ended it).
-pub record Serves {D : Type 0} (files : D → Option Files) (faults : D → ℕ) (disk disk' : D) (store : Option (List ℕ))
-    (link link' : LinkSeen) (moments moments' : Option (List ℕ)) (note : Note) : Type 0 where
-  pub named : IsSome store
-  pub no_head : ForSome (files disk) (λ all. all Head ≡ None)
-  pub end : End
-  pub halted : Bool
-  pub talk : ServesLink (LeadsOnDisk files faults halted) disk disk' link link' moments moments' end
-  pub counted : Counted (faults disk) (faults disk') (halted ≡ true)
-  pub note_is : note ≡ note_of end halted
+  -- the calls lead from one disk to another, if whatever a crash of the first leaves stands for one of two offices
+  abbrev pub LeadsOnDisk : (halted : Bool) → D → List Call → D → Type 0
+  LeadsOnDisk halted disk calls disk' = (a b : Office) → StandsForEither disk a b → IsServed disk disk' calls halted a b
 
--- Why no store was opened, by the note: the words have no parse, the disk failed, a Head is there, or want of memory. But where the
--- disk failed it is as it was, and there all files but Head are.
-abbrev pub IsCause : {D : Type 0} → (D → Option Files) → (D → ℕ) → D → D → Option (List ℕ) → Note → Type 0
-IsCause files faults disk disk' store Usage = (store ≡ None) × (disk' ≡ disk)
-IsCause files faults disk disk' store DiskFailed = (IsSome store) × Rose (faults disk) (faults disk') × SameButOne Head (files disk) (files disk')
-IsCause files faults disk disk' store (Foreign file) =
-    (IsSome store) × (file ≡ Head) × ForSome (files disk) (λ all. IsSome (all Head)) × IsUntouched files faults disk disk'
-IsCause files faults disk disk' store NoMemory = (IsSome store) × IsUntouched files faults disk disk'
-IsCause files faults disk disk' store _ = ⊥
+  -- the words name a store, it was opened, and one connection was served: its talk, over calls that lead from the disk that came in
+  -- to that handed back
+  pub record Serves (defaults : Defaults) (disk disk' : D) (store : Option (List ℕ)) (link link' : LinkSeen)
+      (moments moments' : Option (List ℕ)) (note : Note) : Type 0 where
+    pub named : IsSome store
+    pub end : End
+    pub halted : Bool
+    pub talk : ServesLink defaults (LeadsOnDisk halted) disk disk' link link' moments moments' end
+    pub later : d.fault_count disk ≤ d.fault_count disk'
+    pub note_is : note ≡ note_of end halted
 
--- no store was opened, nothing happened to the link, and the clock wasn't asked
-pub record Refuses {D : Type 0} (files : D → Option Files) (faults : D → ℕ) (disk disk' : D) (store : Option (List ℕ))
-    (link link' : LinkSeen) (moments moments' : Option (List ℕ)) (note : Note) : Type 0 where
-  pub cause : IsCause files faults disk disk' store note
-  pub untouched : link' ≡ link
-  pub unasked : moments' ≡ moments
+  -- The store was not opened for this reason. A file is named only if it is seen not to be the store's; the disk's count rose exactly
+  -- if it failed; and the disk handed back stands for what it stood for, or, if it failed, for one of the offices as it was or in its
+  -- next epoch; so does what a crash meanwhile leaves.
+  pub record IsUnopened (disk disk' : D) (refusal : OpenRefusal) : Type 0 where
+    pub why : SaysWhy (d.files disk) (d.files disk') refusal
+    pub counted : Counted (d.fault_count disk) (d.fault_count disk') (refusal ≡ O.DiskFault)
+    pub left : (a b : Office) → StandsForEither disk a b → Left digest_of (d.files disk') (d.uncertain disk') a b refusal
+    pub crash : (a b : Office) → StandsForEither disk a b → Leaves d.moment d.left_since disk disk' (Finds (MayLeave digest_of a b))
 
--- how a run ends whose store wasn't opened
-abbrev pub EndsUnopened : {D : Type 0} → D → OpenFault → D → Note → Type 0
-EndsUnopened disk (O.Foreign file found) disk' note = (disk' ≡ disk) × (note ≡ Foreign file)
-EndsUnopened disk O.Disk disk' note = (disk' ≡ disk) × (note ≡ DiskFailed)
-EndsUnopened disk O.Memory disk' note = (disk' ≡ disk) × (note ≡ NoMemory)
+  -- why no store was opened: the words name none, and the disk was left alone; or the opening was refused
+  abbrev pub IsCause : D → D → Option (List ℕ) → Note → Type 0
+  IsCause disk disk' None note = (note ≡ Usage) × (disk' ≡ disk)
+  IsCause disk disk' (Some store) note = (refusal : OpenRefusal) × (note ≡ note_of_refusal refusal) × IsUnopened disk disk' refusal
 
--- Where the words have a parse, the disk has no Head, and neither count rose (nor stands at its type's end), the run ended with 0,
--- with 1, or for want of memory.
-abbrev pub IsComplete : {D : Type 0} → (D → Option Files) → (D → ℕ) → D → D → Option (List ℕ) → (linked linked' : ℕ) → Note → Type 0
-IsComplete files faults disk disk' store linked linked' note =
-    (all : Files) → files disk ≡ Some all → all Head ≡ None → IsSome store
-    → faults disk < 2 ^ 64 - 1 → faults disk' ≡ faults disk → linked < 2 ^ 64 - 1 → linked' ≡ linked
-    → (status_of note ≡ 0) ⊎ ((status_of note ≡ 1) ⊎ (status_of note ≡ 6))
+  -- no store was opened, nothing happened to the link, and the clock wasn't asked
+  pub record Refuses (disk disk' : D) (store : Option (List ℕ)) (link link' : LinkSeen) (moments moments' : Option (List ℕ))
+      (note : Note) : Type 0 where
+    pub cause : IsCause disk disk' store note
+    pub untouched : link' ≡ link
+    pub unasked : moments' ≡ moments
+
+  -- If the words name a store, the disk stands for an office, whatever a crash leaves, and neither count rose (nor stands at its type's
+  -- end), the run ended with 0, with 1, for want of memory, or because the office had its last epoch.
+  abbrev pub IsComplete : D → D → Option (List ℕ) → (linked linked' : ℕ) → Note → Type 0
+  IsComplete disk disk' store linked linked' note =
+      (a b : Office) → StandsForEither disk a b → IsSome store
+      → d.fault_count disk < 2 ^ 64 - 1 → d.fault_count disk' ≡ d.fault_count disk → linked < 2 ^ 64 - 1 → linked' ≡ linked
+      → (status_of note ≡ 0) ⊎ ((status_of note ≡ 1) ⊎ ((status_of note ≡ 6) ⊎ ((note ≡ EpochsSpent) × HasLast a b)))

@@ -19,6 +19,8 @@ pub enum Note {
     DiskFailed,
     /// This file isn't one of the store's.
     Foreign(FileId),
+    /// The store was opened as often as it can be.
+    EpochsSpent,
     /// There was no memory.
     NoMemory,
 }
@@ -38,7 +40,7 @@ impl Note {
             Note::Usage => 2,
             Note::LinkFailed => 3,
             Note::DiskFailed => 4,
-            Note::Foreign(_) => 5,
+            Note::Foreign(_) | Note::EpochsSpent => 5,
             Note::NoMemory => 6,
         }
     }
@@ -54,6 +56,7 @@ impl fmt::Display for Note {
             Note::LinkFailed => write!(f, "link failed"),
             Note::DiskFailed => write!(f, "disk failed"),
             Note::Foreign(file) => write!(f, "foreign {file}"),
+            Note::EpochsSpent => write!(f, "epochs spent"),
             Note::NoMemory => write!(f, "no memory"),
         }
     }

@@ -2,13 +2,15 @@ ghost use Rattle.std.specs.Prelude.{◌≡◌, ◌⊎◌, map};
 ghost use Rattle.std.specs.String.{string_bytes};
 ghost use Rattle.stream_traits.specs.Seen.{seen_of};
 ghost use Rattle.admin_cli.specs.Command.{store_named};
-ghost use Rattle.admin_cli.specs.Run.{note_of, Serves, Refuses, EndsUnopened, IsComplete};
+ghost use Rattle.admin_cli.specs.Run.{note_of, note_of_refusal, Serves, Refuses, IsComplete};
 
 use crate::note::Note;
 use crate::words::has_parse;
 use browse_http::{End, Served, serve_connection};
 use disk_trait::Disk;
-use first_store::{DirectPort, OpenFault, OpenRefused, Store};
+use office_store::{DirectPort, OpenRefusal, Store};
+use pool_name::Namer;
+use request_events::Defaults;
 use std::alloc::Global;
 use stream_traits::{Clock, Faults, Link, OpenGate};
 
@@ -34,36 +36,55 @@ fn note_of(end: End, halted: bool) -> Note
     }
 }
 
-/// Does what the words ask. The first word is the program's name; `pipe --store DIR` serves one
-/// connection over the link from the store on the disk.
-pub fn run<D: Disk, C: Clock, L: Link>(
-    alloc: Global,
-    words: &[String],
-    disk: D,
-    clock: &mut C,
-    link: L,
-) -> Done<D, L>
-    ensures headline { Serves D.files D.fault_count disk result.disk (store_named (map string_bytes words.now))
-        (seen_of ⟦<L as Faults>⟧ link) (seen_of ⟦<L as Faults>⟧ result.link) (C.moments clock.old) (C.moments clock.new) result.note
-        ⊎ Refuses D.files D.fault_count disk result.disk (store_named (map string_bytes words.now))
-        (seen_of ⟦<L as Faults>⟧ link) (seen_of ⟦<L as Faults>⟧ result.link) (C.moments clock.old) (C.moments clock.new) result.note }
-    ensures complete { IsComplete D.files D.fault_count disk result.disk (store_named (map string_bytes words.now))
-        (L.faults link) (L.faults result.link) result.note }
+/// What is said of a run whose store wasn't opened.
+fn note_of_refusal(refusal: &OpenRefusal) -> Note
+    ensures { result ≡ note_of_refusal refusal.now }
 {
-    serve_pipe(alloc, words, disk, clock, link)
+    match refusal {
+        OpenRefusal::Foreign { file, found: _ } => Note::Foreign(*file),
+        OpenRefusal::EpochsSpent => Note::EpochsSpent,
+        OpenRefusal::DiskFault => Note::DiskFailed,
+        OpenRefusal::Memory => Note::NoMemory,
+    }
 }
 
-/// Serves one connection over the link from the store on the disk, where the words ask for it.
-fn serve_pipe<D: Disk, C: Clock, L: Link>(
+/// Does what the words ask. The first word is the program's name; `pipe --store DIR` serves one connection over the link from
+/// the store on the disk, which a disk without files is, too. A host that is added has the default rules, and what is due is
+/// decided by the default zone's clock.
+///
+/// After each note but `Usage` the disk stands for an office as an event or the opening left it, and can be opened again.
+pub fn run<D: Disk, N: Namer, C: Clock, L: Link>(
     alloc: Global,
     words: &[String],
+    defaults: &Defaults,
     disk: D,
+    namer: N,
     clock: &mut C,
     link: L,
 ) -> Done<D, L>
-    ensures { Serves D.files D.fault_count disk result.disk (store_named (map string_bytes words.now))
+    ensures headline { Serves ⟦<D as Disk>⟧ N.digest_of defaults.now disk result.disk (store_named (map string_bytes words.now))
         (seen_of ⟦<L as Faults>⟧ link) (seen_of ⟦<L as Faults>⟧ result.link) (C.moments clock.old) (C.moments clock.new) result.note
-        ⊎ Refuses D.files D.fault_count disk result.disk (store_named (map string_bytes words.now))
+        ⊎ Refuses ⟦<D as Disk>⟧ N.digest_of disk result.disk (store_named (map string_bytes words.now))
+        (seen_of ⟦<L as Faults>⟧ link) (seen_of ⟦<L as Faults>⟧ result.link) (C.moments clock.old) (C.moments clock.new) result.note }
+    ensures complete { IsComplete ⟦<D as Disk>⟧ N.digest_of disk result.disk (store_named (map string_bytes words.now))
+        (L.faults link) (L.faults result.link) result.note }
+{
+    serve_pipe(alloc, words, defaults, disk, namer, clock, link)
+}
+
+/// Serves one connection over the link from the store on the disk, if the words ask for it.
+fn serve_pipe<D: Disk, N: Namer, C: Clock, L: Link>(
+    alloc: Global,
+    words: &[String],
+    defaults: &Defaults,
+    disk: D,
+    namer: N,
+    clock: &mut C,
+    link: L,
+) -> Done<D, L>
+    ensures { Serves ⟦<D as Disk>⟧ N.digest_of defaults.now disk result.disk (store_named (map string_bytes words.now))
+        (seen_of ⟦<L as Faults>⟧ link) (seen_of ⟦<L as Faults>⟧ result.link) (C.moments clock.old) (C.moments clock.new) result.note
+        ⊎ Refuses ⟦<D as Disk>⟧ N.digest_of disk result.disk (store_named (map string_bytes words.now))
         (seen_of ⟦<L as Faults>⟧ link) (seen_of ⟦<L as Faults>⟧ result.link) (C.moments clock.old) (C.moments clock.new) result.note }
 {
     if !has_parse(words) {
@@ -73,42 +94,27 @@ fn serve_pipe<D: Disk, C: Clock, L: Link>(
             link,
         };
     }
-    let store = match Store::open(alloc, disk) {
+    let store = match Store::open(alloc, disk, namer) {
         Ok(store) => store,
-        Err(refused) => return not_opened(refused, link),
+        Err((disk, refusal)) => {
+            let note = note_of_refusal(&refusal);
+            return Done { note, disk, link };
+        }
     };
     let mut port = DirectPort::new(store);
-    let Served { end, link } = serve_connection(alloc, &mut port, link, clock, &mut OpenGate);
+    let Served { end, link } = serve_connection(
+        alloc,
+        &mut port,
+        link,
+        clock,
+        &mut OpenGate,
+        defaults,
+    );
     let store = port.into_store();
-    let halted = store.halted();
+    let halted = store.is_halted();
     Done {
         note: note_of(end, halted),
         disk: store.close(),
         link,
-    }
-}
-
-/// The end of a run whose store wasn't opened.
-fn not_opened<D: Disk, L: Link>(refused: OpenRefused<D>, link: L) -> Done<D, L>
-    ensures ends { EndsUnopened refused.disk refused.fault result.disk result.note }
-    ensures link { result.link ≡ link }
-{
-    let OpenRefused { disk, fault } = refused;
-    match fault {
-        OpenFault::Foreign { file, found: _ } => Done {
-            note: Note::Foreign(file),
-            disk,
-            link,
-        },
-        OpenFault::Disk => Done {
-            note: Note::DiskFailed,
-            disk,
-            link,
-        },
-        OpenFault::Memory => Done {
-            note: Note::NoMemory,
-            disk,
-            link,
-        },
     }
 }

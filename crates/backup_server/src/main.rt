@@ -14,9 +14,14 @@ use crate::standard_streams::StandardStreams;
 use crate::store_folder::lock_folder;
 use crate::system_clock::SystemClock;
 use admin_cli::{Done, LineFault, Note, parse, run};
+use backup_rules::Rules;
+use pool_name::Md5Namer;
+use request_events::Defaults;
+use std::alloc::AllocError;
 use std::io::{ErrorKind, Stdin, Stdout};
 use std::process::ExitCode;
 use std::{env, fmt, io};
+use wake_schedule::Zone;
 
 /// The status where the store's folder or the standard streams can't be had.
 const NOT_MADE: u8 = 8;
@@ -82,9 +87,24 @@ fn serve_alone(
     }
 }
 
+/// What a server adds to requests that has no settings file: the default rules, and the zone UTC.
+fn defaults(rt: &HostRuntime) -> Result<Defaults, AllocError> {
+    match Zone::read("UTC") {
+        Ok(zone) => Ok(Defaults {
+            rules: Rules::defaults(rt.alloc())?,
+            zone,
+        }),
+        Err(_) => Err(AllocError),
+    }
+}
+
 /// Does what the words ask, over the standard streams and the system's clock, and gives the status.
 /// What was given to the link goes out before it returns.
 fn serve(rt: &HostRuntime, words: &[String], folder: &str, disk: FolderDisk<HostRuntime>) -> u8 {
+    let defaults = match defaults(rt) {
+        Ok(defaults) => defaults,
+        Err(_) => return end(rt, Note::NoMemory),
+    };
     let link = match link_of(rt) {
         Ok(link) => link,
         Err(error) => return not_made(
@@ -98,7 +118,15 @@ fn serve(rt: &HostRuntime, words: &[String], folder: &str, disk: FolderDisk<Host
         note,
         disk,
         link: _,
-    } = run(rt.alloc(), words, disk, &mut clock, link);
+    } = run(
+        rt.alloc(),
+        words,
+        &defaults,
+        disk,
+        Md5Namer,
+        &mut clock,
+        link,
+    );
     let status = end(rt, note);
     explain(rt, folder, note, &disk);
     status

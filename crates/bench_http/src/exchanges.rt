@@ -3,10 +3,14 @@
 use crate::fault::Fault;
 use crate::input::{copies, put_of};
 use crate::report::Report;
+use backup_rules::Rules;
 use browse_http::{End, Served, serve_connection};
-use first_model::PlainOffice;
+use pool_name::Md5Namer;
+use request_events::Defaults;
 use std::alloc::{AllocError, Global};
 use stream_traits::{FixedClock, MemoryLink, Moment, OpenGate};
+use tree_office::TreeOffice;
+use wake_schedule::Zone;
 
 /// The bytes of each file.
 const FILE: u32 = 1000;
@@ -30,10 +34,33 @@ fn link_over(alloc: Global, input: Vec<u8>, responses: u32) -> Result<MemoryLink
     MemoryLink::new(alloc, input, MOST * responses as usize, Vec::new(alloc))
 }
 
+/// What is added to requests: the default rules, and the zone UTC.
+fn defaults(alloc: Global) -> Result<Defaults, AllocError> {
+    match Zone::read("UTC") {
+        Ok(zone) => Ok(Defaults {
+            rules: Rules::defaults(alloc)?,
+            zone,
+        }),
+        Err(_) => Err(AllocError),
+    }
+}
+
 /// Serves an input from an office, and gives the link back.
-fn serve(alloc: Global, office: &mut PlainOffice, link: MemoryLink) -> Result<MemoryLink, Fault> {
+fn serve(
+    alloc: Global,
+    office: &mut TreeOffice<Md5Namer>,
+    link: MemoryLink,
+) -> Result<MemoryLink, Fault> {
     let mut clock = FixedClock::new(Moment::first());
-    let Served { end, link } = serve_connection(alloc, office, link, &mut clock, &mut OpenGate);
+    let defaults = defaults(alloc)?;
+    let Served { end, link } = serve_connection(
+        alloc,
+        office,
+        link,
+        &mut clock,
+        &mut OpenGate,
+        &defaults,
+    );
     match end {
         End::Ended => Ok(link),
         end => Err(Fault::Connection(end)),
@@ -43,7 +70,7 @@ fn serve(alloc: Global, office: &mut PlainOffice, link: MemoryLink) -> Result<Me
 /// Serves an input of `count` requests of one kind, and says how long it took.
 fn measure_input(
     report: &Report,
-    office: &mut PlainOffice,
+    office: &mut TreeOffice<Md5Namer>,
     what: &str,
     input: Vec<u8>,
     count: u32,
@@ -65,7 +92,7 @@ fn measure_input(
 /// Measures puts of a small file, and reads of it.
 pub fn measure(report: &Report, count: u32) -> Result<(), Fault> {
     let alloc = report.alloc();
-    let mut office = PlainOffice::new(alloc);
+    let mut office = TreeOffice::new(alloc, Md5Namer);
     let put = put_of(alloc, FILE)?;
     let mut puts = OPEN.to_vec(alloc)?;
     puts.extend_from_slice(copies(alloc, put.as_slice(), count)?.as_slice())?;

@@ -1,6 +1,6 @@
 -- How the steps of a connection make the whole of it.
 use Rattle.std.proofs.Common.{◌≡◌, ℕ, ◌+◌, ◌<◌, ◌≤◌, ◌==◌, Bool, true, false, ◌||◌, not, List, [], ◌∷◌, ◌++◌, length, take, Option, Some, None, Result, Ok, Err, refl, sym, ap, ◌∙◌, subst, inl, inr, suc, append_assoc, append-nil, length-append, arith}
-use Rattle.std.specs.Prelude.{◌⊎◌}
+use Rattle.std.specs.Prelude.{◌⊎◌, IfOk}
 use Rattle.std.specs.Option.{ForSome}
 use Rattle.std.proofs.Math.Seq.{take-length, take-append-add}
 use Rattle.std.proofs.lemmas.List.{take-append-le}
@@ -10,25 +10,33 @@ use Rattle.stream_traits.specs.Seen.{LinkSeen}
 use Rattle.stream_traits.specs.Told.{before, behind, IsShort, TookFront}
 use Rattle.stream_traits.specs.ToldLaws.{behind_nil, behind_append, before_nil, before_append}
 use Rattle.stream_traits.specs.Moments.{first_moment, after_reading}
-use Rattle.first_model.specs.declared.event.Event.{Event}
-use Rattle.first_model.specs.Step.{Reply, Call}
+use Rattle.office_model.specs.declared.event.Event.{Event}
+use Rattle.office_model.specs.Meaning.{Reply}
+use Rattle.office_model.specs.Step.{Call, kind_of, meaning_of, IsAnswerTo}
+use Rattle.office_model.specs.declared.event.Event.TheVariants as E
+use Rattle.office_model.specs.declared.answer.Answer.{Answer}
+use Rattle.office_model.specs.declared.answer.Answer.TheVariants as A
+use Rattle.office_model.specs.declared.answer.AnswerKind.{AnswerKind}
+use Rattle.office_model.specs.declared.answer.AnswerKind.TheVariants as K
+use Rattle.reply_bodies.specs.Replies.{takes_memory}
 use Rattle.http_heads.specs.declared.refusal.HeadRefusal.{HeadRefusal}
 use Rattle.http_heads.specs.Heads.{HeadParts}
 use Rattle.http_heads.specs.Fronts.{Bad as IsBad, Ended as IsEnded, Truncated as IsTruncated}
 use Rattle.http_wire.specs.Bodies.{body_length, CutsBody}
 use Rattle.http_wire.specs.HeadReads.{TakesHead, ComesTo, continue_due, FailsToAsk}
 use Rattle.http_wire.specs.Message.{no_memory_response, continue_response}
+use Rattle.request_events.specs.declared.defaults.Defaults.{Defaults}
 use Rattle.request_events.specs.declared.refusal.RequestFault.{RequestFault}
 use Rattle.request_events.specs.declared.refusal.RequestFault.TheVariants.{Refused as RefusedAs, Memory as NoMemory}
 use Rattle.request_events.specs.Said.{Says}
 use Rattle.request_events.specs.Events.{event_asked}
 use Rattle.browse_http.specs.declared.end.End.{End}
 use Rattle.browse_http.specs.declared.end.End.TheVariants.{Ended, Truncated, BadRequest, LinkFault, Memory}
-use Rattle.first_model.specs.declared.event.Refusal.TheVariants as R
+use Rattle.office_model.specs.declared.refusal.Refusal.TheVariants as R
 use Rattle.browse_http.specs.Messages.{bad_response, reply_response}
-use Rattle.browse_http.specs.Scripts.{is_memory, lacks_memory, calls_response}
-use Rattle.browse_http.specs.Talk.{Outcome, Refused, Called, Lost, Exchange, IsOutcome, EndsInBody, AreExchanges, Gave, GoOn, AsksFor, MayAsk, requests, said, said_at, response_of, calls_in, calls_of, moments_of, goes_on, is_last, asks_head, has_no_memory, request_limit, final_list, Stops, StopsUncalled, StopsCalled, Converses, ServesLink}
-use Rattle.browse_http.specs.Serving.{ReadsRequest, SaysLast, EndsUncalled, EndsCalled, Responds, IsOf, CarriesOut, CarriesOutLast, GoesOn, EndsAt, SoFar}
+use Rattle.browse_http.specs.Scripts.{is_memory, lacks_memory, only_reads, ReadLast, calls_response}
+use Rattle.browse_http.specs.Talk.{Outcome, Refused, Called, Unsaid, Lost, Exchange, IsOutcome, EndsInBody, AreExchanges, Gave, GoOn, AsksFor, MayAsk, requests, said, said_at, response_of, calls_in, calls_of, moments_of, goes_on, is_last, asks_head, has_no_memory, request_limit, final_list, Stops, StopsUncalled, StopsCalled, Converses, ServesLink}
+use Rattle.browse_http.specs.Serving.{Lacks, ReadsRequest, SaysLast, EndsUncalled, EndsCalled, EndsAnswered, Responds, IsOf, CarriesOut, CarriesOutLast, GoesOn, EndsAt, SoFar}
 
 -- what is told behind these bytes, where the whole is told
 told_after : (front : List ℕ) (left left' : Option (List ℕ)) (input : List ℕ) → left ≡ before front left' → left ≡ Some input
@@ -230,10 +238,10 @@ uncalled_body_memory left left' left'' end_left written asked now written' parts
     (λ input is. inr (asked_for left left' parts takes input is)) (same ∙ asks) last
 
 -- no request was read, so no event was called
-pub EndsAt-uncalled : {P : Type 0} (moves : P → List Call → P → Type 0) → ((p : P) → moves p [] p) → (p : P)
+pub EndsAt-uncalled : (defaults : Defaults) {P : Type 0} (moves : P → List Call → P → Type 0) → ((p : P) → moves p [] p) → (p : P)
     (left left' written written' moments : Option (List ℕ)) (index : ℕ) (end : End) → EndsUncalled left left' written written' end
-    → EndsAt moves p p left left' written written' moments moments index end
-EndsAt-uncalled moves none p left left' written written' moments index end ends = record {
+    → EndsAt defaults moves p p left left' written written' moments moments index end
+EndsAt-uncalled defaults moves none p left left' written written' moments index end ends = record {
   final = None;
   taken = ends.taken;
   left_is = ends.left_is;
@@ -253,34 +261,37 @@ goes_on_where true closes memory e f g = absurd (cc)
 goes_on_where false closes true e f g = absurd (cc)
 goes_on_where false closes false e f g = refl
 
-outcome_of : (parts : HeadParts) (body : List ℕ) (moment : ℕ) (result : Result Event RequestFault) (outcome : Outcome)
-    → Says result (event_asked parts body moment) → IsOf result outcome → IsOutcome (event_asked parts body moment) outcome
-outcome_of parts body moment (Ok event) (Called calls) says is = (event, says, is)
-outcome_of parts body moment (Ok event) (Refused named) says is = absurd is
-outcome_of parts body moment (Ok event) Lost says is = tt
-outcome_of parts body moment (Err (RefusedAs refusal)) (Refused named) says is = says ∙ ap Err (sym is)
-outcome_of parts body moment (Err (RefusedAs refusal)) (Called calls) says is = absurd is
-outcome_of parts body moment (Err (RefusedAs refusal)) Lost says is = tt
-outcome_of parts body moment (Err NoMemory) (Refused named) says is = absurd is
-outcome_of parts body moment (Err NoMemory) (Called calls) says is = absurd is
-outcome_of parts body moment (Err NoMemory) Lost says is = tt
+outcome_of : (defaults : Defaults) (parts : HeadParts) (body : List ℕ) (moment : ℕ) (result : Result Event RequestFault) (outcome : Outcome)
+    → Says result (event_asked parts body moment defaults) → IsOf result outcome → IsOutcome (event_asked parts body moment defaults) outcome
+outcome_of defaults parts body moment (Ok event) (Called calls) says is = (event, says, is)
+outcome_of defaults parts body moment (Ok event) (Refused named) says is = absurd is
+outcome_of defaults parts body moment (Ok event) (Unsaid calls) says is = (event, says, is.0, is.1)
+outcome_of defaults parts body moment (Ok event) Lost says is = tt
+outcome_of defaults parts body moment (Err (RefusedAs refusal)) (Refused named) says is = says ∙ ap Err (sym is)
+outcome_of defaults parts body moment (Err (RefusedAs refusal)) (Called calls) says is = absurd is
+outcome_of defaults parts body moment (Err (RefusedAs refusal)) (Unsaid calls) says is = absurd is
+outcome_of defaults parts body moment (Err (RefusedAs refusal)) Lost says is = tt
+outcome_of defaults parts body moment (Err NoMemory) (Refused named) says is = absurd is
+outcome_of defaults parts body moment (Err NoMemory) (Called calls) says is = absurd is
+outcome_of defaults parts body moment (Err NoMemory) (Unsaid calls) says is = absurd is
+outcome_of defaults parts body moment (Err NoMemory) Lost says is = tt
 
 -- a request that was read, what came of it and its response make an exchange
-pub GoesOn-made : {P : Type 0} (moves : P → List Call → P → Type 0) (old new : P)
+pub GoesOn-made : (defaults : Defaults) {P : Type 0} (moves : P → List Call → P → Type 0) (old new : P)
     (left left' left'' written written' written'' moments moments' : Option (List ℕ)) (index : ℕ)
     (parts : HeadParts) (body : List ℕ) (moment : ℕ) (result : Result Event RequestFault) (closes is_head : Bool)
     → ReadsRequest left left' written written' parts body
-    → Says result (event_asked parts body moment)
+    → Says result (event_asked parts body moment defaults)
     → ForSome moments (λ told. moment ≡ first_moment told) → moments' ≡ after_reading moments
     → closes ≡ (parts.closes || (index + 1 == request_limit)) → is_head ≡ asks_head parts
     → CarriesOut moves old new written' written'' result closes is_head → left'' ≡ left'
-    → GoesOn moves old new left left'' written written'' moments moments' index
-GoesOn-made moves old new left left' left'' written written' written'' moments moments' index parts body moment result closes is_head read says first later is_closes heads carries same =
+    → GoesOn defaults moves old new left left'' written written'' moments moments' index
+GoesOn-made defaults moves old new left left' left'' written written' written'' moments moments' index parts body moment result closes is_head read says first later is_closes heads carries same =
     let x : Exchange = record { head = read.head; parts = parts; body = body; moment = moment; outcome = carries.outcome } in
     let response = carries.responds in
     record {
       x = x;
-      is_exchange = record { head = read.is_head; body = read.size; outcome = outcome_of parts body moment result carries.outcome says carries.is_of };
+      is_exchange = record { head = read.is_head; body = read.size; outcome = outcome_of defaults parts body moment result carries.outcome says carries.is_of };
       moved = carries.moved;
       clock = (first, later);
       goes = goes_on_where (is_last index x) closes (has_no_memory carries.outcome) is_closes response.stays_open response.has_memory;
@@ -292,16 +303,16 @@ GoesOn-made moves old new left left' left'' written written' written'' moments m
     }
 
 -- the same where the connection ended by the response
-pub EndsAt-called : {P : Type 0} (moves : P → List Call → P → Type 0) (old new : P)
+pub EndsAt-called : (defaults : Defaults) {P : Type 0} (moves : P → List Call → P → Type 0) (old new : P)
     (left left' left'' written written' written'' moments moments' : Option (List ℕ)) (index : ℕ) (end : End)
     (parts : HeadParts) (body : List ℕ) (moment : ℕ) (result : Result Event RequestFault) (closes is_head : Bool)
     → ReadsRequest left left' written written' parts body
-    → Says result (event_asked parts body moment)
+    → Says result (event_asked parts body moment defaults)
     → ForSome moments (λ told. moment ≡ first_moment told) → moments' ≡ after_reading moments
     → closes ≡ (parts.closes || (index + 1 == request_limit)) → is_head ≡ asks_head parts
     → CarriesOutLast moves old new written' written'' result closes is_head end → left'' ≡ left'
-    → EndsAt moves old new left left'' written written'' moments moments' index end
-EndsAt-called moves old new left left' left'' written written' written'' moments moments' index end parts body moment result closes is_head read says first later is_closes heads carries same =
+    → EndsAt defaults moves old new left left'' written written'' moments moments' index end
+EndsAt-called defaults moves old new left left' left'' written written' written'' moments moments' index end parts body moment result closes is_head read says first later is_closes heads carries same =
     let x : Exchange = record { head = read.head; parts = parts; body = body; moment = moment; outcome = carries.outcome } in
     let response = carries.ends in
     record {
@@ -310,7 +321,7 @@ EndsAt-called moves old new left left' left'' written written' written'' moments
       left_is = read.reads ∙ ap (before (read.head ++ body)) (sym same)
           ∙ ap (λ bytes. before bytes left'') (sym (append-nil ((read.head ++ body) ++ []) ∙ append-nil (read.head ++ body)));
       quiet = λ e. refl;
-      are = (record { head = read.is_head; body = read.size; outcome = outcome_of parts body moment result carries.outcome says carries.is_of }, tt);
+      are = (record { head = read.is_head; body = read.size; outcome = outcome_of defaults parts body moment result carries.outcome says carries.is_of }, tt);
       moved = subst (λ calls. moves old calls new) (sym (append-nil (calls_in carries.outcome))) carries.moved;
       clock = (first, later);
       word = continue_due parts ++ response.response;
@@ -358,6 +369,105 @@ pub answered : (written written' : Option (List ℕ)) (outcome : Outcome) (close
     → written' ≡ behind written (response_of outcome closes is_head) → closes ≡ false → has_no_memory outcome ≡ false → Responds written written' outcome closes is_head
 answered written written' outcome closes is_head wrote stays memory = record { wrote = wrote; stays_open = stays; has_memory = memory }
 
+-- ---- no memory for a response
+
+-- the answers of this kind take memory
+reads_kind : AnswerKind → Bool
+reads_kind K.Entries = true
+reads_kind K.Entry = true
+reads_kind K.Hosts = true
+reads_kind K.Backups = true
+reads_kind K.Next = true
+reads_kind _ = false
+
+kind_reads : (answer : Answer) → reads_kind (kind_of answer) ≡ takes_memory answer
+unfolding reads_kind
+kind_reads A.Done = refl
+kind_reads (A.Dump name) = refl
+kind_reads (A.Committed number) = refl
+kind_reads (A.Entries entries) = refl
+kind_reads (A.Entry node) = refl
+kind_reads (A.Content bytes) = refl
+kind_reads (A.Restore name) = refl
+kind_reads (A.Next frame) = refl
+kind_reads (A.Expired count) = refl
+kind_reads (A.Contacts good bad) = refl
+kind_reads (A.Due blackout kind) = refl
+kind_reads (A.Cleaned marked unmarked removed) = refl
+kind_reads (A.Stats stats) = refl
+kind_reads (A.Hosts names) = refl
+kind_reads (A.Backups lines next dump) = refl
+kind_reads (A.Reopened epoch) = refl
+
+event_reads : (event : Event) → reads_kind (meaning_of event).kind ≡ only_reads event
+unfolding reads_kind
+event_reads (E.AddHost host rules) = refl
+event_reads (E.SetRules host change) = refl
+event_reads (E.OpenDump host kind now) = refl
+event_reads (E.Put dump path item) = refl
+event_reads (E.Remove dump path) = refl
+event_reads (E.Commit dump now) = refl
+event_reads (E.Abort dump) = refl
+event_reads (E.List host number directory) = refl
+event_reads (E.Lookup host number path) = refl
+event_reads (E.ReadFile host number path) = refl
+event_reads (E.OpenRead host number) = refl
+event_reads (E.ReadNext restore) = refl
+event_reads (E.CloseRead restore) = refl
+event_reads (E.Keep host number on) = refl
+event_reads (E.Delete host number) = refl
+event_reads (E.Expire host now) = refl
+event_reads (E.Contact host good) = refl
+event_reads (E.Due host now local) = refl
+event_reads (E.Clean bucket) = refl
+event_reads E.Sweep = refl
+event_reads E.Stats = refl
+event_reads E.Hosts = refl
+event_reads (E.Backups host) = refl
+event_reads E.Reopen = refl
+
+-- an event whose answer takes memory only reads
+read_last : (event : Event) (reply : Reply) → IfOk reply (IsAnswerTo event) → Lacks reply → ReadLast ((event, reply) ∷ [])
+read_last event (Ok answer) kind lacks = sym (event_reads event) ∙ ap reads_kind (sym kind) ∙ kind_reads answer ∙ lacks
+read_last event (Err refusal) kind lacks = absurd lacks
+
+unsaid_ends : (written written' : Option (List ℕ)) (calls : List Call) (closes is_head : Bool) (end : End)
+    → SaysLast no_memory_response Memory written written' end → EndsCalled written written' (Unsaid calls) closes is_head end
+unsaid_ends written written' calls closes is_head end (inl (is, wrote)) =
+    subst (λ e. EndsCalled written written' (Unsaid calls) closes is_head e) (sym is)
+    (record { response = no_memory_response; wrote = wrote; stops = (refl, refl) })
+unsaid_ends written written' calls closes is_head end (inr (is, front)) =
+    subst (λ e. EndsCalled written written' (Unsaid calls) closes is_head e) (sym is)
+    (record { response = take front.count no_memory_response; wrote = front.wrote; stops = (front.count, refl) })
+
+-- there was no memory for the response to an answer
+pub unsaid_answered : (written written' : Option (List ℕ)) (event : Event) (reply : Reply) (closes is_head : Bool) (end : End)
+    → IfOk reply (IsAnswerTo event) → Lacks reply → SaysLast no_memory_response Memory written written' end
+    → EndsAnswered written written' event reply closes is_head end
+unsaid_answered written written' event reply closes is_head end kind lacks says = record {
+  outcome = Unsaid ((event, reply) ∷ []);
+  is_of = ((refl, refl), read_last event reply kind lacks);
+  calls_are = refl;
+  ends = unsaid_ends written written' ((event, reply) ∷ []) closes is_head end says;
+}
+
+-- the response went out, or the link failed
+pub called_answered : (written written' : Option (List ℕ)) (event : Event) (reply : Reply) (closes is_head : Bool) (end : End)
+    → EndsCalled written written' (Called ((event, reply) ∷ [])) closes is_head end → EndsAnswered written written' event reply closes is_head end
+called_answered written written' event reply closes is_head end ends =
+    record { outcome = Called ((event, reply) ∷ []); is_of = (refl, refl); calls_are = refl; ends = ends }
+
+pub carried_last : {P : Type 0} (moves : P → List Call → P → Type 0) (old new : P) (written written' : Option (List ℕ))
+    (judged : Result Event RequestFault) (event : Event) (reply : Reply) (closes is_head : Bool) (end : End) → judged ≡ Ok event
+    → moves old ((event, reply) ∷ []) new → EndsAnswered written written' event reply closes is_head end
+    → CarriesOutLast moves old new written written' judged closes is_head end
+carried_last moves old new written written' judged event reply closes is_head end is moved ends = record {
+  outcome = ends.outcome;
+  is_of = subst (λ j. IsOf j ends.outcome) (sym is) ends.is_of;
+  moved = subst (λ calls. moves old calls new) (sym ends.calls_are) moved;
+  ends = ends.ends;
+}
+
 -- ---- exchanges one after the other
 
 requests-append : (xs ys : List Exchange) → requests (xs ++ ys) ≡ requests xs ++ requests ys
@@ -373,9 +483,10 @@ moments_of-append : (xs ys : List Exchange) → moments_of (xs ++ ys) ≡ moment
 moments_of-append [] ys = refl
 moments_of-append (x ∷ xs) ys = ap (λ moments. x.moment ∷ moments) (moments_of-append xs ys)
 
-AreExchanges-append : (xs ys : List Exchange) → AreExchanges xs → AreExchanges ys → AreExchanges (xs ++ ys)
-AreExchanges-append [] ys a b = b
-AreExchanges-append (x ∷ xs) ys a b = (a.0, AreExchanges-append xs ys a.1 b)
+AreExchanges-append : (defaults : Defaults) (xs ys : List Exchange)
+    → AreExchanges defaults xs → AreExchanges defaults ys → AreExchanges defaults (xs ++ ys)
+AreExchanges-append defaults [] ys a b = b
+AreExchanges-append defaults (x ∷ xs) ys a b = (a.0, AreExchanges-append defaults xs ys a.1 b)
 
 no_more : (n : ℕ) → n ≡ n + 0
 no_more n = omega arith
@@ -407,20 +518,20 @@ below_limit : (index : ℕ) → (index + 1 == request_limit) ≡ false → index
 below_limit index e below = grind (arith, nat_tests)
 
 -- one more exchange
-pub SoFar-more : {P : Type 0} (moves : P → List Call → P → Type 0)
+pub SoFar-more : (defaults : Defaults) {P : Type 0} (moves : P → List Call → P → Type 0)
     → ((p q r : P) (xs ys : List Call) → moves p xs q → moves q ys r → moves p (xs ++ ys) r)
     → (old now new : P) (left left' left'' written written' written'' moments moments' moments'' : Option (List ℕ)) (count : ℕ)
-    → SoFar moves old now left left' written written' moments moments' count
-    → GoesOn moves now new left' left'' written' written'' moments' moments'' count
-    → SoFar moves old new left left'' written written'' moments moments'' (count + 1)
-SoFar-more moves joined old now new left left' left'' written written' written'' moments moments' moments'' count so_far goes =
+    → SoFar defaults moves old now left left' written written' moments moments' count
+    → GoesOn defaults moves now new left' left'' written' written'' moments' moments'' count
+    → SoFar defaults moves old new left left'' written written'' moments moments'' (count + 1)
+SoFar-more defaults moves joined old now new left left' left'' written written' written'' moments moments' moments'' count so_far goes =
     let xs = so_far.exchanges in
     let x = goes.x in
     let bytes : List ℕ = x.head ++ x.body in
     let at_end : 0 + length xs ≡ count = omega (arith, so_far.count_is) in
     record {
       exchanges = xs ++ x ∷ [];
-      are = AreExchanges-append xs (x ∷ []) so_far.are (goes.is_exchange, tt);
+      are = AreExchanges-append defaults xs (x ∷ []) so_far.are (goes.is_exchange, tt);
       count_is = omega (arith, length-append xs (x ∷ []), so_far.count_is);
       few = below_limit count (not_limit x.parts.closes (count + 1 == request_limit) (has_no_memory x.outcome) goes.goes) so_far.few;
       moved = subst (λ calls. moves old calls new) (sym (calls_of-append xs (x ∷ []) ∙ ap (λ calls. calls_of xs ++ calls) (append-nil (calls_in x.outcome))))
@@ -437,18 +548,18 @@ SoFar-more moves joined old now new left left' left'' written written' written''
     }
 
 -- the connection ends behind the exchanges so far
-pub Converses-ends : {P : Type 0} (moves : P → List Call → P → Type 0)
+pub Converses-ends : (defaults : Defaults) {P : Type 0} (moves : P → List Call → P → Type 0)
     → ((p q r : P) (xs ys : List Call) → moves p xs q → moves q ys r → moves p (xs ++ ys) r)
     → (old now new : P) (left left' left'' written written' written'' moments moments' moments'' : Option (List ℕ)) (count : ℕ) (end : End)
-    → SoFar moves old now left left' written written' moments moments' count
-    → EndsAt moves now new left' left'' written' written'' moments' moments'' count end
-    → Converses moves old new left left'' written written'' moments moments'' end
-Converses-ends moves joined old now new left left' left'' written written' written'' moments moments' moments'' count end so_far ends =
+    → SoFar defaults moves old now left left' written written' moments moments' count
+    → EndsAt defaults moves now new left' left'' written' written'' moments' moments'' count end
+    → Converses defaults moves old new left left'' written written'' moments moments'' end
+Converses-ends defaults moves joined old now new left left' left'' written written' written'' moments moments' moments'' count end so_far ends =
     let xs = so_far.exchanges in
     let last = final_list ends.final in
     record {
       exchanges = xs ++ last;
-      are = AreExchanges-append xs last so_far.are ends.are;
+      are = AreExchanges-append defaults xs last so_far.are ends.are;
       moved = subst (λ calls. moves old calls new) (sym (calls_of-append xs last))
           (joined old now new (calls_of xs) (calls_of last) so_far.moved ends.moved);
       clock = subst (λ ms. Gave moments ms moments'') (sym (moments_of-append xs last))
@@ -508,6 +619,7 @@ memory_said (Called calls) closes is_head e = memory_calls calls closes is_head 
     memory_calls [] closes is_head e = absurd cc
     memory_calls (call ∷ []) closes is_head e = memory_response call.0 call.1 closes is_head e
     memory_calls (call ∷ next ∷ calls) closes is_head e = memory_calls (next ∷ calls) closes is_head e
+memory_said (Unsaid calls) closes is_head e = refl
 memory_said Lost closes is_head e = refl
 
 called_unsent : (end : End) (outcome : Outcome) (closes is_head : Bool) (word : List ℕ)
@@ -526,11 +638,11 @@ stops_unsent end rest index (Some x) word (response, e, stops) =
     (response, e, called_unsent end x.outcome (is_last index x) (asks_head x.parts) response stops)
 
 -- what was said couldn't be sent
-pub Converses-unsent : {P : Type 0} (moves : P → List Call → P → Type 0) (old new : P)
+pub Converses-unsent : (defaults : Defaults) {P : Type 0} (moves : P → List Call → P → Type 0) (old new : P)
     (left left' left'' written written' written'' moments moments' : Option (List ℕ)) (end : End)
-    → Converses moves old new left left' written written' moments moments' end → written'' ≡ written' → left'' ≡ left'
-    → Converses moves old new left left'' written written'' moments moments' LinkFault
-Converses-unsent moves old new left left' left'' written written' written'' moments moments' end c same still = record {
+    → Converses defaults moves old new left left' written written' moments moments' end → written'' ≡ written' → left'' ≡ left'
+    → Converses defaults moves old new left left'' written written'' moments moments' LinkFault
+Converses-unsent defaults moves old new left left' left'' written written' written'' moments moments' end c same still = record {
   exchanges = c.exchanges;
   are = c.are;
   moved = c.moved;
@@ -557,11 +669,11 @@ Converses-unsent moves old new left left' left'' written written' written'' mome
 }
 
 -- there was no memory before a request was read
-pub Converses-lost : {P : Type 0} (moves : P → List Call → P → Type 0) → ((p : P) → moves p [] p)
+pub Converses-lost : (defaults : Defaults) {P : Type 0} (moves : P → List Call → P → Type 0) → ((p : P) → moves p [] p)
     → (p : P) (left left' written written' moments : Option (List ℕ)) (end : End) → left' ≡ left
     → SaysLast no_memory_response Memory written written' end
-    → Converses moves p p left left' written written' moments moments end
-Converses-lost moves none p left left' written written' moments end still last =
+    → Converses defaults moves p p left left' written written' moments moments end
+Converses-lost defaults moves none p left left' written written' moments end still last =
     let ends = uncalled_head_memory left left left' written written written' end refl refl still last in
     record {
       exchanges = [];
@@ -589,18 +701,18 @@ Converses-lost moves none p left left' written written' moments end still last =
     }
 
 -- a connection over a link, from that over its wire
-pub ServesLink-made : {P : Type 0} (moves : P → List Call → P → Type 0) (old new : P) (link link' : LinkSeen)
+pub ServesLink-made : (defaults : Defaults) {P : Type 0} (moves : P → List Call → P → Type 0) (old new : P) (link link' : LinkSeen)
     (left unread written written' sent' moments moments' : Option (List ℕ)) (faults faults' : ℕ) (ahead : List ℕ) (end : End)
-    → Converses moves old new left unread written written' moments moments' end
+    → Converses defaults moves old new left unread written written' moments moments' end
     → left ≡ link.left → written ≡ link.written → link'.written ≡ written' → link'.sent ≡ sent' → faults ≡ link.faults → link'.faults ≡ faults'
     → unread ≡ before ahead link'.left → length ahead ≤ 49152
     → ((end ≡ LinkFault → ⊥) → sent' ≡ written') → Counted faults faults' (end ≡ LinkFault)
-    → ServesLink moves old new link link' moments moments' end
-ServesLink-made moves old new link link' left unread written written' sent' moments moments' faults faults' ahead end talk at_left at_written is_written is_sent at_faults is_faults ahead_is few sent counted = record {
+    → ServesLink defaults moves old new link link' moments moments' end
+ServesLink-made defaults moves old new link link' left unread written written' sent' moments moments' faults faults' ahead end talk at_left at_written is_written is_sent at_faults is_faults ahead_is few sent counted = record {
   unread = unread;
-  talk = subst (λ l. Converses moves old new l unread link.written link'.written moments moments' end) at_left
-      (subst (λ w. Converses moves old new left unread w link'.written moments moments' end) at_written
-      (subst (λ w. Converses moves old new left unread written w moments moments' end) (sym is_written) talk));
+  talk = subst (λ l. Converses defaults moves old new l unread link.written link'.written moments moments' end) at_left
+      (subst (λ w. Converses defaults moves old new left unread w link'.written moments moments' end) at_written
+      (subst (λ w. Converses defaults moves old new left unread written w moments moments' end) (sym is_written) talk));
   ahead = ahead;
   ahead_is = ahead_is;
   few = few;

@@ -12,18 +12,19 @@ use Rattle.http_query.specs.declared.keys.QueryRule.{QueryRule}
 use Rattle.http_query.specs.declared.keys.QueryRule.TheVariants as Q
 use Rattle.http_routes.specs.Actions.{allow_of}
 use Rattle.request_events.specs.declared.refusal.RequestRefusal.{RequestRefusal}
-use Rattle.request_events.specs.declared.refusal.RequestRefusal.TheVariants.{NoRoute, NoMethod, BadName, BadNumber, BadQuery, BadPath as RefusedPath, NoLength}
-use Rattle.first_model.specs.declared.event.Event.{Event}
-use Rattle.first_model.specs.declared.event.Event.TheVariants as E
-use Rattle.first_model.specs.declared.event.Answer.{Answer}
-use Rattle.first_model.specs.declared.event.Answer.TheVariants as A
-use Rattle.first_model.specs.declared.event.BrokenRule.{BrokenRule}
-use Rattle.first_model.specs.declared.event.BrokenRule.TheVariants as B
-use Rattle.first_model.specs.declared.event.Refusal.{Refusal}
-use Rattle.first_model.specs.declared.event.Refusal.TheVariants as R
-use Rattle.first_model.specs.Step.{Reply}
-use Rattle.reply_bodies.specs.Objects.{object_text}
-use Rattle.reply_bodies.specs.Replies.{short_fields, refused, refusal_fields}
+use Rattle.request_events.specs.declared.refusal.RequestRefusal.TheVariants.{NoRoute, NoMethod, BadName, BadNumber, BadQuery, BadPath as RefusedPath, BadTarget, NoLength}
+use Rattle.office_model.specs.declared.event.Event.{Event}
+use Rattle.office_model.specs.declared.event.Event.TheVariants as E
+use Rattle.office_model.specs.declared.answer.Answer.{Answer}
+use Rattle.office_model.specs.declared.answer.Answer.TheVariants as A
+use Rattle.office_model.specs.declared.refusal.BrokenRule.{BrokenRule}
+use Rattle.office_model.specs.declared.refusal.BrokenRule.TheVariants as B
+use Rattle.office_model.specs.declared.refusal.Refusal.{Refusal}
+use Rattle.office_model.specs.declared.refusal.Refusal.TheVariants as R
+use Rattle.office_model.specs.Meaning.{Reply}
+use Rattle.reply_bodies.specs.Frames.{next_bytes}
+use Rattle.reply_bodies.specs.Objects.{json_text, object_text}
+use Rattle.reply_bodies.specs.Replies.{short_fields, long_data, refused, refusal_fields}
 
 -- ---- names
 
@@ -52,6 +53,7 @@ request_refusal_name BadName = codes "BadName"
 request_refusal_name BadNumber = codes "BadNumber"
 request_refusal_name (BadQuery rule) = query_rule_name rule
 request_refusal_name (RefusedPath rule) = path_rule_name rule
+request_refusal_name BadTarget = codes "BadTarget"
 request_refusal_name NoLength = codes "NoLength"
 
 -- ---- statuses
@@ -63,6 +65,7 @@ request_refusal_status BadName = 400
 request_refusal_status BadNumber = 400
 request_refusal_status (BadQuery rule) = 400
 request_refusal_status (RefusedPath rule) = 400
+request_refusal_status BadTarget = 400
 request_refusal_status NoLength = 411
 
 abbrev pub put_rule_status : PutRule → ℕ
@@ -80,8 +83,12 @@ rule_status B.NumbersSpent = 422
 rule_status B.NoSession = 404
 rule_status (B.Put rule) = put_rule_status rule
 rule_status B.NoBackup = 404
+rule_status B.ChainFull = 422
 rule_status B.NoPath = 404
 rule_status B.NotAFile = 409
+rule_status B.NotADirectory = 409
+rule_status B.Kept = 409
+rule_status B.BadBucket = 422
 
 abbrev pub refusal_status : Refusal → ℕ
 refusal_status (R.Broken rule) = rule_status rule
@@ -92,17 +99,15 @@ refusal_status R.Memory = 507
 
 -- an event that was done and gives nothing: 201 if it made something
 abbrev pub done_status : Event → ℕ
-done_status (E.AddHost host) = 201
-done_status (E.OpenDump host kind now) = 200
-done_status (E.Put dump path bytes) = 200
-done_status (E.Commit dump now) = 200
-done_status (E.ReadFile host number path) = 200
+done_status (E.AddHost host rules) = 201
+done_status _ = 200
 
 abbrev pub answer_status : Event → Answer → ℕ
 answer_status event A.Done = done_status event
 answer_status event (A.Dump name) = 201
 answer_status event (A.Committed number) = 201
-answer_status event (A.Content bytes) = 200
+answer_status event (A.Restore name) = 201
+answer_status event _ = 200
 
 -- ---- responses
 
@@ -114,6 +119,7 @@ allowed_by BadName = None
 allowed_by BadNumber = None
 allowed_by (BadQuery rule) = None
 allowed_by (RefusedPath rule) = None
+allowed_by BadTarget = None
 allowed_by NoLength = None
 
 -- a message of JSON
@@ -149,12 +155,17 @@ refused_response refusal closes is_head =
     response_bytes (json_message (request_refusal_status refusal) (object_text (refused (request_refusal_name refusal)))
     (allowed_by refusal) closes is_head)
 
--- the message of an answer: the bytes of a file, or a short object
+-- the JSON of an answer, short or longer
+abbrev pub answer_json : Event → Answer → List ℕ
+answer_json event answer =
+    unwrap_or (option_map (λ fields. object_text fields) (short_fields event answer))
+    (unwrap_or (option_map (λ value. json_text value) (long_data answer)) [])
+
+-- the message of an answer: the bytes of a file or of a frame, or JSON
 abbrev pub answer_message : Event → Answer → Bool → Bool → Message
 answer_message event (A.Content bytes) closes is_head = bytes_message bytes closes is_head
-answer_message event answer closes is_head =
-    json_message (answer_status event answer) (unwrap_or (option_map (λ fields. object_text fields) (short_fields event answer)) [])
-    None closes is_head
+answer_message event (A.Next frame) closes is_head = bytes_message (next_bytes frame) closes is_head
+answer_message event answer closes is_head = json_message (answer_status event answer) (answer_json event answer) None closes is_head
 
 -- the response to a reply
 unfoldable pub reply_response : Event → Reply → Bool → Bool → List ℕ

@@ -1,8 +1,11 @@
 -- What the steps of a connection give: a request, an exchange, the exchanges so far.
 use Rattle.std.specs.Prelude.{◌≡◌, ℕ, ◌<◌, Bool, true, false, List, [], ◌∷◌, ◌++◌, length, Option, Some, ◌⊎◌, Result, Ok, Err}
 use Rattle.stream_traits.specs.Told.{before, behind, WroteFront}
-use Rattle.first_model.specs.Step.{Call}
-use Rattle.first_model.specs.declared.event.Event.{Event}
+use Rattle.office_model.specs.Meaning.{Reply}
+use Rattle.office_model.specs.Step.{Call}
+use Rattle.reply_bodies.specs.Replies.{takes_memory}
+use Rattle.office_model.specs.declared.event.Event.{Event}
+use Rattle.request_events.specs.declared.defaults.Defaults.{Defaults}
 use Rattle.request_events.specs.declared.refusal.RequestFault.{RequestFault}
 use Rattle.request_events.specs.declared.refusal.RequestFault.TheVariants.{Refused as RefusedAs, Memory as NoMemory}
 use Rattle.http_heads.specs.Heads.{HeadParts}
@@ -10,8 +13,8 @@ use Rattle.http_wire.specs.Bodies.{body_length}
 use Rattle.http_wire.specs.HeadReads.{continue_due}
 use Rattle.browse_http.specs.declared.end.End.{End}
 use Rattle.browse_http.specs.declared.end.End.TheVariants.{LinkFault}
-use Rattle.browse_http.specs.Scripts.{one_call, Follows}
-use Rattle.browse_http.specs.Talk.{Outcome, Refused, Called, Lost, Exchange, IsHead, IsExchange, AreExchanges, Gave, GoOn, requests, said, said_at, calls_in, calls_of, moments_of, goes_on, has_no_memory, response_of, request_limit, final_list, takes_nothing, Stops, StopsUncalled, StopsCalled}
+use Rattle.browse_http.specs.Scripts.{one_call, Follows, ReadLast}
+use Rattle.browse_http.specs.Talk.{Outcome, Refused, Called, Unsaid, Lost, Exchange, IsHead, IsExchange, AreExchanges, Gave, GoOn, requests, said, said_at, calls_in, calls_of, moments_of, goes_on, has_no_memory, response_of, request_limit, final_list, takes_nothing, Stops, StopsUncalled, StopsCalled}
 
 -- a request was read whole, its client asked for the body if it waits for that
 pub record ReadsRequest (left left' written written' : Option (List ℕ)) (parts : HeadParts) (body : List ℕ) : Type 0 where
@@ -48,10 +51,10 @@ pub record Responds (written written' : Option (List ℕ)) (outcome : Outcome) (
   pub has_memory : has_no_memory outcome ≡ false
 
 -- one exchange at this index, after which the connection goes on
-pub record GoesOn {P : Type 0} (moves : P → List Call → P → Type 0) (old new : P)
+pub record GoesOn (defaults : Defaults) {P : Type 0} (moves : P → List Call → P → Type 0) (old new : P)
     (left left' written written' moments moments' : Option (List ℕ)) (index : ℕ) : Type 0 where
   pub x : Exchange
-  pub is_exchange : IsExchange x
+  pub is_exchange : IsExchange defaults x
   pub moved : moves old (calls_in x.outcome) new
   pub clock : Gave moments (x.moment ∷ []) moments'
   pub goes : goes_on index x ≡ true
@@ -59,13 +62,13 @@ pub record GoesOn {P : Type 0} (moves : P → List Call → P → Type 0) (old n
   pub writes : written' ≡ behind written (said_at index x)
 
 -- the connection ends at this index, with a last exchange if there is one
-pub record EndsAt {P : Type 0} (moves : P → List Call → P → Type 0) (old new : P)
+pub record EndsAt (defaults : Defaults) {P : Type 0} (moves : P → List Call → P → Type 0) (old new : P)
     (left left' written written' moments moments' : Option (List ℕ)) (index : ℕ) (end : End) : Type 0 where
   pub final : Option Exchange
   pub taken : List ℕ
   pub left_is : left ≡ before (requests (final_list final) ++ taken) left'
   pub quiet : takes_nothing end ≡ true → taken ≡ []
-  pub are : AreExchanges (final_list final)
+  pub are : AreExchanges defaults (final_list final)
   pub moved : moves old (calls_of (final_list final)) new
   pub clock : Gave moments (moments_of (final_list final)) moments'
   pub word : List ℕ
@@ -74,10 +77,10 @@ pub record EndsAt {P : Type 0} (moves : P → List Call → P → Type 0) (old n
       → (rest : List ℕ) × (input ≡ requests (final_list final) ++ rest) × Stops end rest index final word
 
 -- the exchanges so far, after each of which the connection went on
-pub record SoFar {P : Type 0} (moves : P → List Call → P → Type 0) (old new : P)
+pub record SoFar (defaults : Defaults) {P : Type 0} (moves : P → List Call → P → Type 0) (old new : P)
     (left left' written written' moments moments' : Option (List ℕ)) (count : ℕ) : Type 0 where
   pub exchanges : List Exchange
-  pub are : AreExchanges exchanges
+  pub are : AreExchanges defaults exchanges
   pub count_is : length exchanges ≡ count
   pub few : count < request_limit
   pub moved : moves old (calls_of exchanges) new
@@ -86,17 +89,33 @@ pub record SoFar {P : Type 0} (moves : P → List Call → P → Type 0) (old ne
   pub reads : left ≡ before (requests exchanges) left'
   pub writes : written' ≡ behind written (said 0 exchanges)
 
+-- a reply whose response takes memory
+abbrev pub Lacks : Reply → Type 0
+Lacks (Ok answer) = takes_memory answer ≡ true
+Lacks (Err refusal) = ⊥
+
 -- what came of a request, by what was judged of it
 abbrev pub IsOf : Result Event RequestFault → Outcome → Type 0
 IsOf (Ok event) (Called calls) = Follows (one_call event) calls
+IsOf (Ok event) (Unsaid calls) = Follows (one_call event) calls × ReadLast calls
 IsOf (Err (RefusedAs refusal)) (Refused named) = named ≡ refusal
 IsOf (Err NoMemory) Lost = Unit {0}
 IsOf (Ok event) (Refused named) = ⊥
 IsOf (Ok event) Lost = ⊥
 IsOf (Err (RefusedAs refusal)) (Called calls) = ⊥
+IsOf (Err (RefusedAs refusal)) (Unsaid calls) = ⊥
 IsOf (Err (RefusedAs refusal)) Lost = ⊥
 IsOf (Err NoMemory) (Refused named) = ⊥
 IsOf (Err NoMemory) (Called calls) = ⊥
+IsOf (Err NoMemory) (Unsaid calls) = ⊥
+
+-- the connection ended by the response to a reply, or for want of memory for it
+pub record EndsAnswered (written written' : Option (List ℕ)) (event : Event) (reply : Reply) (closes is_head : Bool)
+    (end : End) : Type 0 where
+  pub outcome : Outcome
+  pub is_of : IsOf (Ok event) outcome
+  pub calls_are : calls_in outcome ≡ (event, reply) ∷ []
+  pub ends : EndsCalled written written' outcome closes is_head end
 
 -- what was judged came to this, its response went out, and the connection goes on
 pub record CarriesOut {P : Type 0} (moves : P → List Call → P → Type 0) (old new : P) (written written' : Option (List ℕ))

@@ -5,8 +5,8 @@ use Rattle.stream_traits.specs.Moments.{first_moment, after_reading}
 use Rattle.fault_counts.specs.Counts.{Counted}
 use Rattle.stream_traits.specs.Seen.{LinkSeen}
 use Rattle.stream_traits.specs.Told.{before}
-use Rattle.first_model.specs.declared.event.Event.{Event}
-use Rattle.first_model.specs.Step.{Call}
+use Rattle.office_model.specs.declared.event.Event.{Event}
+use Rattle.office_model.specs.Step.{Call}
 use Rattle.http_heads.specs.declared.refusal.HeadRefusal.{HeadRefusal}
 use Rattle.http_heads.specs.Heads.{HeadParts}
 use Rattle.http_heads.specs.Fronts.{Read, Bad as IsBad, Ended as IsEnded, Truncated as IsTruncated, IsHeadRead}
@@ -15,16 +15,19 @@ use Rattle.http_wire.specs.HeadReads.{continue_due}
 use Rattle.http_wire.specs.Message.{no_memory_response}
 use Rattle.request_events.specs.declared.refusal.RequestRefusal.{RequestRefusal}
 use Rattle.request_events.specs.Said.{Said}
+use Rattle.request_events.specs.declared.defaults.Defaults.{Defaults}
 use Rattle.request_events.specs.Events.{event_asked}
 use Rattle.browse_http.specs.declared.end.End.{End}
 use Rattle.browse_http.specs.declared.end.End.TheVariants.{Ended, Truncated, BadRequest, LinkFault, Memory}
 use Rattle.browse_http.specs.Messages.{bad_response, refused_response}
-use Rattle.browse_http.specs.Scripts.{one_call, Follows, lacks_memory, calls_response}
+use Rattle.browse_http.specs.Scripts.{one_call, Follows, lacks_memory, ReadLast, calls_response}
 
--- what came of a request that was read: it was refused; it made these calls; or there was no memory for its event
+-- what came of a request that was read: it was refused; it made these calls; it made them, and there was no memory for its
+-- response; or there was none for its event
 pub data Outcome : Type 0 where
   Refused : RequestRefusal → Outcome
   Called : List Call → Outcome
+  Unsaid : List Call → Outcome
   Lost : Outcome
 
 -- a request that was read: the bytes of its head and what they say, its body, the moment after it, and what came of it
@@ -39,20 +42,23 @@ pub record Exchange : Type 0 where
 abbrev pub IsHead : List ℕ → HeadParts → Type 0
 IsHead head parts = (rest : List ℕ) → IsHeadRead (head ++ rest) (Read parts rest)
 
--- what came of a request is what it asks for: the refusal, or the calls of its event's script
+-- what came of a request is what it asks for: the refusal, or the calls of its event's script; without memory for the response
+-- nothing was changed but the place of a restore
 abbrev pub IsOutcome : Said Event → Outcome → Type 0
 IsOutcome said (Refused refusal) = said ≡ Err refusal
 IsOutcome said (Called calls) = (event : Event) × (said ≡ Ok event) × Follows (one_call event) calls
+IsOutcome said (Unsaid calls) = (event : Event) × (said ≡ Ok event) × Follows (one_call event) calls × ReadLast calls
 IsOutcome said Lost = Unit {0}
 
-pub record IsExchange (x : Exchange) : Type 0 where
+-- an exchange under these settings
+pub record IsExchange (defaults : Defaults) (x : Exchange) : Type 0 where
   pub head : IsHead x.head x.parts
   pub body : length x.body ≡ body_length x.parts
-  pub outcome : IsOutcome (event_asked x.parts x.body x.moment) x.outcome
+  pub outcome : IsOutcome (event_asked x.parts x.body x.moment defaults) x.outcome
 
-abbrev pub AreExchanges : List Exchange → Type 0
-AreExchanges [] = Unit {0}
-AreExchanges (x ∷ xs) = IsExchange x × AreExchanges xs
+abbrev pub AreExchanges : Defaults → List Exchange → Type 0
+AreExchanges defaults [] = Unit {0}
+AreExchanges defaults (x ∷ xs) = IsExchange defaults x × AreExchanges defaults xs
 
 -- the bytes of the requests, one after the other
 abbrev pub requests : List Exchange → List ℕ
@@ -62,6 +68,7 @@ requests (x ∷ xs) = (x.head ++ x.body) ++ requests xs
 abbrev pub calls_in : Outcome → List Call
 calls_in (Refused refusal) = []
 calls_in (Called calls) = calls
+calls_in (Unsaid calls) = calls
 calls_in Lost = []
 
 -- the calls of the requests, in order
@@ -85,16 +92,18 @@ is_last index x = x.parts.closes || (index + 1 == request_limit)
 abbrev pub asks_head : HeadParts → Bool
 asks_head parts = bytes_eq parts.method (codes "HEAD")
 
--- there was no memory for the event, or none to carry it out: nothing was changed
+-- there was no memory for the event, none to carry it out, or none for the response: nothing was changed but the place of a restore
 abbrev pub has_no_memory : Outcome → Bool
 has_no_memory (Refused refusal) = false
 has_no_memory (Called calls) = lacks_memory calls
+has_no_memory (Unsaid calls) = true
 has_no_memory Lost = true
 
 -- the response to what came of a request
 abbrev pub response_of : Outcome → Bool → Bool → List ℕ
 response_of (Refused refusal) closes is_head = refused_response refusal closes is_head
 response_of (Called calls) closes is_head = calls_response calls closes is_head
+response_of (Unsaid calls) closes is_head = no_memory_response
 response_of Lost closes is_head = no_memory_response
 
 abbrev pub response_at : ℕ → Exchange → List ℕ
@@ -163,7 +172,7 @@ StopsCalled Ended outcome closes is_head word =
     (closes ≡ true) × (has_no_memory outcome ≡ false) × (word ≡ response_of outcome closes is_head)
 StopsCalled Truncated outcome closes is_head word = ⊥
 StopsCalled BadRequest outcome closes is_head word = ⊥
--- no memory for the event, or to carry it out
+-- no memory for the event, to carry it out, or for the response
 StopsCalled Memory outcome closes is_head word = (has_no_memory outcome ≡ true) × (word ≡ no_memory_response)
 -- the link failed: the response lacks its end
 StopsCalled LinkFault outcome closes is_head word = (n : ℕ) × (word ≡ take n (response_of outcome closes is_head))
@@ -205,13 +214,13 @@ takes_nothing BadRequest = true
 takes_nothing LinkFault = false
 takes_nothing Memory = false
 
--- A connection over a port: the calls of its exchanges lead from the port's state before to that after, each once and in
--- order, the moments are the clock's, of the input the requests were taken and perhaps the beginning of one more, and if the
--- link tells its bytes, they and the end fit the exchanges.
-pub record Converses {P : Type 0} (moves : P → List Call → P → Type 0) (old new : P)
+-- A connection over a port under these settings: the calls of its exchanges lead from the port's state before to that after, each
+-- once and in order, the moments are the clock's, of the input the requests were taken and perhaps the beginning of one more, and if
+-- the link tells its bytes, they and the end fit the exchanges.
+pub record Converses (defaults : Defaults) {P : Type 0} (moves : P → List Call → P → Type 0) (old new : P)
     (left left' written written' : Option (List ℕ)) (moments moments' : Option (List ℕ)) (end : End) : Type 0 where
   pub exchanges : List Exchange
-  pub are : AreExchanges exchanges
+  pub are : AreExchanges defaults exchanges
   pub moved : moves old (calls_of exchanges) new
   pub clock : Gave moments (moments_of exchanges) moments'
   pub taken : List ℕ
@@ -221,10 +230,10 @@ pub record Converses {P : Type 0} (moves : P → List Call → P → Type 0) (ol
       → (output : List ℕ) × (written' ≡ Some (above ++ output)) × Talk input exchanges output end
 
 -- A connection over a link: what is said of it, at most 49,152 bytes that were read ahead, what was sent, and the faults.
-pub record ServesLink {P : Type 0} (moves : P → List Call → P → Type 0) (old new : P) (link link' : LinkSeen)
+pub record ServesLink (defaults : Defaults) {P : Type 0} (moves : P → List Call → P → Type 0) (old new : P) (link link' : LinkSeen)
     (moments moments' : Option (List ℕ)) (end : End) : Type 0 where
   pub unread : Option (List ℕ)
-  pub talk : Converses moves old new link.left unread link.written link'.written moments moments' end
+  pub talk : Converses defaults moves old new link.left unread link.written link'.written moments moments' end
   pub ahead : List ℕ
   pub ahead_is : unread ≡ before ahead link'.left
   pub few : length ahead ≤ 49152

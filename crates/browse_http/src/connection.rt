@@ -8,10 +8,11 @@ ghost use Rattle.browse_http.specs.Talk.{Converses, ServesLink};
 use crate::end::End;
 use crate::exchange::{REQUEST_LIMIT, exchange};
 use crate::reading::give_up;
-use first_model::Port;
 use http_routes::{Route, router};
 use http_wire::Wire;
 use matchit::Router;
+use office_model::Port;
+use request_events::Defaults;
 use std::alloc::Global;
 use stream_traits::{Clock, Failed, Faults, Gate, Link};
 
@@ -24,20 +25,21 @@ pub struct Served<L> {
 
 /// Serves a connection: reads requests, holds each at the gate between its head and its body, calls the port with the event of
 /// each that isn't refused, and writes the responses. It ends after 1,000,000 requests at the latest. What was written is sent
-/// before more is read, and at the end. The order of work, the routes and the responses are those of the interface's
-/// description; heads and bodies are those of HTTP/1.1 (RFC 9112).
+/// before more is read, and at the end. The settings give the rules of a host that is added, and the zone. The order of work, the
+/// routes and the responses are those of the interface's description; heads and bodies are those of HTTP/1.1 (RFC 9112).
 pub fn serve_connection<P: Port, L: Link, C: Clock, G: Gate>(
     alloc: Global,
     port: &mut P,
     link: L,
     clock: &mut C,
     gate: &mut G,
+    defaults: &Defaults,
 ) -> Served<L>
-    ensures { ServesLink P.moves port.old port.new (seen_of ⟦<L as Faults>⟧ link) (seen_of ⟦<L as Faults>⟧ result.link)
+    ensures { ServesLink defaults.now P.moves port.old port.new (seen_of ⟦<L as Faults>⟧ link) (seen_of ⟦<L as Faults>⟧ result.link)
         (C.moments clock.old) (C.moments clock.new) result.end }
 {
     let mut wire = Wire::new(alloc, link);
-    let end = serve_wire(alloc, port, &mut wire, clock, gate);
+    let end = serve_wire(alloc, port, &mut wire, clock, gate, defaults);
     Served {
         end,
         link: wire.into_link(),
@@ -51,13 +53,14 @@ fn serve_wire<P: Port, L: Link, C: Clock, G: Gate>(
     wire: &mut Wire<L>,
     clock: &mut C,
     gate: &mut G,
+    defaults: &Defaults,
 ) -> End
-    ensures talk { Converses P.moves port.old port.new (left_of wire.old) (left_of wire.new)
+    ensures talk { Converses defaults.now P.moves port.old port.new (left_of wire.old) (left_of wire.new)
         (written_of wire.old) (written_of wire.new) (C.moments clock.old) (C.moments clock.new) result }
     ensures sent { (result ≡ End.LinkFault → ⊥) → sent_of wire.new ≡ written_of wire.new }
     ensures counted { Counted (faults_of wire.old) (faults_of wire.new) (result ≡ End.LinkFault) }
 {
-    let end = serve_routed(alloc, port, wire, clock, gate);
+    let end = serve_routed(alloc, port, wire, clock, gate, defaults);
     match wire.send() {
         Ok(()) => end,
         Err(Failed) => End::LinkFault,
@@ -71,13 +74,14 @@ fn serve_routed<P: Port, L: Link, C: Clock, G: Gate>(
     wire: &mut Wire<L>,
     clock: &mut C,
     gate: &mut G,
+    defaults: &Defaults,
 ) -> End
-    ensures talk { Converses P.moves port.old port.new (left_of wire.old) (left_of wire.new)
+    ensures talk { Converses defaults.now P.moves port.old port.new (left_of wire.old) (left_of wire.new)
         (written_of wire.old) (written_of wire.new) (C.moments clock.old) (C.moments clock.new) result }
     ensures counted { Counted (faults_of wire.old) (faults_of wire.new) (result ≡ End.LinkFault) }
 {
     match router(alloc) {
-        Ok(router) => serve_requests(alloc, port, wire, clock, gate, &router),
+        Ok(router) => serve_requests(alloc, port, wire, clock, gate, defaults, &router),
         Err(_) => give_up(wire),
     }
 }
@@ -89,15 +93,16 @@ fn serve_requests<P: Port, L: Link, C: Clock, G: Gate>(
     wire: &mut Wire<L>,
     clock: &mut C,
     gate: &mut G,
+    defaults: &Defaults,
     router: &Router<Route>,
 ) -> End
     requires { router.now ≡ table }
-    ensures talk { Converses P.moves port.old port.new (left_of wire.old) (left_of wire.new)
+    ensures talk { Converses defaults.now P.moves port.old port.new (left_of wire.old) (left_of wire.new)
         (written_of wire.old) (written_of wire.new) (C.moments clock.old) (C.moments clock.new) result }
     ensures counted { Counted (faults_of wire.old) (faults_of wire.new) (result ≡ End.LinkFault) }
 {
     for index in 0..REQUEST_LIMIT {
-        match exchange(alloc, port, wire, clock, gate, router, index) {
+        match exchange(alloc, port, wire, clock, gate, defaults, router, index) {
             Ok(()) => {}
             Err(end) => return end,
         }

@@ -1,23 +1,27 @@
 //! One request, what comes of it, and its response.
 
-ghost use Rattle.std.specs.Prelude.{◌≡◌, [], ◌∷◌, ◌+◌, ◌<◌, ◌==◌, ◌||◌, IfErr, OnOk, IsErrOf};
+ghost use Rattle.std.specs.Prelude.{◌≡◌, [], ◌∷◌, ◌+◌, ◌<◌, ◌==◌, ◌||◌, IfOk, IfErr, OnOk, IsErrOf};
 ghost use Rattle.fault_counts.specs.Counts.{Counted};
 ghost use Rattle.http_wire.specs.Wires.{left_of, written_of, faults_of};
 ghost use Rattle.http_routes.specs.Table.{table};
+ghost use Rattle.office_model.specs.Step.{IsAnswerTo};
 ghost use Rattle.browse_http.specs.Scripts.{is_memory};
 ghost use Rattle.browse_http.specs.Talk.{Refused, Called, request_limit, asks_head};
-ghost use Rattle.browse_http.specs.Serving.{EndsCalled, Responds, CarriesOut, CarriesOutLast, GoesOn, EndsAt};
+ghost use Rattle.reply_bodies.specs.Replies.{long_body};
+ghost use Rattle.browse_http.specs.Serving.{Lacks, EndsCalled, EndsAnswered, Responds, CarriesOut, CarriesOutLast, GoesOn, EndsAt};
 
 use crate::end::End;
 use crate::reading::{Request, give_up, read_request};
 use crate::replies::{write_refusal, write_reply};
-use first_model::{Answer, Event, Port, Refusal};
+use disk_trait::Bytes;
 use http_heads::Head;
 use http_routes::Route;
 use http_wire::Wire;
 use matchit::Router;
-use request_events::{RequestFault, RequestRefusal, event_asked};
-use std::alloc::Global;
+use office_model::{Answer, Event, Port, Refusal};
+use reply_bodies::answer_body;
+use request_events::{Defaults, RequestFault, RequestRefusal, event_asked};
+use std::alloc::{AllocError, Global};
 use stream_traits::{Clock, Failed, Faults, Gate, Link};
 
 /// The most requests of a connection: the response to the last one closes it.
@@ -45,20 +49,33 @@ fn is_memory(reply: &Result<Answer, Refusal>) -> bool
     matches!(reply, Err(Refusal::Memory))
 }
 
+/// The body of a longer answer; or want of memory, for such an answer alone.
+fn made_for(alloc: Global, reply: &Result<Answer, Refusal>) -> Result<Option<Bytes>, AllocError>
+    ensures made { IfOk result (λ made. IfOk reply.now (λ answer. made ≡ long_body answer)) }
+    ensures lacks { IfErr result (λ _. Lacks reply.now) }
+{
+    match reply {
+        Ok(answer) => answer_body(alloc, answer),
+        Err(_) => Ok(None),
+    }
+}
+
 /// Sends the response to a reply, and says how the connection ends if that is the last.
 fn answer<L: Link>(
     wire: &mut Wire<L>,
     event: &Event,
     reply: &Result<Answer, Refusal>,
+    made: &Option<Bytes>,
     closes: bool,
     is_head: bool,
 ) -> Result<(), End>
+    requires { IfOk reply.now (λ answer. made.now ≡ long_body answer) }
     ensures goes { OnOk result (Responds (written_of wire.old) (written_of wire.new) (Called ((event.now, reply.now) ∷ [])) closes is_head) }
     ensures ends { IfErr result (EndsCalled (written_of wire.old) (written_of wire.new) (Called ((event.now, reply.now) ∷ [])) closes is_head) }
     ensures left { left_of wire.new ≡ left_of wire.old }
     ensures counted { Counted (faults_of wire.old) (faults_of wire.new) (IsErrOf result End.LinkFault) }
 {
-    match write_reply(wire, event, reply, closes, is_head) {
+    match write_reply(wire, event, reply, made, closes, is_head) {
         Ok(()) => {}
         Err(Failed) => return Err(End::LinkFault),
     }
@@ -69,6 +86,31 @@ fn answer<L: Link>(
         return Err(End::Ended);
     }
     Ok(())
+}
+
+/// Makes the response to a reply and sends it, and says how the connection ends if that is the last or there is no memory for it.
+fn respond<L: Link>(
+    alloc: Global,
+    wire: &mut Wire<L>,
+    event: &Event,
+    reply: &Result<Answer, Refusal>,
+    closes: bool,
+    is_head: bool,
+) -> Result<(), End>
+    requires { IfOk reply.now (IsAnswerTo event.now) }
+    ensures goes { OnOk result (Responds (written_of wire.old) (written_of wire.new) (Called ((event.now, reply.now) ∷ [])) closes is_head) }
+    ensures ends { IfErr result (EndsAnswered (written_of wire.old) (written_of wire.new) event.now reply.now closes is_head) }
+    ensures left { left_of wire.new ≡ left_of wire.old }
+    ensures counted { Counted (faults_of wire.old) (faults_of wire.new) (IsErrOf result End.LinkFault) }
+{
+    let made = match made_for(alloc, reply) {
+        Ok(made) => made,
+        Err(AllocError) => return Err(give_up(wire)),
+    };
+    match answer(wire, event, reply, &made, closes, is_head) {
+        Ok(()) => Ok(()),
+        Err(end) => Err(end),
+    }
 }
 
 /// Sends the response to a request that is refused, and says how the connection ends if that is the last.
@@ -110,7 +152,7 @@ fn carry_out<P: Port, L: Link>(
     match judged {
         Ok(event) => {
             let reply = port.call(alloc, &event);
-            match answer(wire, &event, &reply, closes, is_head) {
+            match respond(alloc, wire, &event, &reply, closes, is_head) {
                 Ok(()) => Ok(()),
                 Err(end) => Err(end),
             }
@@ -132,14 +174,15 @@ pub fn exchange<P: Port, L: Link, C: Clock, G: Gate>(
     wire: &mut Wire<L>,
     clock: &mut C,
     gate: &mut G,
+    defaults: &Defaults,
     router: &Router<Route>,
     index: u32,
 ) -> Result<(), End>
     requires index { index < request_limit }
     requires router { router.now ≡ table }
-    ensures goes { OnOk result (GoesOn P.moves port.old port.new (left_of wire.old) (left_of wire.new)
+    ensures goes { OnOk result (GoesOn defaults.now P.moves port.old port.new (left_of wire.old) (left_of wire.new)
         (written_of wire.old) (written_of wire.new) (C.moments clock.old) (C.moments clock.new) index) }
-    ensures ends { IfErr result (EndsAt P.moves port.old port.new (left_of wire.old) (left_of wire.new)
+    ensures ends { IfErr result (EndsAt defaults.now P.moves port.old port.new (left_of wire.old) (left_of wire.new)
         (written_of wire.old) (written_of wire.new) (C.moments clock.old) (C.moments clock.new) index) }
     ensures counted { Counted (faults_of wire.old) (faults_of wire.new) (IsErrOf result End.LinkFault) }
 {
@@ -149,7 +192,7 @@ pub fn exchange<P: Port, L: Link, C: Clock, G: Gate>(
     };
     let closes = is_last(index, &head);
     let is_head = asks_head(&head);
-    let judged = event_asked(alloc, router, &head, body, clock.now());
+    let judged = event_asked(alloc, router, &head, body, clock.now(), defaults);
     match carry_out(alloc, port, wire, judged, closes, is_head) {
         Ok(()) => Ok(()),
         Err(end) => Err(end),

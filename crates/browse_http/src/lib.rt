@@ -3,7 +3,7 @@
 //! (`ServesLink`): the calls are those of the requests in the input, in order, each once; the output is their responses.
 //!
 //! ```text
-//! let Served { end, link } = serve_connection(alloc, &mut port, link, &mut clock, &mut OpenGate);
+//! let Served { end, link } = serve_connection(alloc, &mut port, link, &mut clock, &mut OpenGate, &defaults);
 //! ```
 #![tactic(auto)]
 

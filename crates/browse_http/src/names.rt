@@ -51,6 +51,7 @@ pub fn request_name(refusal: RequestRefusal) -> &'static str
         RequestRefusal::BadNumber => "BadNumber",
         RequestRefusal::BadQuery(rule) => query_rule_name(rule),
         RequestRefusal::BadPath(rule) => path_rule_name(rule),
+        RequestRefusal::BadTarget => "BadTarget",
         RequestRefusal::NoLength => "NoLength",
     }
 }
@@ -67,6 +68,7 @@ pub fn allowed_by(refusal: RequestRefusal) -> Option<&'static str>
         RequestRefusal::BadNumber => None,
         RequestRefusal::BadQuery(_) => None,
         RequestRefusal::BadPath(_) => None,
+        RequestRefusal::BadTarget => None,
         RequestRefusal::NoLength => None,
     }
 }

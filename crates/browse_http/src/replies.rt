@@ -1,25 +1,57 @@
-//! The responses, written to a wire. None takes memory.
+//! The responses, written to a wire. None takes memory; the bodies of longer answers are made before.
 
-ghost use Rattle.std.specs.Prelude.{◌≡◌, ◌≤◌, length, IfSome, IsErr, OnOk, OnErr};
+ghost use Rattle.std.specs.Prelude.{◌≡◌, ◌≤◌, length, Some, IfSome, IfOk, IsErr, OnOk, OnErr};
 ghost use Rattle.std.specs.Option.{option_copied};
 ghost use Rattle.fault_counts.specs.Counts.{Counted};
 ghost use Rattle.stream_traits.specs.Told.{behind, WroteFront};
 ghost use Rattle.http_wire.specs.Message.{phrase, response_bytes};
 ghost use Rattle.http_wire.specs.Wires.{left_of, written_of, faults_of};
+ghost use Rattle.reply_bodies.specs.Replies.{long_body};
 ghost use Rattle.browse_http.specs.Messages.{json_message, bytes_message, bad_response, refused_response, reply_response, answer_message};
 
 use crate::names::{allowed_by, request_name};
 use crate::statuses::{answer_status, bytes_status, head_status, refusal_status, request_status};
-use first_model::{Answer, Event, Refusal};
+use disk_trait::Bytes;
 use http::StatusCode;
 use http_heads::HeadRefusal;
 use http_wire::{Response, Wire, write_no_memory, write_response};
+use office_model::{Answer, Event, Refusal};
 use reply_bodies::{answer_text, refusal_text, refused_text};
 use request_events::RequestRefusal;
 use short_text::ShortText;
 use stream_traits::{Failed, Faults, Link};
 
 /// Writes a response of JSON.
+fn write_text<L: Link>(
+    wire: &mut Wire<L>,
+    status: StatusCode,
+    body: &[u8],
+    allow: Option<&str>,
+    closes: bool,
+    is_head: bool,
+) -> Result<(), Failed>
+    requires status { length (phrase status) ≤ 64 }
+    requires allow { IfSome (option_copied allow) (λ methods. length methods ≤ 64) }
+    ensures all { OnOk result (written_of wire.new ≡ behind (written_of wire.old) (response_bytes (json_message status body.now (option_copied allow.entry) closes is_head))) }
+    ensures front { OnErr result (WroteFront (written_of wire.old) (written_of wire.new) (response_bytes (json_message status body.now (option_copied allow.entry) closes is_head))) }
+    ensures left { left_of wire.new ≡ left_of wire.old }
+    ensures counted { Counted (faults_of wire.old) (faults_of wire.new) (IsErr result) }
+{
+    let response = Response {
+        status,
+        content_type: "application/json",
+        body,
+        allow,
+        closes,
+        is_head,
+    };
+    match write_response(wire, &response) {
+        Ok(()) => Ok(()),
+        Err(Failed) => Err(Failed),
+    }
+}
+
+/// Writes a response of short JSON.
 fn write_json<L: Link>(
     wire: &mut Wire<L>,
     status: StatusCode,
@@ -35,15 +67,7 @@ fn write_json<L: Link>(
     ensures left { left_of wire.new ≡ left_of wire.old }
     ensures counted { Counted (faults_of wire.old) (faults_of wire.new) (IsErr result) }
 {
-    let response = Response {
-        status,
-        content_type: "application/json",
-        body: body.as_slice(),
-        allow,
-        closes,
-        is_head,
-    };
-    match write_response(wire, &response) {
+    match write_text(wire, status, body.as_slice(), allow, closes, is_head) {
         Ok(()) => Ok(()),
         Err(Failed) => Err(Failed),
     }
@@ -117,19 +141,55 @@ fn write_bytes<L: Link>(
     }
 }
 
-/// Writes the response to an answer.
-fn write_answer<L: Link>(
+/// Writes the response to a longer answer, whose body was made.
+fn write_made<L: Link>(
     wire: &mut Wire<L>,
     event: &Event,
     answer: &Answer,
+    body: &Bytes,
     closes: bool,
     is_head: bool,
 ) -> Result<(), Failed>
+    requires { long_body answer.now ≡ Some body.now }
     ensures all { OnOk result (written_of wire.new ≡ behind (written_of wire.old) (response_bytes (answer_message event.now answer.now closes is_head))) }
     ensures front { OnErr result (WroteFront (written_of wire.old) (written_of wire.new) (response_bytes (answer_message event.now answer.now closes is_head))) }
     ensures left { left_of wire.new ≡ left_of wire.old }
     ensures counted { Counted (faults_of wire.old) (faults_of wire.new) (IsErr result) }
 {
+    if let Answer::Next(_) = answer {
+        return match write_bytes(wire, body.as_slice(), closes, is_head) {
+            Ok(()) => Ok(()),
+            Err(Failed) => Err(Failed),
+        };
+    }
+    let status = answer_status(event, answer);
+    match write_text(wire, status, body.as_slice(), None, closes, is_head) {
+        Ok(()) => Ok(()),
+        Err(Failed) => Err(Failed),
+    }
+}
+
+/// Writes the response to an answer. The body of a longer one was made before.
+fn write_answer<L: Link>(
+    wire: &mut Wire<L>,
+    event: &Event,
+    answer: &Answer,
+    made: &Option<Bytes>,
+    closes: bool,
+    is_head: bool,
+) -> Result<(), Failed>
+    requires { made.now ≡ long_body answer.now }
+    ensures all { OnOk result (written_of wire.new ≡ behind (written_of wire.old) (response_bytes (answer_message event.now answer.now closes is_head))) }
+    ensures front { OnErr result (WroteFront (written_of wire.old) (written_of wire.new) (response_bytes (answer_message event.now answer.now closes is_head))) }
+    ensures left { left_of wire.new ≡ left_of wire.old }
+    ensures counted { Counted (faults_of wire.old) (faults_of wire.new) (IsErr result) }
+{
+    if let Some(body) = made {
+        return match write_made(wire, event, answer, body, closes, is_head) {
+            Ok(()) => Ok(()),
+            Err(Failed) => Err(Failed),
+        };
+    }
     if let Some(text) = answer_text(event, answer) {
         let status = answer_status(event, answer);
         return match write_json(wire, status, &text, None, closes, is_head) {
@@ -152,16 +212,18 @@ pub fn write_reply<L: Link>(
     wire: &mut Wire<L>,
     event: &Event,
     reply: &Result<Answer, Refusal>,
+    made: &Option<Bytes>,
     closes: bool,
     is_head: bool,
 ) -> Result<(), Failed>
+    requires { IfOk reply.now (λ answer. made.now ≡ long_body answer) }
     ensures all { OnOk result (written_of wire.new ≡ behind (written_of wire.old) (reply_response event.now reply.now closes is_head)) }
     ensures front { OnErr result (WroteFront (written_of wire.old) (written_of wire.new) (reply_response event.now reply.now closes is_head)) }
     ensures left { left_of wire.new ≡ left_of wire.old }
     ensures counted { Counted (faults_of wire.old) (faults_of wire.new) (IsErr result) }
 {
     match reply {
-        Ok(answer) => match write_answer(wire, event, answer, closes, is_head) {
+        Ok(answer) => match write_answer(wire, event, answer, made, closes, is_head) {
             Ok(()) => Ok(()),
             Err(Failed) => Err(Failed),
         },

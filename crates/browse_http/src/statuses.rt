@@ -6,9 +6,9 @@ ghost use Rattle.http_wire.specs.Message.{phrase};
 ghost use Rattle.browse_http.specs.Messages.{request_refusal_status, put_rule_status, rule_status, refusal_status, done_status, answer_status};
 
 use attr_records::PutRule;
-use first_model::{Answer, BrokenRule, Event, Refusal};
 use http::StatusCode;
 use http_heads::HeadRefusal;
+use office_model::{Answer, BrokenRule, Event, Refusal};
 use request_events::RequestRefusal;
 
 /// The status of what refuses a head.
@@ -38,6 +38,7 @@ pub fn request_status(refusal: RequestRefusal) -> StatusCode
         RequestRefusal::BadNumber => StatusCode::BAD_REQUEST,
         RequestRefusal::BadQuery(_) => StatusCode::BAD_REQUEST,
         RequestRefusal::BadPath(_) => StatusCode::BAD_REQUEST,
+        RequestRefusal::BadTarget => StatusCode::BAD_REQUEST,
         RequestRefusal::NoLength => StatusCode::LENGTH_REQUIRED,
     }
 }
@@ -71,8 +72,12 @@ fn rule_status(rule: BrokenRule) -> StatusCode
         BrokenRule::NoSession => StatusCode::NOT_FOUND,
         BrokenRule::Put(rule) => put_rule_status(rule),
         BrokenRule::NoBackup => StatusCode::NOT_FOUND,
+        BrokenRule::ChainFull => StatusCode::UNPROCESSABLE_ENTITY,
         BrokenRule::NoPath => StatusCode::NOT_FOUND,
         BrokenRule::NotAFile => StatusCode::CONFLICT,
+        BrokenRule::NotADirectory => StatusCode::CONFLICT,
+        BrokenRule::Kept => StatusCode::CONFLICT,
+        BrokenRule::BadBucket => StatusCode::UNPROCESSABLE_ENTITY,
     }
 }
 
@@ -99,10 +104,7 @@ fn done_status(event: &Event) -> StatusCode
 {
     match event {
         Event::AddHost { .. } => StatusCode::CREATED,
-        Event::OpenDump { .. } => StatusCode::OK,
-        Event::Put { .. } => StatusCode::OK,
-        Event::Commit { .. } => StatusCode::OK,
-        Event::ReadFile { .. } => StatusCode::OK,
+        _ => StatusCode::OK,
     }
 }
 
@@ -125,6 +127,18 @@ pub fn answer_status(event: &Event, answer: &Answer) -> StatusCode
         Answer::Done => done_status(event),
         Answer::Dump(_) => StatusCode::CREATED,
         Answer::Committed(_) => StatusCode::CREATED,
+        Answer::Restore(_) => StatusCode::CREATED,
+        Answer::Entries(_) => StatusCode::OK,
+        Answer::Entry(_) => StatusCode::OK,
         Answer::Content(_) => StatusCode::OK,
+        Answer::Next(_) => StatusCode::OK,
+        Answer::Expired(_) => StatusCode::OK,
+        Answer::Contacts { .. } => StatusCode::OK,
+        Answer::Due { .. } => StatusCode::OK,
+        Answer::Cleaned { .. } => StatusCode::OK,
+        Answer::Stats(_) => StatusCode::OK,
+        Answer::Hosts(_) => StatusCode::OK,
+        Answer::Backups { .. } => StatusCode::OK,
+        Answer::Reopened(_) => StatusCode::OK,
     }
 }

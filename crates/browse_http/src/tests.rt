@@ -1,16 +1,105 @@
 use super::*;
-use first_model::PlainOffice;
+use attr_records::HostName;
+use backup_rules::Rules;
+use disk_trait::Bytes;
+use office_model::{Answer, BrokenRule, Event, HostList, Port, Refusal, SessionName};
+use request_events::Defaults;
 use std::alloc::Global;
 use std::test::Fail;
 use stream_traits::{FixedClock, Gate, MemoryLink, Moment, OpenGate};
+use wake_schedule::Zone;
 
-/// Serves an input from an office without hosts, and gives the link and the end.
+/// A port that has one host, pc1, with a dump 1-0 and a backup of a file `hello`, whatever it is asked.
+#[derive(Drop)]
+struct OneHost;
+
+impl Port for OneHost {
+    ghost use Rattle.std.specs.Prelude.{◌≡◌};
+
+    ghost moves = { λ old calls new. Unit {0} };
+
+    fn call(&mut self, alloc: Global, event: &Event) -> Result<Answer, Refusal> {
+        match event {
+            Event::AddHost { .. } => Ok(Answer::Done),
+            Event::OpenDump { host, .. } => {
+                of_host(host)?;
+                Ok(Answer::Dump(DUMP))
+            }
+            Event::Put { dump, .. } => {
+                of_dump(*dump)?;
+                Ok(Answer::Done)
+            }
+            Event::Commit { dump, .. } => {
+                of_dump(*dump)?;
+                Ok(Answer::Committed(0))
+            }
+            Event::ReadFile { host, .. } => {
+                of_host(host)?;
+                Ok(Answer::Content(Bytes::from_slice(alloc, b"hello")?))
+            }
+            Event::Hosts => {
+                let mut hosts = HostList::new(alloc);
+                hosts.push(alloc, &pc1(alloc)?)?;
+                Ok(Answer::Hosts(hosts))
+            }
+            _ => Err(Refusal::Halted),
+        }
+    }
+
+    ghost none = { λ p. tt };
+
+    ghost joined = { λ p q r xs ys a b. tt };
+}
+
+const DUMP: SessionName = SessionName {
+    epoch: 1,
+    sequence: 0,
+};
+
+fn of_host(host: &HostName) -> Result<(), Refusal> {
+    if host.as_slice() == b"pc1".as_slice() {
+        return Ok(());
+    }
+    Err(Refusal::Broken(BrokenRule::NoHost))
+}
+
+fn of_dump(dump: SessionName) -> Result<(), Refusal> {
+    if dump.is_same(DUMP) {
+        return Ok(());
+    }
+    Err(Refusal::Broken(BrokenRule::NoSession))
+}
+
+fn pc1(alloc: Global) -> Result<HostName, Refusal> {
+    match HostName::read(alloc, b"pc1") {
+        Ok(host) => Ok(host),
+        Err(_) => Err(Refusal::Memory),
+    }
+}
+
+/// The default rules, and UTC.
+fn defaults(alloc: Global) -> Result<Defaults, Fail> {
+    let Ok(zone) = Zone::read("UTC") else {
+        return Err(Fail::new("no zone"));
+    };
+    let rules = Rules::defaults(alloc)?;
+    Ok(Defaults { rules, zone })
+}
+
+/// Serves an input, and gives the link and the end.
 fn serve(alloc: Global, input: &[u8], fails: u64) -> Result<(MemoryLink, End), Fail> {
     let fails = Vec::from_array(alloc, [fails])?;
     let link = MemoryLink::new(alloc, input.to_vec(alloc)?, 8_192, fails)?;
     let mut clock = FixedClock::new(Moment::first());
-    let mut port = PlainOffice::new(alloc);
-    let served = serve_connection(alloc, &mut port, link, &mut clock, &mut OpenGate);
+    let defaults = defaults(alloc)?;
+    let served = serve_connection(
+        alloc,
+        &mut OneHost,
+        link,
+        &mut clock,
+        &mut OpenGate,
+        &defaults,
+    );
     Ok((served.link, served.end))
 }
 
@@ -64,7 +153,7 @@ fn a_failed_call_of_the_link_ends_it(rt: HostRuntime) -> Result<(), Fail> {
 }
 
 /// Requests without the end of their heads, and the status lines, fields and bodies of their responses.
-const REQUESTS: [(&str, &str); 19] = [
+const REQUESTS: [(&str, &str); 21] = [
     (
         "PATCH /hosts/pc1",
         "405 Method Not Allowed\r\nContent-Type: application/json\r\nContent-Length: 22\r\nAllow: PUT\r\n\r\n{\"refused\":\"NoMethod\"}",
@@ -74,7 +163,7 @@ const REQUESTS: [(&str, &str); 19] = [
         "405 Method Not Allowed\r\nContent-Type: application/json\r\nContent-Length: 22\r\nAllow: PUT\r\n\r\n",
     ),
     (
-        "GET /stats",
+        "GET /state",
         "404 Not Found\r\nContent-Type: application/json\r\nContent-Length: 21\r\n\r\n{\"refused\":\"NoRoute\"}",
     ),
     (
@@ -138,6 +227,14 @@ const REQUESTS: [(&str, &str); 19] = [
         "404 Not Found\r\nContent-Type: application/json\r\nContent-Length: 20\r\n\r\n{\"refused\":\"NoHost\"}",
     ),
     (
+        "GET /hosts",
+        "200 OK\r\nContent-Type: application/json\r\nContent-Length: 17\r\n\r\n{\"hosts\":[\"pc1\"]}",
+    ),
+    (
+        "POST /reopen",
+        "503 Service Unavailable\r\nContent-Type: application/json\r\nContent-Length: 20\r\n\r\n{\"refused\":\"Halted\"}",
+    ),
+    (
         "PUT /hosts/a",
         "201 Created\r\nContent-Type: application/json\r\nContent-Length: 12\r\n\r\n{\"host\":\"a\"}",
     ),
@@ -172,7 +269,7 @@ fn a_path_has_any_bytes_but_0(rt: HostRuntime) -> Result<(), Fail> {
     expect(rt.alloc(), ODD_NAME, FIRST_OUTPUT, End::Ended)
 }
 
-/// What a path that breaks no rule and one that is too long are answered, where there is no host.
+/// What a path that breaks no rule and one that is too long are answered, for another host.
 const NO_HOST: &str =
     "404 Not Found\r\nContent-Type: application/json\r\nContent-Length: 20\r\n\r\n{\"refused\":\"NoHost\"}";
 
@@ -244,8 +341,15 @@ fn the_gate_holds_each_request_once(rt: HostRuntime) -> Result<(), Fail> {
     let link = MemoryLink::new(rt.alloc(), input, 8_192, Vec::new(rt.alloc()))?;
     let mut clock = FixedClock::new(Moment::first());
     let mut gate = NotedGate { held: 0, last: 0 };
-    let mut port = PlainOffice::new(rt.alloc());
-    let served = serve_connection(rt.alloc(), &mut port, link, &mut clock, &mut gate);
+    let defaults = defaults(rt.alloc())?;
+    let served = serve_connection(
+        rt.alloc(),
+        &mut OneHost,
+        link,
+        &mut clock,
+        &mut gate,
+        &defaults,
+    );
     assert_eq!(rt; (served.end, gate.held, gate.last), (End::Ended, 5, 4));
     Ok(())
 }

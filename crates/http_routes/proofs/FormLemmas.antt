@@ -1,15 +1,18 @@
 -- From the router's answer to the form of a path, and back.
-use Rattle.std.proofs.Common.{◌≡◌, ◌≢◌, inl, inr, ℕ, ◌<◌, List, [], ◌∷◌, ◌++◌, Option, Some, None, refl, sym, ap, ◌∙◌, subst, arith, codes, All, append-nil, option_map, rules, IfSome}
+use Rattle.std.proofs.Common.{◌≡◌, ◌≢◌, inl, inr, ℕ, ◌<◌, List, [], ◌∷◌, ◌++◌, Option, Some, None, map, refl, sym, ap, ◌∙◌, subst, arith, codes, All, append-nil, option_map, Bool, true, ltb, IfSome}
+use Rattle.std.specs.List.{list_all}
+use Rattle.std.proofs.lemmas.Bool.{and_parts, ltb-true}
 use Rattle.std.proofs.lemmas.List.Elements.{All-head, All-tail, All-cons, All-nil}
 use Rattle.matchit.specs.Seek.{first}
 use Rattle.matchit.specs.Router.{RouteOf, map_key}
 use Rattle.http_routes.specs.Actions.{route_of}
-use Rattle.http_routes.specs.Forms.{IsPiece, HasForm}
+use Rattle.http_routes.specs.Forms.{IsPiece, IsPieceBetween, IsBackup, IsOfBackup, HasForm}
 use Rattle.http_routes.specs.Paths.{Takes, done, byte, param, rest, Has}
-use Rattle.http_routes.specs.Table.{table, patterns}
+use Rattle.http_routes.specs.Table.{table, tokens, in_order, patterns}
 use Rattle.http_routes.specs.declared.route.Route.{Route}
-use Rattle.http_routes.specs.declared.route.Route.TheVariants.{Host, Dumps, Entry, Commit, BackupFile}
-use Rattle.http_routes.proofs.PathLemmas.{first-patterns, finds_host, finds_dumps, finds_file, finds_entry, finds_commit}
+use Rattle.http_routes.specs.declared.route.Route.TheVariants.{Hosts, Host, Rules, Dumps, Entry, Commit, Dump, Backups, Backup, BackupList, BackupEntry, BackupFile, Restores, Keep, Next, Restore, Expire, Contacts, Due, Clean, Sweep, Stats, Reopen}
+use Rattle.http_routes.proofs.PathLemmas.{first-patterns}
+use Rattle.http_routes.proofs.FindLemmas.{AreBytes, found_first}
 use Rattle.http_routes.proofs.SoundLemmas.{sound}
 
 -- what tokens take, from their first on
@@ -25,9 +28,6 @@ takes_piece t path (param piece after ok e h) = (piece, after, ok, e, h)
 
 takes_none : (path : List ℕ) → Takes [] path → path ≡ []
 takes_none path done = refl
-
-abbrev pub AreBytes : List ℕ → Type 0
-AreBytes bytes = All (λ b. b < 256) bytes
 
 takes_bytes : (w t path : List ℕ) → AreBytes w → Takes (w ++ t) path → (p : List ℕ) × (path ≡ w ++ p) × Takes t p
 takes_bytes [] t path small h = (path, refl, h)
@@ -59,50 +59,90 @@ module _ (w : List ℕ) (small : AreBytes w) where
       let x = takes_bytes w [] path small (subst (λ t. Takes t path) (sym (append-nil w)) h) in
       x.1 ∙ ap (λ p. w ++ p) (takes_none x.0 x.2) ∙ append-nil w
 
+-- each code of a word is a byte
+abbrev fits : List ℕ → Bool
+fits w = list_all (λ b. ltb b 256) w
+
+are_bytes : (w : List ℕ) → fits w ≡ true → AreBytes w
+are_bytes [] e = All-nil (λ b. b < 256)
+are_bytes (b ∷ w) e =
+    let (small, more) = and_parts (ltb b 256) (fits w) e in
+    All-cons (λ c. c < 256) b w (ltb-true b 256 small) (are_bytes w more)
+
+word : (w path : List ℕ) → fits w ≡ true → Takes w path → path ≡ w
+word w path fit h = word_end w (are_bytes w fit) path h
+
+-- bytes, a piece, and bytes at the end
+word_piece_word : (w end : List ℕ) → AreBytes w → fits end ≡ true → (path : List ℕ) → Takes (w ++ (256 ∷ end)) path
+    → IsPieceBetween w end path
+word_piece_word w end small fit path h =
+    let x = word_piece_more w small end path h in
+    (x.0, x.2, x.3 ∙ ap (λ p. w ++ (x.0 ++ p)) (word end x.1 fit x.4))
+
 hosts_word : AreBytes (codes "/hosts/")
-hosts_word = search rules
+hosts_word = are_bytes (codes "/hosts/") refl
 
 dumps_word : AreBytes (codes "/dumps/")
-dumps_word = search rules
+dumps_word = are_bytes (codes "/dumps/") refl
+
+restores_word : AreBytes (codes "/restores/")
+restores_word = are_bytes (codes "/restores/") refl
 
 backups_word : AreBytes (codes "/backups/")
-backups_word = search rules
+backups_word = are_bytes (codes "/backups/") refl
 
--- each row's tokens take paths of its form
+backup_form : (path : List ℕ) → Takes (codes "/hosts/" ++ (256 ∷ (codes "/backups/" ++ (256 ∷ [])))) path → IsBackup path
+backup_form path h =
+    let x = word_piece_more (codes "/hosts/") hosts_word (codes "/backups/" ++ (256 ∷ [])) path h in
+    let y = word_piece (codes "/backups/") backups_word x.1 x.4 in
+    (x.0, y.0, x.2, y.1, x.3 ∙ ap (λ p. codes "/hosts/" ++ (x.0 ++ p)) y.2)
 
-host_form : (path : List ℕ) → Takes (codes "/hosts/" ++ (256 ∷ [])) path → HasForm Host path
-host_form path h = word_piece (codes "/hosts/") hosts_word path h
+of_backup_form : (end : List ℕ) → fits end ≡ true → (path : List ℕ)
+    → Takes (codes "/hosts/" ++ (256 ∷ (codes "/backups/" ++ (256 ∷ end)))) path → IsOfBackup end path
+of_backup_form end fit path h =
+    let x = word_piece_more (codes "/hosts/") hosts_word (codes "/backups/" ++ (256 ∷ end)) path h in
+    let y = word_piece_word (codes "/backups/") end backups_word fit x.1 x.4 in
+    (x.0, y.0, x.2, y.1, x.3 ∙ ap (λ p. codes "/hosts/" ++ (x.0 ++ p)) y.2)
 
-dumps_form : (path : List ℕ) → Takes (codes "/hosts/" ++ (256 ∷ codes "/dumps")) path → HasForm Dumps path
-dumps_form path h =
-    let x = word_piece_more (codes "/hosts/") hosts_word (codes "/dumps") path h in
-    (x.0, x.2, x.3 ∙ ap (λ p. codes "/hosts/" ++ (x.0 ++ p)) (word_end (codes "/dumps") (search rules) x.1 x.4))
+of_host_form : (end : List ℕ) → fits end ≡ true → (path : List ℕ) → Takes (codes "/hosts/" ++ (256 ∷ end)) path
+    → IsPieceBetween (codes "/hosts/") end path
+of_host_form end fit path h = word_piece_word (codes "/hosts/") end hosts_word fit path h
 
-entry_form : (path : List ℕ) → Takes (codes "/dumps/" ++ (256 ∷ codes "/entry")) path → HasForm Entry path
-entry_form path h =
-    let x = word_piece_more (codes "/dumps/") dumps_word (codes "/entry") path h in
-    (x.0, x.2, x.3 ∙ ap (λ p. codes "/dumps/" ++ (x.0 ++ p)) (word_end (codes "/entry") (search rules) x.1 x.4))
-
-commit_form : (path : List ℕ) → Takes (codes "/dumps/" ++ (256 ∷ codes "/commit")) path → HasForm Commit path
-commit_form path h =
-    let x = word_piece_more (codes "/dumps/") dumps_word (codes "/commit") path h in
-    (x.0, x.2, x.3 ∙ ap (λ p. codes "/dumps/" ++ (x.0 ++ p)) (word_end (codes "/commit") (search rules) x.1 x.4))
-
-file_form : (path : List ℕ) → Takes (codes "/hosts/" ++ (256 ∷ codes "/backups/" ++ (256 ∷ codes "/file"))) path → HasForm BackupFile path
-file_form path h =
-    let x = word_piece_more (codes "/hosts/") hosts_word (codes "/backups/" ++ (256 ∷ codes "/file")) path h in
-    let y = word_piece_more (codes "/backups/") backups_word (codes "/file") x.1 x.4 in
-    let end : y.1 ≡ codes "/file" = word_end (codes "/file") (search rules) y.1 y.4 in
-    (x.0, y.0, x.2, y.2, x.3 ∙ ap (λ p. codes "/hosts/" ++ (x.0 ++ p)) (y.3 ∙ ap (λ p. codes "/backups/" ++ (y.0 ++ p)) end))
+of_dump_form : (end : List ℕ) → fits end ≡ true → (path : List ℕ) → Takes (codes "/dumps/" ++ (256 ∷ end)) path
+    → IsPieceBetween (codes "/dumps/") end path
+of_dump_form end fit path h = word_piece_word (codes "/dumps/") end dumps_word fit path h
 
 -- what the tokens of a route take has its form
-form_of : (t path : List ℕ) (r : Route) → Has t r patterns → Takes t path → HasForm r path
-form_of t path r (inl e) takes = subst (λ k. HasForm k path) e.1 (commit_form path (subst (λ u. Takes u path) (sym e.0) takes))
-form_of t path r (inr (inl e)) takes = subst (λ k. HasForm k path) e.1 (entry_form path (subst (λ u. Takes u path) (sym e.0) takes))
-form_of t path r (inr (inr (inl e))) takes = subst (λ k. HasForm k path) e.1 (file_form path (subst (λ u. Takes u path) (sym e.0) takes))
-form_of t path r (inr (inr (inr (inl e)))) takes = subst (λ k. HasForm k path) e.1 (dumps_form path (subst (λ u. Takes u path) (sym e.0) takes))
-form_of t path r (inr (inr (inr (inr (inl e))))) takes = subst (λ k. HasForm k path) e.1 (host_form path (subst (λ u. Takes u path) (sym e.0) takes))
-form_of t path r (inr (inr (inr (inr (inr e))))) takes = absurd e
+form_of : (route : Route) (path : List ℕ) → Takes (tokens route) path → HasForm route path
+form_of Hosts path h = word (codes "/hosts") path refl h
+form_of Host path h = word_piece (codes "/hosts/") hosts_word path h
+form_of Rules path h = of_host_form (codes "/rules") refl path h
+form_of Dumps path h = of_host_form (codes "/dumps") refl path h
+form_of Entry path h = of_dump_form (codes "/entry") refl path h
+form_of Commit path h = of_dump_form (codes "/commit") refl path h
+form_of Dump path h = word_piece (codes "/dumps/") dumps_word path h
+form_of Backups path h = of_host_form (codes "/backups") refl path h
+form_of Backup path h = backup_form path h
+form_of BackupList path h = of_backup_form (codes "/list") refl path h
+form_of BackupEntry path h = of_backup_form (codes "/entry") refl path h
+form_of BackupFile path h = of_backup_form (codes "/file") refl path h
+form_of Restores path h = of_backup_form (codes "/restores") refl path h
+form_of Keep path h = of_backup_form (codes "/keep") refl path h
+form_of Next path h = word_piece_word (codes "/restores/") (codes "/next") restores_word refl path h
+form_of Restore path h = word_piece (codes "/restores/") restores_word path h
+form_of Expire path h = of_host_form (codes "/expire") refl path h
+form_of Contacts path h = of_host_form (codes "/contacts") refl path h
+form_of Due path h = of_host_form (codes "/due") refl path h
+form_of Clean path h = word (codes "/night/clean") path refl h
+form_of Sweep path h = word (codes "/night/sweep") path refl h
+form_of Stats path h = word (codes "/stats") path refl h
+form_of Reopen path h = word (codes "/reopen") path refl h
+
+-- a row of the table has the tokens of its route
+tokens_of : (routes : List Route) (t : List ℕ) (route : Route) → Has t route (map (λ r. (tokens r, r)) routes) → t ≡ tokens route
+tokens_of [] t route has = absurd has
+tokens_of (r ∷ routes) t route (inl same) = sym same.0 ∙ ap tokens same.1
+tokens_of (r ∷ routes) t route (inr has) = tokens_of routes t route has
 
 -- the route of a path is what the search over the tokens finds
 same_route : (found : Option (RouteOf Route)) → map_key (λ r. r.value) found ≡ option_map (λ r. r.value) found
@@ -116,52 +156,7 @@ route_is_first path = sym (same_route (first table path)) ∙ first-patterns pat
 pub routes_have_forms : (path : List ℕ) (route : Route) → route_of path ≡ Some route → HasForm route path
 routes_have_forms path route found =
     let x = sound path 0 patterns route (omega arith) (sym (route_is_first path) ∙ found) in
-    form_of x.0 path route x.1 x.2
-
--- the form of a route, found by its pieces
-
-bytes_dropped : (w more : List ℕ) → AreBytes (w ++ more) → AreBytes more
-bytes_dropped [] more all = all
-bytes_dropped (x ∷ w) more all = bytes_dropped w more (All-tail (λ c. c < 256) x (w ++ more) all)
-
-first_byte : (b : ℕ) (h : List ℕ) → AreBytes (b ∷ h) → b < 256
-first_byte b h all = All-head (λ c. c < 256) b h all
-
-host_found : (piece : List ℕ) → IsPiece piece → AreBytes (codes "/hosts/" ++ piece) → first patterns (codes "/hosts/" ++ piece) ≡ Some Host
-host_found [] ok all = absurd (omega (arith, ok.0))
-host_found (b ∷ h) ok all = finds_host b h ok.1 (first_byte b h (bytes_dropped (codes "/hosts/") (b ∷ h) all))
-
-dumps_found : (piece : List ℕ) → IsPiece piece → AreBytes (codes "/hosts/" ++ (piece ++ codes "/dumps"))
-    → first patterns (codes "/hosts/" ++ (piece ++ codes "/dumps")) ≡ Some Dumps
-dumps_found [] ok all = absurd (omega (arith, ok.0))
-dumps_found (b ∷ h) ok all = finds_dumps b h ok.1 (first_byte b (h ++ codes "/dumps") (bytes_dropped (codes "/hosts/") ((b ∷ h) ++ codes "/dumps") all))
-
-entry_found : (piece : List ℕ) → IsPiece piece → AreBytes (codes "/dumps/" ++ (piece ++ codes "/entry"))
-    → first patterns (codes "/dumps/" ++ (piece ++ codes "/entry")) ≡ Some Entry
-entry_found [] ok all = absurd (omega (arith, ok.0))
-entry_found (b ∷ h) ok all = finds_entry b h ok.1 (first_byte b (h ++ codes "/entry") (bytes_dropped (codes "/dumps/") ((b ∷ h) ++ codes "/entry") all))
-
-commit_found : (piece : List ℕ) → IsPiece piece → AreBytes (codes "/dumps/" ++ (piece ++ codes "/commit"))
-    → first patterns (codes "/dumps/" ++ (piece ++ codes "/commit")) ≡ Some Commit
-commit_found [] ok all = absurd (omega (arith, ok.0))
-commit_found (b ∷ h) ok all = finds_commit b h ok.1 (first_byte b (h ++ codes "/commit") (bytes_dropped (codes "/dumps/") ((b ∷ h) ++ codes "/commit") all))
-
-file_found : (host number : List ℕ) → IsPiece host → IsPiece number
-    → AreBytes (codes "/hosts/" ++ (host ++ (codes "/backups/" ++ (number ++ codes "/file"))))
-    → first patterns (codes "/hosts/" ++ (host ++ (codes "/backups/" ++ (number ++ codes "/file")))) ≡ Some BackupFile
-file_found [] number ok ok' all = absurd (omega (arith, ok.0))
-file_found (b ∷ h) [] ok ok' all = absurd (omega (arith, ok'.0))
-file_found (b ∷ h) (c ∷ n) ok ok' all =
-    let behind = bytes_dropped (codes "/hosts/") ((b ∷ h) ++ (codes "/backups/" ++ ((c ∷ n) ++ codes "/file"))) all in
-    let more = bytes_dropped (codes "/backups/") ((c ∷ n) ++ codes "/file") (bytes_dropped (b ∷ h) (codes "/backups/" ++ ((c ∷ n) ++ codes "/file")) behind) in
-    finds_file b h c n ok.1 (first_byte b (h ++ (codes "/backups/" ++ ((c ∷ n) ++ codes "/file"))) behind) ok'.1 (first_byte c (n ++ codes "/file") more)
-
-found_first : (route : Route) (path : List ℕ) → AreBytes path → HasForm route path → first patterns path ≡ Some route
-found_first Host path all f = subst (λ p. first patterns p ≡ Some Host) (sym f.2) (host_found f.0 f.1 (subst AreBytes f.2 all))
-found_first Dumps path all f = subst (λ p. first patterns p ≡ Some Dumps) (sym f.2) (dumps_found f.0 f.1 (subst AreBytes f.2 all))
-found_first Entry path all f = subst (λ p. first patterns p ≡ Some Entry) (sym f.2) (entry_found f.0 f.1 (subst AreBytes f.2 all))
-found_first Commit path all f = subst (λ p. first patterns p ≡ Some Commit) (sym f.2) (commit_found f.0 f.1 (subst AreBytes f.2 all))
-found_first BackupFile path all f = subst (λ p. first patterns p ≡ Some BackupFile) (sym f.4) (file_found f.0 f.1 f.2 f.3 (subst AreBytes f.4 all))
+    form_of route path (subst (λ t. Takes t path) (tokens_of in_order x.0 route x.1) x.2)
 
 pub forms_have_routes : (path : List ℕ) (route : Route) → AreBytes path → HasForm route path → route_of path ≡ Some route
 forms_have_routes path route all form = route_is_first path ∙ found_first route path all form

@@ -1,3 +1,4 @@
+pub mod FindLemmas
 pub mod FormLemmas
 pub mod PathLemmas
 pub mod SoundLemmas

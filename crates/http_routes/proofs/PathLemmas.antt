@@ -11,7 +11,6 @@ use Rattle.matchit.specs.Router.{rename, map_key}
 use Rattle.matchit.proofs.RenameLemmas.{first-rename}
 use Rattle.matchit.proofs.OnLiterals.{matchit_on_literals}
 use Rattle.http_routes.specs.declared.route.Route.{Route}
-use Rattle.http_routes.specs.declared.route.Route.TheVariants.{Host, Dumps, Entry, Commit, BackupFile}
 use Rattle.http_routes.specs.Table.{table, patterns}
 use Rattle.http_routes.specs.Forms.{IsWhole}
 
@@ -135,15 +134,15 @@ pub first-patterns : (path : List ℕ) → map_key (λ r. r.value) (first table 
 first-patterns path = sym (first-rename (λ r. r.value) table path) ∙ ap (λ rs. first rs path) rows-patterns
 
 -- the rows after some bytes, and whether no parameter stands among those bytes
-abbrev steps : {K : Type 0} → List ℕ → RowsOf K → RowsOf K
+abbrev pub steps : {K : Type 0} → List ℕ → RowsOf K → RowsOf K
 steps [] rs = rs
 steps (b ∷ w) rs = steps w (step b rs)
 
-abbrev is_nil : {A : Type 0} → List A → Bool
+abbrev pub is_nil : {A : Type 0} → List A → Bool
 is_nil [] = true
 is_nil (x ∷ xs) = false
 
-abbrev is_plain_along : {K : Type 0} → List ℕ → RowsOf K → Bool
+abbrev pub is_plain_along : {K : Type 0} → List ℕ → RowsOf K → Bool
 is_plain_along [] rs = true
 is_plain_along (b ∷ w) rs = (is_nil (step 256 rs) && is_nil (step 257 rs)) && is_plain_along w (step b rs)
 
@@ -152,7 +151,7 @@ nil_of [] h = refl
 nil_of (x ∷ xs) h = cc h
 
 module _ {K : Type 0} where
-  seek-bytes : (w : List ℕ) (rs : RowsOf K) (p : List ℕ) → is_plain_along w rs ≡ true → seek 0 rs (w ++ p) ≡ seek 0 (steps w rs) p
+  pub seek-bytes : (w : List ℕ) (rs : RowsOf K) (p : List ℕ) → is_plain_along w rs ≡ true → seek 0 rs (w ++ p) ≡ seek 0 (steps w rs) p
   unfolding seek
   seek-bytes [] rs p h = refl
   seek-bytes (b ∷ w) rs p h =
@@ -164,75 +163,6 @@ module _ {K : Type 0} where
       (seek-bytes w (step b rs) p more)
 
 -- literal bytes to the end of the path
-seek-all : {K : Type 0} (w : List ℕ) (rs : RowsOf K) → is_plain_along w rs ≡ true → seek 0 rs w ≡ own (steps w rs)
+pub seek-all : {K : Type 0} (w : List ℕ) (rs : RowsOf K) → is_plain_along w rs ≡ true → seek 0 rs w ≡ own (steps w rs)
 unfolding seek
 seek-all {K} w rs h = ap (λ p. seek 0 rs p) (sym (append-nil w)) ∙ seek-bytes w rs [] h
-
-abbrev host_rows : RowsOf Route
-host_rows = steps (codes "/hosts/") patterns
-
-abbrev at_piece : {K : Type 0} → RowsOf K → RowsOf K
-at_piece rs = with_suffix (47 ∷ []) (step 256 rs)
-
-abbrev dump_rows : RowsOf Route
-dump_rows = steps (codes "/dumps/") patterns
-
-abbrev backup_rows : RowsOf Route
-backup_rows = steps (codes "/backups/") (at_piece host_rows)
-
--- `/hosts/PIECE`
-pub finds_host : (b : ℕ) (h : List ℕ) → IsWhole (b ∷ h) → b < 256 → first patterns (codes "/hosts/" ++ (b ∷ h)) ≡ Some Host
-finds_host b h ok byte =
-    let ne : (256 == b) ≡ false = ne_eqb 256 b (λ e. omega arith) in
-    let no_byte : step b host_rows ≡ [] = rw ne refl in
-    let none : longest_suffix (b ∷ h) (step 256 host_rows) ≡ [] = rw (cuts-end b h ok) refl in
-    seek-bytes (codes "/hosts/") patterns (b ∷ h) refl ∙ seek-last host_rows b h ok no_byte refl none
-
--- `/hosts/PIECE/dumps`
-pub finds_dumps : (b : ℕ) (h : List ℕ) → IsWhole (b ∷ h) → b < 256
-    → first patterns (codes "/hosts/" ++ ((b ∷ h) ++ codes "/dumps")) ≡ Some Dumps
-finds_dumps b h ok byte =
-    let ne : (256 == b) ≡ false = ne_eqb 256 b (λ e. omega arith) in
-    let no_byte : step b host_rows ≡ [] = rw ne refl in
-    let longest : longest_suffix ((b ∷ h) ++ 47 ∷ []) (step 256 host_rows) ≡ 47 ∷ [] = rw (cuts-slash b h) refl in
-    seek-bytes (codes "/hosts/") patterns ((b ∷ h) ++ codes "/dumps") refl
-    ∙ seek-piece host_rows b h (codes "dumps") ok no_byte refl longest
-    ∙ seek-all (codes "/dumps") (at_piece host_rows) refl
-
--- `/hosts/PIECE/backups/PIECE/file`
-pub finds_file : (b : ℕ) (h : List ℕ) (c : ℕ) (n : List ℕ) → IsWhole (b ∷ h) → b < 256 → IsWhole (c ∷ n) → c < 256
-    → first patterns (codes "/hosts/" ++ ((b ∷ h) ++ (codes "/backups/" ++ ((c ∷ n) ++ codes "/file")))) ≡ Some BackupFile
-finds_file b h c n ok byte ok' byte' =
-    let ne : (256 == b) ≡ false = ne_eqb 256 b (λ e. omega arith) in
-    let no_byte : step b host_rows ≡ [] = rw ne refl in
-    let longest : longest_suffix ((b ∷ h) ++ 47 ∷ []) (step 256 host_rows) ≡ 47 ∷ [] = rw (cuts-slash b h) refl in
-    let ne' : (256 == c) ≡ false = ne_eqb 256 c (λ e. omega arith) in
-    let no_byte' : step c backup_rows ≡ [] = rw ne' refl in
-    let longest' : longest_suffix ((c ∷ n) ++ 47 ∷ []) (step 256 backup_rows) ≡ 47 ∷ [] = rw (cuts-slash c n) refl in
-    seek-bytes (codes "/hosts/") patterns ((b ∷ h) ++ (codes "/backups/" ++ ((c ∷ n) ++ codes "/file"))) refl
-    ∙ seek-piece host_rows b h (codes "backups/" ++ ((c ∷ n) ++ codes "/file")) ok no_byte refl longest
-    ∙ seek-bytes (codes "/backups/") (at_piece host_rows) ((c ∷ n) ++ codes "/file") refl
-    ∙ seek-piece backup_rows c n (codes "file") ok' no_byte' refl longest'
-    ∙ seek-all (codes "/file") (at_piece backup_rows) refl
-
--- `/dumps/PIECE/entry`
-pub finds_entry : (b : ℕ) (h : List ℕ) → IsWhole (b ∷ h) → b < 256
-    → first patterns (codes "/dumps/" ++ ((b ∷ h) ++ codes "/entry")) ≡ Some Entry
-finds_entry b h ok byte =
-    let ne : (256 == b) ≡ false = ne_eqb 256 b (λ e. omega arith) in
-    let no_byte : step b dump_rows ≡ [] = rw ne refl in
-    let longest : longest_suffix ((b ∷ h) ++ 47 ∷ []) (step 256 dump_rows) ≡ 47 ∷ [] = rw (cuts-slash b h) refl in
-    seek-bytes (codes "/dumps/") patterns ((b ∷ h) ++ codes "/entry") refl
-    ∙ seek-piece dump_rows b h (codes "entry") ok no_byte refl longest
-    ∙ seek-all (codes "/entry") (at_piece dump_rows) refl
-
--- `/dumps/PIECE/commit`
-pub finds_commit : (b : ℕ) (h : List ℕ) → IsWhole (b ∷ h) → b < 256
-    → first patterns (codes "/dumps/" ++ ((b ∷ h) ++ codes "/commit")) ≡ Some Commit
-finds_commit b h ok byte =
-    let ne : (256 == b) ≡ false = ne_eqb 256 b (λ e. omega arith) in
-    let no_byte : step b dump_rows ≡ [] = rw ne refl in
-    let longest : longest_suffix ((b ∷ h) ++ 47 ∷ []) (step 256 dump_rows) ≡ 47 ∷ [] = rw (cuts-slash b h) refl in
-    seek-bytes (codes "/dumps/") patterns ((b ∷ h) ++ codes "/commit") refl
-    ∙ seek-piece dump_rows b h (codes "commit") ok no_byte refl longest
-    ∙ seek-all (codes "/commit") (at_piece dump_rows) refl

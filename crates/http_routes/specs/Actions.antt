@@ -19,11 +19,29 @@ Row = List ℕ × Action
 
 -- what a route is for, by the methods that it takes
 abbrev pub actions_of : Route → List Row
+actions_of R.Hosts = (codes "GET", A.Hosts) ∷ []
 actions_of R.Host = (codes "PUT", A.AddHost) ∷ []
+actions_of R.Rules = (codes "PUT", A.SetRules) ∷ []
 actions_of R.Dumps = (codes "POST", A.OpenDump) ∷ []
-actions_of R.Entry = (codes "PUT", A.Put) ∷ []
+actions_of R.Entry = (codes "PUT", A.Put) ∷ (codes "DELETE", A.Remove) ∷ []
 actions_of R.Commit = (codes "POST", A.Commit) ∷ []
+actions_of R.Dump = (codes "DELETE", A.Abort) ∷ []
+actions_of R.Backups = (codes "GET", A.Backups) ∷ []
+actions_of R.Backup = (codes "DELETE", A.Delete) ∷ []
+actions_of R.BackupList = (codes "GET", A.List) ∷ []
+actions_of R.BackupEntry = (codes "GET", A.Lookup) ∷ []
 actions_of R.BackupFile = (codes "GET", A.ReadFile) ∷ []
+actions_of R.Restores = (codes "POST", A.OpenRead) ∷ []
+actions_of R.Keep = (codes "POST", A.Keep) ∷ []
+actions_of R.Next = (codes "GET", A.ReadNext) ∷ []
+actions_of R.Restore = (codes "DELETE", A.CloseRead) ∷ []
+actions_of R.Expire = (codes "POST", A.Expire) ∷ []
+actions_of R.Contacts = (codes "POST", A.Contact) ∷ []
+actions_of R.Due = (codes "GET", A.Due) ∷ []
+actions_of R.Clean = (codes "POST", A.Clean) ∷ []
+actions_of R.Sweep = (codes "POST", A.Sweep) ∷ []
+actions_of R.Stats = (codes "GET", A.Stats) ∷ []
+actions_of R.Reopen = (codes "POST", A.Reopen) ∷ []
 
 -- what the first row of this method asks for
 abbrev pub asked_by : List ℕ → List Row → Option Action

@@ -6,11 +6,30 @@ use crate::route::Route;
 /// What a request asks for: the kind of its event.
 #[derive(Clone, Copy, Debug, PartialEq, Eq)]
 pub enum Action {
+    Hosts,
     AddHost,
+    SetRules,
     OpenDump,
     Put,
+    Remove,
     Commit,
+    Abort,
+    Backups,
+    Delete,
+    List,
+    Lookup,
     ReadFile,
+    OpenRead,
+    Keep,
+    ReadNext,
+    CloseRead,
+    Expire,
+    Contact,
+    Due,
+    Clean,
+    Sweep,
+    Stats,
+    Reopen,
 }
 
 impl Route {
@@ -19,11 +38,29 @@ impl Route {
         ensures { map row_of result.now ≡ actions_of self }
     {
         match self {
+            Route::Hosts => &[("GET", Action::Hosts)],
             Route::Host => &[("PUT", Action::AddHost)],
+            Route::Rules => &[("PUT", Action::SetRules)],
             Route::Dumps => &[("POST", Action::OpenDump)],
-            Route::Entry => &[("PUT", Action::Put)],
+            Route::Entry => &[("PUT", Action::Put), ("DELETE", Action::Remove)],
             Route::Commit => &[("POST", Action::Commit)],
+            Route::Dump => &[("DELETE", Action::Abort)],
+            Route::Backups => &[("GET", Action::Backups)],
+            Route::Backup => &[("DELETE", Action::Delete)],
+            Route::BackupList => &[("GET", Action::List)],
+            Route::BackupEntry => &[("GET", Action::Lookup)],
             Route::BackupFile => &[("GET", Action::ReadFile)],
+            Route::Restores => &[("POST", Action::OpenRead)],
+            Route::Keep => &[("POST", Action::Keep)],
+            Route::Next => &[("GET", Action::ReadNext)],
+            Route::Restore => &[("DELETE", Action::CloseRead)],
+            Route::Expire => &[("POST", Action::Expire)],
+            Route::Contacts => &[("POST", Action::Contact)],
+            Route::Due => &[("GET", Action::Due)],
+            Route::Clean => &[("POST", Action::Clean)],
+            Route::Sweep => &[("POST", Action::Sweep)],
+            Route::Stats => &[("GET", Action::Stats)],
+            Route::Reopen => &[("POST", Action::Reopen)],
         }
     }
 
@@ -40,9 +77,26 @@ impl Route {
         ensures short { length (allow_of self) ≤ 64 }
     {
         match self {
-            Route::Host | Route::Entry => "PUT",
-            Route::Dumps | Route::Commit => "POST",
-            Route::BackupFile => "GET",
+            Route::Entry => "PUT, DELETE",
+            Route::Hosts
+            | Route::Backups
+            | Route::BackupList
+            | Route::BackupEntry
+            | Route::BackupFile
+            | Route::Next
+            | Route::Due
+            | Route::Stats => "GET",
+            Route::Host | Route::Rules => "PUT",
+            Route::Dumps
+            | Route::Commit
+            | Route::Restores
+            | Route::Keep
+            | Route::Expire
+            | Route::Contacts
+            | Route::Clean
+            | Route::Sweep
+            | Route::Reopen => "POST",
+            Route::Dump | Route::Backup | Route::Restore => "DELETE",
         }
     }
 }

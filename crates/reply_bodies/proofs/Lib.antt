@@ -1,2 +1,4 @@
+pub mod Names
 pub mod Plain
 pub mod PlainReplies
+pub mod Tokens

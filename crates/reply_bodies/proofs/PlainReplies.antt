@@ -1,6 +1,6 @@
 -- Short replies are of plain texts.
-use Rattle.std.proofs.Common.{◌≡◌, ℕ, ◌<◌, ◌≤◌, ◌^◌, Bool, true, false, ◌&&◌, ◌||◌, not, ◌==◌, List, [], ◌∷◌, ◌++◌, length, Option, Some, None, refl, sym, ap, ◌∙◌, subst, arith, codes, zero, suc, ◌/◌, ◌%◌, All, slice_index}
-use Rattle.std.specs.Prelude.{nat_le, nat_lt, decimal}
+use Rattle.std.proofs.Common.{◌≡◌, ℕ, ◌<◌, ◌≤◌, ◌^◌, Bool, true, false, ◌&&◌, List, [], ◌∷◌, ◌++◌, length, Option, Some, None, refl, subst, arith, codes, zero, suc, ◌/◌, ◌%◌, All, slice_index}
+use Rattle.std.specs.Prelude.{nat_le, decimal}
 use Rattle.std.specs.List.{list_all}
 use Rattle.std.specs.Str.Parse.{AllDigits}
 use Rattle.std.proofs.lemmas.Bool.Decides.{nat_tests}
@@ -8,20 +8,21 @@ use Rattle.std.proofs.lemmas.Grind.{common_steps}
 use Rattle.std.proofs.lemmas.Str.Parse.{digit_from_value}
 use Rattle.std.proofs.lemmas.Fmt.{decimal_is_IsNumeral}
 use Rattle.attr_records.specs.Names.{is_host_name, is_host_byte, begins_with_letter_or_digit}
-use Rattle.serde_json.specs.Written.{compact_text}
-use Rattle.first_model.specs.declared.session.SessionName.{SessionName}
-use Rattle.first_model.specs.declared.event.Event.{Event}
-use Rattle.first_model.specs.declared.event.Event.TheVariants as E
-use Rattle.first_model.specs.declared.event.Answer.{Answer}
-use Rattle.first_model.specs.declared.event.Answer.TheVariants as A
-use Rattle.reply_bodies.specs.Objects.{Field, Text, Count, is_plain_byte, is_plain_text, are_plain, object_of, object_text}
-use Rattle.reply_bodies.specs.Replies.{done_fields, short_fields, refusal_fields}
-use Rattle.first_model.specs.Session.{session_text}
-use Rattle.first_model.specs.RuleNames.{rule_name, put_rule_name}
-use Rattle.first_model.specs.declared.event.BrokenRule.{BrokenRule}
-use Rattle.first_model.specs.declared.event.BrokenRule.TheVariants as B
-use Rattle.first_model.specs.declared.event.Refusal.{Refusal}
-use Rattle.first_model.specs.declared.event.Refusal.TheVariants.{Broken, Halted, DiskFault, Damaged, Memory}
+use Rattle.office_model.specs.declared.session.SessionName.{SessionName}
+use Rattle.office_model.specs.declared.event.Event.{Event}
+use Rattle.office_model.specs.declared.event.Event.TheVariants as E
+use Rattle.office_model.specs.declared.answer.Answer.{Answer}
+use Rattle.office_model.specs.declared.answer.Answer.TheVariants as A
+use Rattle.reply_bodies.specs.Objects.{Field, is_plain_byte, is_plain_text, are_plain}
+use Rattle.reply_bodies.specs.Replies.{done_fields, due_text, short_fields, refusal_fields}
+use Rattle.backup_rules.specs.declared.lines.Kind.{Kind}
+use Rattle.backup_rules.specs.declared.lines.Kind.TheVariants.{Full, Incr}
+use Rattle.office_model.specs.Session.{session_text}
+use Rattle.office_model.specs.RuleNames.{rule_name, put_rule_name}
+use Rattle.office_model.specs.declared.refusal.BrokenRule.{BrokenRule}
+use Rattle.office_model.specs.declared.refusal.BrokenRule.TheVariants as B
+use Rattle.office_model.specs.declared.refusal.Refusal.{Refusal}
+use Rattle.office_model.specs.declared.refusal.Refusal.TheVariants.{Broken, Halted, DiskFault, Damaged, Memory}
 use Rattle.attr_records.specs.declared.trees.PutRule.{PutRule}
 use Rattle.attr_records.specs.declared.trees.PutRule.TheVariants.{NoParent, IsDirectory, TooManyEntries, FileTooLarge}
 use Rattle.disk_trait.specs.Names.{content_name, real_name}
@@ -78,18 +79,54 @@ same : (x y : List Field) → Some x ≡ Some y → x ≡ y
 same x y e = cc
 
 done_plain : (event : Event) → NamesHost event → are_plain (done_fields event) ≡ true
-done_plain (E.AddHost host) names = rw (host_plain host names) refl
+done_plain (E.AddHost host rules) names = rw (host_plain host names) refl
+done_plain (E.SetRules host change) names = refl
 done_plain (E.OpenDump host kind now) names = refl
-done_plain (E.Put dump path bytes) names = refl
+done_plain (E.Put dump path item) names = refl
+done_plain (E.Remove dump path) names = refl
 done_plain (E.Commit dump now) names = refl
+done_plain (E.Abort dump) names = refl
+done_plain (E.List host number directory) names = refl
+done_plain (E.Lookup host number path) names = refl
 done_plain (E.ReadFile host number path) names = refl
+done_plain (E.OpenRead host number) names = refl
+done_plain (E.ReadNext restore) names = refl
+done_plain (E.CloseRead restore) names = refl
+done_plain (E.Keep host number on) names = refl
+done_plain (E.Delete host number) names = refl
+done_plain (E.Expire host now) names = refl
+done_plain (E.Contact host good) names = refl
+done_plain (E.Due host now local) names = refl
+done_plain (E.Clean bucket) names = refl
+done_plain E.Sweep names = refl
+done_plain E.Stats names = refl
+done_plain E.Hosts names = refl
+done_plain (E.Backups host) names = refl
+done_plain E.Reopen names = refl
+
+due_plain : (kind : Option Kind) → is_plain_text (due_text kind) ≡ true
+due_plain None = refl
+due_plain (Some Full) = refl
+due_plain (Some Incr) = refl
 
 plain_fields : (event : Event) (answer : Answer) (fields : List Field) → NamesHost event → NamesSession answer
     → short_fields event answer ≡ Some fields → are_plain fields ≡ true
 plain_fields event A.Done fields h s e = subst (λ f. are_plain f ≡ true) (same _ fields e) (done_plain event h)
 plain_fields event (A.Dump name) fields h s e = subst (λ f. are_plain f ≡ true) (same _ fields e) (rw (session_plain name s) refl)
 plain_fields event (A.Committed n) fields h s e = subst (λ f. are_plain f ≡ true) (same _ fields e) refl
+plain_fields event (A.Restore name) fields h s e = subst (λ f. are_plain f ≡ true) (same _ fields e) (rw (session_plain name s) refl)
+plain_fields event (A.Expired n) fields h s e = subst (λ f. are_plain f ≡ true) (same _ fields e) refl
+plain_fields event (A.Contacts good bad) fields h s e = subst (λ f. are_plain f ≡ true) (same _ fields e) refl
+plain_fields event (A.Due blackout kind) fields h s e = subst (λ f. are_plain f ≡ true) (same _ fields e) (rw (due_plain kind) refl)
+plain_fields event (A.Cleaned marked unmarked removed) fields h s e = subst (λ f. are_plain f ≡ true) (same _ fields e) refl
+plain_fields event (A.Stats stats) fields h s e = subst (λ f. are_plain f ≡ true) (same _ fields e) refl
+plain_fields event (A.Reopened epoch) fields h s e = subst (λ f. are_plain f ≡ true) (same _ fields e) refl
+plain_fields event (A.Entries entries) fields h s e = absurd cc
+plain_fields event (A.Entry node) fields h s e = absurd cc
 plain_fields event (A.Content bytes) fields h s e = absurd cc
+plain_fields event (A.Next frame) fields h s e = absurd cc
+plain_fields event (A.Hosts names) fields h s e = absurd cc
+plain_fields event (A.Backups lines next dump) fields h s e = absurd cc
 
 pub short_replies : ShortRepliesAreJson
 short_replies event answer fields h s e = object_is fields (plain_fields event answer fields h s e)
@@ -111,8 +148,12 @@ rule_plain B.NumbersSpent = refl
 rule_plain B.NoSession = refl
 rule_plain (B.Put rule) = put_rule_plain rule
 rule_plain B.NoBackup = refl
+rule_plain B.ChainFull = refl
 rule_plain B.NoPath = refl
 rule_plain B.NotAFile = refl
+rule_plain B.NotADirectory = refl
+rule_plain B.Kept = refl
+rule_plain B.BadBucket = refl
 
 -- the digits of a byte
 plain_at : (text : List ℕ) (n : ℕ) → is_plain_text text ≡ true → n < length text → is_plain_byte (slice_index text n) ≡ true

@@ -2,7 +2,7 @@
 
 ghost use Rattle.std.specs.Prelude.{◌≡◌, ◌+◌, ◌≤◌, ◌++◌, [], ◌∷◌, length};
 ghost use Rattle.short_text.specs.Limits.{short_text_limit};
-ghost use Rattle.reply_bodies.specs.Objects.{Text as TextValue, Count, comma, text_field, number_field, object_text};
+ghost use Rattle.reply_bodies.specs.Objects.{Text as TextValue, Count, comma, flag_text, text_field, number_field, flag_field, object_text};
 
 use short_text::ShortText;
 
@@ -44,6 +44,33 @@ pub fn push_count(text: &mut ShortText, later: bool, key: &[u8], number: u64)
     text.push(key);
     text.push(b"\":");
     text.push_number(number);
+}
+
+/// Appends `true` or `false`.
+fn push_bool(text: &mut ShortText, flag: bool)
+    requires { length text.old + 5 ≤ short_text_limit }
+    ensures value { text.new ≡ text.old ++ flag_text flag }
+    ensures len { length text.new ≤ length text.old + 5 }
+{
+    if flag {
+        text.push(b"true");
+    } else {
+        text.push(b"false");
+    }
+}
+
+/// Appends a member whose value is a flag.
+#[tactic(auto, unfolding(crate::specs::Objects::flag_field))]
+pub fn push_flag(text: &mut ShortText, later: bool, key: &[u8], flag: bool)
+    requires { length text.old + length key.now + 9 ≤ short_text_limit }
+    ensures value { text.new ≡ text.old ++ flag_field later key.now flag }
+    ensures len { length text.new ≤ length text.old + length key.now + 9 }
+{
+    push_comma(text, later);
+    text.push(b"\"");
+    text.push(key);
+    text.push(b"\":");
+    push_bool(text, flag);
 }
 
 /// The object without members.

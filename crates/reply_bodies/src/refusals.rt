@@ -1,12 +1,12 @@
 ghost use Rattle.std.specs.Prelude.{◌≡◌, ◌≤◌, [], ◌∷◌, ◌++◌, length, codes, decimal};
 ghost use Rattle.disk_trait.specs.Names.{content_name, real_name};
-ghost use Rattle.first_model.specs.RuleNames.{rule_name, put_rule_name};
+ghost use Rattle.office_model.specs.RuleNames.{rule_name, put_rule_name};
 ghost use Rattle.reply_bodies.specs.Objects.{Text as TextValue, object_text};
 ghost use Rattle.reply_bodies.specs.Replies.{refused, refusal_fields};
 
 use crate::members::{empty, named, push_text};
 use disk_trait::{FileId, PoolId};
-use first_model::{BrokenRule, Refusal};
+use office_model::{BrokenRule, Refusal};
 use short_text::ShortText;
 
 /// The body that says why an event was refused. The response to want of memory has none.
@@ -31,7 +31,7 @@ pub fn refused_text(name: &[u8]) -> ShortText
 }
 
 /// The body that names a broken rule.
-#[tactic(auto, unfolding(first_model::specs::RuleNames::rule_name, first_model::specs::RuleNames::put_rule_name))]
+#[tactic(auto, unfolding(office_model::specs::RuleNames::rule_name, office_model::specs::RuleNames::put_rule_name))]
 fn rule_text(rule: BrokenRule) -> ShortText
     ensures { result ≡ object_text (refused (rule_name rule)) }
 {

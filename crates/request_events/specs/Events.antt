@@ -1,29 +1,58 @@
 -- From a plan, a body and a moment to the event.
-use Rattle.std.specs.Prelude.{ℕ, Bool, List, Ok, Err, is_some, if◌then◌else◌}
-use Rattle.first_model.specs.declared.event.Event.{Event}
-use Rattle.first_model.specs.declared.event.Event.TheVariants as E
-use Rattle.first_model.specs.declared.session.SessionName.{SessionName}
+--     event_of      the event of a plan
+--     event_asked      the event that a request asks for
+use Rattle.std.specs.Prelude.{ℕ, Bool, List, Ok, Err, is_some}
 use Rattle.http_heads.specs.Heads.{HeadParts}
-use Rattle.request_events.specs.declared.refusal.RequestRefusal.TheVariants.{NoLength}
+use Rattle.office_model.specs.declared.event.Event.{Event}
+use Rattle.office_model.specs.declared.event.Event.TheVariants as E
+use Rattle.office_model.specs.declared.session.SessionName.{SessionName}
+use Rattle.wake_schedule.specs.declared.zone.Local.{Local}
+use Rattle.wake_schedule.specs.Clock.{local_of}
+use Rattle.wake_schedule.specs.Zones.{ahead_at}
+use Rattle.request_events.specs.declared.defaults.Defaults.{Defaults}
+use Rattle.request_events.specs.declared.items.PlannedItem.{PlannedItem}
 use Rattle.request_events.specs.declared.plan.Plan.{Plan}
 use Rattle.request_events.specs.declared.plan.Plan.TheVariants as P
+use Rattle.request_events.specs.Items.{item_of}
 use Rattle.request_events.specs.Said.{Said, ◌>>=◌}
 use Rattle.request_events.specs.Plans.{planned}
 
--- the put of a file, whose length the head has to name
-abbrev pub put_event : SessionName → List ℕ → Bool → List ℕ → Said Event
-put_event dump path has_length body = if has_length then Ok (E.Put dump path body) else Err NoLength
+-- what the clock of the settings' zone shows at a moment
+abbrev pub local_in : Defaults → ℕ → Local
+local_in defaults moment = local_of moment (ahead_at defaults.zone moment)
 
--- the event of a plan with a body, whose length was named or not, and a moment
-abbrev pub event_of : Plan → Bool → List ℕ → ℕ → Said Event
-event_of (P.AddHost host) has_length body moment = Ok (E.AddHost host)
-event_of (P.OpenDump host kind) has_length body moment = Ok (E.OpenDump host kind moment)
-event_of (P.Put dump path) has_length body moment = put_event dump path has_length body
-event_of (P.Commit dump) has_length body moment = Ok (E.Commit dump moment)
-event_of (P.ReadFile host number path) has_length body moment = Ok (E.ReadFile host number path)
+abbrev pub put_event : SessionName → List ℕ → PlannedItem → Bool → List ℕ → Said Event
+put_event dump path item has_length body = item_of item has_length body >>= λ whole. Ok (E.Put dump path whole)
+
+-- the event of a plan with a body, whose length was named or not, a moment and the settings
+abbrev pub event_of : Plan → Bool → List ℕ → ℕ → Defaults → Said Event
+event_of P.Hosts has_length body moment defaults = Ok E.Hosts
+event_of (P.AddHost host) has_length body moment defaults = Ok (E.AddHost host defaults.rules)
+event_of (P.SetRules host change) has_length body moment defaults = Ok (E.SetRules host change)
+event_of (P.OpenDump host kind) has_length body moment defaults = Ok (E.OpenDump host kind moment)
+event_of (P.Put dump path item) has_length body moment defaults = put_event dump path item has_length body
+event_of (P.Remove dump path) has_length body moment defaults = Ok (E.Remove dump path)
+event_of (P.Commit dump) has_length body moment defaults = Ok (E.Commit dump moment)
+event_of (P.Abort dump) has_length body moment defaults = Ok (E.Abort dump)
+event_of (P.Backups host) has_length body moment defaults = Ok (E.Backups host)
+event_of (P.Delete host number) has_length body moment defaults = Ok (E.Delete host number)
+event_of (P.List host number directory) has_length body moment defaults = Ok (E.List host number directory)
+event_of (P.Lookup host number path) has_length body moment defaults = Ok (E.Lookup host number path)
+event_of (P.ReadFile host number path) has_length body moment defaults = Ok (E.ReadFile host number path)
+event_of (P.OpenRead host number) has_length body moment defaults = Ok (E.OpenRead host number)
+event_of (P.Keep host number on) has_length body moment defaults = Ok (E.Keep host number on)
+event_of (P.ReadNext restore) has_length body moment defaults = Ok (E.ReadNext restore)
+event_of (P.CloseRead restore) has_length body moment defaults = Ok (E.CloseRead restore)
+event_of (P.Expire host) has_length body moment defaults = Ok (E.Expire host moment)
+event_of (P.Contact host good) has_length body moment defaults = Ok (E.Contact host good)
+event_of (P.Due host) has_length body moment defaults = Ok (E.Due host moment (local_in defaults moment))
+event_of (P.Clean bucket) has_length body moment defaults = Ok (E.Clean bucket)
+event_of P.Sweep has_length body moment defaults = Ok E.Sweep
+event_of P.Stats has_length body moment defaults = Ok E.Stats
+event_of P.Reopen has_length body moment defaults = Ok E.Reopen
 
 -- the event that a request asks for, or why it is refused
-unfoldable pub event_asked : HeadParts → List ℕ → ℕ → Said Event
-event_asked head body moment = do
+unfoldable pub event_asked : HeadParts → List ℕ → ℕ → Defaults → Said Event
+event_asked head body moment defaults = do
   plan ← planned head
-  event_of plan (is_some head.content_length) body moment
+  event_of plan (is_some head.content_length) body moment defaults

@@ -1,7 +1,14 @@
+pub mod BackupPlans
+pub mod DumpPlans
 pub mod Events
+pub mod HostPlans
+pub mod Items
 pub mod Keys
 pub mod Names
+pub mod NightPlans
 pub mod Plans
+pub mod RestorePlans
+pub mod Rules
 pub mod Said
 pub mod Targets
 pub mod Values

@@ -1,14 +1,16 @@
 -- The values of a query.
-use Rattle.std.specs.Prelude.{ℕ, List, codes, Option, Some, None, Ok, Err, bytes_eq, if◌then◌else◌}
+--     value_in, value_or      the value of a key in a form, which must be there, or stands for another where it is absent
+--     path_in, place_in      the path that the query names;  the same, or the root
+use Rattle.std.specs.Prelude.{ℕ, Bool, true, false, List, codes, Option, Some, None, Ok, Err, bytes_eq, if◌then◌else◌}
+use Rattle.std.specs.Option.{option_map_or}
 use Rattle.attr_records.specs.PathRules.{broken_path_rule}
 use Rattle.attr_records.specs.declared.paths.BadPath.{BadPath}
-use Rattle.first_model.specs.declared.event.Kind.{Kind}
-use Rattle.first_model.specs.declared.event.Kind.TheVariants.{Full}
+use Rattle.backup_rules.specs.declared.lines.Kind.{Kind}
+use Rattle.backup_rules.specs.declared.lines.Kind.TheVariants.{Full, Incr}
 use Rattle.http_query.specs.declared.keys.QueryRule.TheVariants.{Missing, Value}
+use Rattle.http_query.specs.Numbers.{number_of}
 use Rattle.http_query.specs.Query.{Pair, value_of}
 use Rattle.request_events.specs.declared.refusal.RequestRefusal.TheVariants.{BadQuery, BadPath as RefusedPath}
-use Rattle.request_events.specs.declared.values.ItemKind.{ItemKind}
-use Rattle.request_events.specs.declared.values.ItemKind.TheVariants.{File}
 use Rattle.request_events.specs.Said.{Said, ◌>>=◌, or_refuse}
 
 -- the value of a key that must be there
@@ -19,11 +21,20 @@ text_in key pairs = or_refuse (BadQuery Missing) (value_of key pairs)
 abbrev pub value_in : {A : Type 0} → (List ℕ → Option A) → List ℕ → List Pair → Said A
 value_in form key pairs = text_in key pairs >>= λ text. or_refuse (BadQuery Value) (form text)
 
-abbrev pub dump_kind_of : List ℕ → Option Kind
-dump_kind_of text = if bytes_eq text (codes "full") then Some Full else None
+-- the value of a key in a form, or what stands for it where the key is absent
+abbrev pub value_or : {A : Type 0} → (List ℕ → Option A) → A → List ℕ → List Pair → Option A
+value_or form default key pairs = option_map_or form (value_of key pairs) (Some default)
 
-abbrev pub item_kind_of : List ℕ → Option ItemKind
-item_kind_of text = if bytes_eq text (codes "file") then Some File else None
+abbrev pub dump_kind_of : List ℕ → Option Kind
+dump_kind_of text = if bytes_eq text (codes "full") then Some Full else if bytes_eq text (codes "incr") then Some Incr else None
+
+-- 0 or 1
+abbrev pub flag_of : List ℕ → Option Bool
+flag_of text = if bytes_eq text (codes "0") then Some false else if bytes_eq text (codes "1") then Some true else None
+
+-- 0 to 255
+abbrev pub bucket_of : List ℕ → Option ℕ
+bucket_of text = number_of 255 text
 
 -- a text as a path, refused for the first rule of paths that it breaks
 abbrev pub path_or : List ℕ → Option BadPath → Said (List ℕ)
@@ -36,3 +47,11 @@ path_of_text text = path_or text (broken_path_rule text)
 -- the path that the query names
 abbrev pub path_in : List Pair → Said (List ℕ)
 path_in pairs = text_in (codes "path") pairs >>= path_of_text
+
+-- a path, or the root where there is none
+abbrev pub place_of_text : Option (List ℕ) → Said (Option (List ℕ))
+place_of_text None = Ok None
+place_of_text (Some text) = path_of_text text >>= λ path. Ok (Some path)
+
+abbrev pub place_in : List Pair → Said (Option (List ℕ))
+place_in pairs = place_of_text (value_of (codes "path") pairs)

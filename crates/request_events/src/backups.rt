@@ -1,20 +1,69 @@
-//! Requests for `/hosts/{host}/backups/{number}`.
+//! Requests for `/hosts/{host}/backups` and `/hosts/{host}/backups/{number}`.
 
 ghost use Rattle.request_events.specs.Said.{Says};
 ghost use Rattle.request_events.specs.Targets.{target_parts};
-ghost use Rattle.request_events.specs.Plans.{read_file_plan};
+ghost use Rattle.request_events.specs.BackupPlans.{list_backups_plan, delete_plan, list_entries_plan, look_up_plan, read_file_plan, open_read_plan, keep_plan};
 
 use crate::keys::taken;
 use crate::names::{host_in, number_in};
 use crate::plan::Plan;
 use crate::refusal::RequestFault;
 use crate::target::Target;
-use crate::values::path_in;
+use crate::values::{flag_in, path_in, place_in};
 use http_routes::Action;
 use std::alloc::Global;
 
+/// `GET /hosts/{host}/backups`
+#[tactic(auto, unfolding(crate::specs::BackupPlans::list_backups_plan))]
+pub fn list_backups(alloc: Global, target: &Target<'_>) -> Result<Plan, RequestFault>
+    ensures { Says result (list_backups_plan (target_parts target.now)) }
+{
+    let host = host_in(alloc, target.path)?;
+    taken(Action::Backups, &target.query)?;
+    Ok(Plan::Backups { host })
+}
+
+/// `DELETE /hosts/{host}/backups/{number}`
+#[tactic(auto, unfolding(crate::specs::BackupPlans::delete_plan))]
+pub fn delete(alloc: Global, target: &Target<'_>) -> Result<Plan, RequestFault>
+    ensures { Says result (delete_plan (target_parts target.now)) }
+{
+    let host = host_in(alloc, target.path)?;
+    let number = number_in(target.path)?;
+    taken(Action::Delete, &target.query)?;
+    Ok(Plan::Delete { host, number })
+}
+
+/// `GET /hosts/{host}/backups/{number}/list`
+#[tactic(auto, unfolding(crate::specs::BackupPlans::list_entries_plan))]
+pub fn list_entries(alloc: Global, target: &Target<'_>) -> Result<Plan, RequestFault>
+    ensures { Says result (list_entries_plan (target_parts target.now)) }
+{
+    let host = host_in(alloc, target.path)?;
+    let number = number_in(target.path)?;
+    taken(Action::List, &target.query)?;
+    let directory = place_in(alloc, &target.query)?;
+    Ok(Plan::List {
+        host,
+        number,
+        directory,
+    })
+}
+
+/// `GET /hosts/{host}/backups/{number}/entry`
+#[tactic(auto, unfolding(crate::specs::BackupPlans::look_up_plan))]
+pub fn look_up(alloc: Global, target: &Target<'_>) -> Result<Plan, RequestFault>
+    ensures { Says result (look_up_plan (target_parts target.now)) }
+{
+    let host = host_in(alloc, target.path)?;
+    let number = number_in(target.path)?;
+    taken(Action::Lookup, &target.query)?;
+    let path = path_in(alloc, &target.query)?;
+    Ok(Plan::Lookup { host, number, path })
+}
+
 /// `GET /hosts/{host}/backups/{number}/file`
-#[tactic(auto, unfolding(crate::specs::Plans::read_file_plan))]
+#[tactic(auto, unfolding(crate::specs::BackupPlans::read_file_plan))]
 pub fn read_file(alloc: Global, target: &Target<'_>) -> Result<Plan, RequestFault>
     ensures { Says result (read_file_plan (target_parts target.now)) }
 {
@@ -23,4 +72,27 @@ pub fn read_file(alloc: Global, target: &Target<'_>) -> Result<Plan, RequestFaul
     taken(Action::ReadFile, &target.query)?;
     let path = path_in(alloc, &target.query)?;
     Ok(Plan::ReadFile { host, number, path })
+}
+
+/// `POST /hosts/{host}/backups/{number}/restores`
+#[tactic(auto, unfolding(crate::specs::BackupPlans::open_read_plan))]
+pub fn open_read(alloc: Global, target: &Target<'_>) -> Result<Plan, RequestFault>
+    ensures { Says result (open_read_plan (target_parts target.now)) }
+{
+    let host = host_in(alloc, target.path)?;
+    let number = number_in(target.path)?;
+    taken(Action::OpenRead, &target.query)?;
+    Ok(Plan::OpenRead { host, number })
+}
+
+/// `POST /hosts/{host}/backups/{number}/keep`
+#[tactic(auto, unfolding(crate::specs::BackupPlans::keep_plan))]
+pub fn keep(alloc: Global, target: &Target<'_>) -> Result<Plan, RequestFault>
+    ensures { Says result (keep_plan (target_parts target.now)) }
+{
+    let host = host_in(alloc, target.path)?;
+    let number = number_in(target.path)?;
+    taken(Action::Keep, &target.query)?;
+    let on = flag_in(&target.query, "on")?;
+    Ok(Plan::Keep { host, number, on })
 }

@@ -1,23 +1,21 @@
 //! Requests for `/hosts/{host}/dumps` and `/dumps/{dump}`.
 
-ghost use Rattle.std.specs.Prelude.{◌≡◌};
 ghost use Rattle.request_events.specs.Said.{Says};
 ghost use Rattle.request_events.specs.Targets.{target_parts};
-ghost use Rattle.request_events.specs.Plans.{open_dump_plan, put_plan, put_as, commit_plan};
+ghost use Rattle.request_events.specs.DumpPlans.{open_dump_plan, put_plan, remove_plan, commit_plan, abort_plan};
 
+use crate::items::{item_kind_in, planned_item_in};
 use crate::keys::taken;
 use crate::names::{host_in, session_in};
 use crate::plan::Plan;
 use crate::refusal::RequestFault;
 use crate::target::Target;
-use crate::values::{ItemKind, dump_kind_in, item_kind_in, path_in};
-use attr_records::PathName;
-use first_model::SessionName;
+use crate::values::{dump_kind_in, path_in};
 use http_routes::Action;
 use std::alloc::Global;
 
 /// `POST /hosts/{host}/dumps`
-#[tactic(auto, unfolding(crate::specs::Plans::open_dump_plan))]
+#[tactic(auto, unfolding(crate::specs::DumpPlans::open_dump_plan))]
 pub fn open_dump(alloc: Global, target: &Target<'_>) -> Result<Plan, RequestFault>
     ensures { Says result (open_dump_plan (target_parts target.now)) }
 {
@@ -28,32 +26,52 @@ pub fn open_dump(alloc: Global, target: &Target<'_>) -> Result<Plan, RequestFaul
 }
 
 /// `PUT /dumps/{dump}/entry`
-#[tactic(auto, unfolding(crate::specs::Plans::put_plan))]
+#[tactic(auto, unfolding(crate::specs::DumpPlans::put_plan))]
 pub fn put(alloc: Global, target: &Target<'_>) -> Result<Plan, RequestFault>
     ensures { Says result (put_plan (target_parts target.now)) }
 {
     taken(Action::Put, &target.query)?;
     let kind = item_kind_in(&target.query)?;
+    let item = planned_item_in(kind, &target.query)?;
     let path = path_in(alloc, &target.query)?;
-    Ok(put_as(kind, session_in(target.path), path))
+    Ok(Plan::Put {
+        dump: session_in(target.path),
+        path,
+        item,
+    })
 }
 
-/// The put of an item of a kind.
-fn put_as(kind: ItemKind, dump: SessionName, path: PathName) -> Plan
-    ensures { result ≡ put_as kind dump path }
+/// `DELETE /dumps/{dump}/entry`
+#[tactic(auto, unfolding(crate::specs::DumpPlans::remove_plan))]
+pub fn remove(alloc: Global, target: &Target<'_>) -> Result<Plan, RequestFault>
+    ensures { Says result (remove_plan (target_parts target.now)) }
 {
-    match kind {
-        ItemKind::File => Plan::Put { dump, path },
-    }
+    taken(Action::Remove, &target.query)?;
+    let path = path_in(alloc, &target.query)?;
+    Ok(Plan::Remove {
+        dump: session_in(target.path),
+        path,
+    })
 }
 
 /// `POST /dumps/{dump}/commit`
-#[tactic(auto, unfolding(crate::specs::Plans::commit_plan))]
+#[tactic(auto, unfolding(crate::specs::DumpPlans::commit_plan))]
 pub fn commit(target: &Target<'_>) -> Result<Plan, RequestFault>
     ensures { Says result (commit_plan (target_parts target.now)) }
 {
     taken(Action::Commit, &target.query)?;
     Ok(Plan::Commit {
+        dump: session_in(target.path),
+    })
+}
+
+/// `DELETE /dumps/{dump}`
+#[tactic(auto, unfolding(crate::specs::DumpPlans::abort_plan))]
+pub fn abort(target: &Target<'_>) -> Result<Plan, RequestFault>
+    ensures { Says result (abort_plan (target_parts target.now)) }
+{
+    taken(Action::Abort, &target.query)?;
+    Ok(Plan::Abort {
         dump: session_in(target.path),
     })
 }

@@ -1,23 +1,76 @@
-//! Requests for `/hosts/{host}`.
+//! Requests for `/hosts` and `/hosts/{host}`.
 
 ghost use Rattle.request_events.specs.Said.{Says};
 ghost use Rattle.request_events.specs.Targets.{target_parts};
-ghost use Rattle.request_events.specs.Plans.{add_host_plan};
+ghost use Rattle.request_events.specs.HostPlans.{list_hosts_plan, add_host_plan, set_rules_plan, expire_plan, contact_plan, due_plan};
 
 use crate::keys::taken;
 use crate::names::host_in;
 use crate::plan::Plan;
 use crate::refusal::RequestFault;
+use crate::rules::change_in;
 use crate::target::Target;
+use crate::values::flag_in;
 use http_routes::Action;
 use std::alloc::Global;
 
+/// `GET /hosts`
+#[tactic(auto, unfolding(crate::specs::HostPlans::list_hosts_plan))]
+pub fn list_hosts(target: &Target<'_>) -> Result<Plan, RequestFault>
+    ensures { Says result (list_hosts_plan (target_parts target.now)) }
+{
+    taken(Action::Hosts, &target.query)?;
+    Ok(Plan::Hosts)
+}
+
 /// `PUT /hosts/{host}`
-#[tactic(auto, unfolding(crate::specs::Plans::add_host_plan))]
+#[tactic(auto, unfolding(crate::specs::HostPlans::add_host_plan))]
 pub fn add_host(alloc: Global, target: &Target<'_>) -> Result<Plan, RequestFault>
     ensures { Says result (add_host_plan (target_parts target.now)) }
 {
     let host = host_in(alloc, target.path)?;
     taken(Action::AddHost, &target.query)?;
     Ok(Plan::AddHost { host })
+}
+
+/// `PUT /hosts/{host}/rules`
+#[tactic(auto, unfolding(crate::specs::HostPlans::set_rules_plan))]
+pub fn set_rules(alloc: Global, target: &Target<'_>) -> Result<Plan, RequestFault>
+    ensures { Says result (set_rules_plan (target_parts target.now)) }
+{
+    let host = host_in(alloc, target.path)?;
+    taken(Action::SetRules, &target.query)?;
+    let change = change_in(alloc, &target.query)?;
+    Ok(Plan::SetRules { host, change })
+}
+
+/// `POST /hosts/{host}/expire`
+#[tactic(auto, unfolding(crate::specs::HostPlans::expire_plan))]
+pub fn expire(alloc: Global, target: &Target<'_>) -> Result<Plan, RequestFault>
+    ensures { Says result (expire_plan (target_parts target.now)) }
+{
+    let host = host_in(alloc, target.path)?;
+    taken(Action::Expire, &target.query)?;
+    Ok(Plan::Expire { host })
+}
+
+/// `POST /hosts/{host}/contacts`
+#[tactic(auto, unfolding(crate::specs::HostPlans::contact_plan))]
+pub fn contact(alloc: Global, target: &Target<'_>) -> Result<Plan, RequestFault>
+    ensures { Says result (contact_plan (target_parts target.now)) }
+{
+    let host = host_in(alloc, target.path)?;
+    taken(Action::Contact, &target.query)?;
+    let good = flag_in(&target.query, "good")?;
+    Ok(Plan::Contact { host, good })
+}
+
+/// `GET /hosts/{host}/due`
+#[tactic(auto, unfolding(crate::specs::HostPlans::due_plan))]
+pub fn due(alloc: Global, target: &Target<'_>) -> Result<Plan, RequestFault>
+    ensures { Says result (due_plan (target_parts target.now)) }
+{
+    let host = host_in(alloc, target.path)?;
+    taken(Action::Due, &target.query)?;
+    Ok(Plan::Due { host })
 }

@@ -1,11 +1,14 @@
-ghost use Rattle.std.specs.Prelude.{◌≡◌};
+ghost use Rattle.std.specs.Prelude.{◌≡◌, codes};
 ghost use Rattle.http_query.specs.Keys.{rows_of};
-ghost use Rattle.request_events.specs.Keys.{keys_of, taken};
+ghost use Rattle.http_query.specs.Query.{value_of};
+ghost use Rattle.request_events.specs.Keys.{put_keys, keys_of, taken};
 ghost use Rattle.request_events.specs.Said.{Says};
 
 use crate::refusal::{RequestFault, RequestRefusal};
 use http_query::{Key, Query};
 use http_routes::Action;
+
+// Keys that must be there if they are taken.
 
 const PATH: Key = Key {
     name: "path",
@@ -17,16 +20,161 @@ const KIND: Key = Key {
     needed: true,
 };
 
-/// The table of keys: those that each action takes.
-fn keys_of(action: Action) -> &'static [Key]
-    ensures { rows_of result.now ≡ keys_of action }
+const ON: Key = Key {
+    name: "on",
+    needed: true,
+};
+
+const GOOD: Key = Key {
+    name: "good",
+    needed: true,
+};
+
+const BUCKET: Key = Key {
+    name: "bucket",
+    needed: true,
+};
+
+// Keys that may be absent.
+
+const MODE: Key = Key {
+    name: "mode",
+    needed: false,
+};
+
+const UID: Key = Key {
+    name: "uid",
+    needed: false,
+};
+
+const GID: Key = Key {
+    name: "gid",
+    needed: false,
+};
+
+const MTIME: Key = Key {
+    name: "mtime",
+    needed: false,
+};
+
+const NANOS: Key = Key {
+    name: "nanos",
+    needed: false,
+};
+
+const GROUP: Key = Key {
+    name: "group",
+    needed: false,
+};
+
+/// The key `path` of a listing, which is of the root without it.
+const PLACE: Key = Key {
+    name: "path",
+    needed: false,
+};
+
+/// The keys of rules.
+const RULE_KEYS: [Key; 15] = [
+    Key {
+        name: "FillCycle",
+        needed: false,
+    },
+    Key {
+        name: "FullPeriod",
+        needed: false,
+    },
+    Key {
+        name: "IncrPeriod",
+        needed: false,
+    },
+    Key {
+        name: "FullKeepCnt",
+        needed: false,
+    },
+    Key {
+        name: "FullKeepCntMin",
+        needed: false,
+    },
+    Key {
+        name: "FullAgeMax",
+        needed: false,
+    },
+    Key {
+        name: "IncrKeepCnt",
+        needed: false,
+    },
+    Key {
+        name: "IncrKeepCntMin",
+        needed: false,
+    },
+    Key {
+        name: "IncrAgeMax",
+        needed: false,
+    },
+    Key {
+        name: "BlackoutGoodCnt",
+        needed: false,
+    },
+    Key {
+        name: "BlackoutBadPingLimit",
+        needed: false,
+    },
+    Key {
+        name: "BlackoutPeriods",
+        needed: false,
+    },
+    Key {
+        name: "OldAge",
+        needed: false,
+    },
+    Key {
+        name: "OldFullKeepCnt",
+        needed: false,
+    },
+    Key {
+        name: "OldIncrKeepCnt",
+        needed: false,
+    },
+];
+
+/// The keys of a put.
+const ENTRY_KEYS: [Key; 7] = [PATH, KIND, MODE, UID, GID, MTIME, NANOS];
+
+/// The keys of a put of a file.
+const FILE_KEYS: [Key; 8] = [PATH, KIND, MODE, UID, GID, MTIME, NANOS, GROUP];
+
+/// The keys of a put, by the kind that the query names.
+fn put_keys(query: &Query) -> &'static [Key]
+    ensures { rows_of result.now ≡ put_keys (value_of (codes "kind") query.now) }
+{
+    match query.value("kind") {
+        Some(text) => {
+            if text == "file" {
+                &FILE_KEYS
+            } else {
+                &ENTRY_KEYS
+            }
+        }
+        None => &ENTRY_KEYS,
+    }
+}
+
+/// The table of keys: those that each action takes. What isn't in it takes none.
+fn keys_of(action: Action, query: &Query) -> &'static [Key]
+    ensures { rows_of result.now ≡ keys_of action (value_of (codes "kind") query.now) }
 {
     match action {
-        Action::AddHost => &[],
+        Action::SetRules => &RULE_KEYS,
         Action::OpenDump => &[KIND],
-        Action::Put => &[PATH, KIND],
-        Action::Commit => &[],
+        Action::Put => put_keys(query),
+        Action::Remove => &[PATH],
+        Action::List => &[PLACE],
+        Action::Lookup => &[PATH],
         Action::ReadFile => &[PATH],
+        Action::Keep => &[ON],
+        Action::Contact => &[GOOD],
+        Action::Clean => &[BUCKET],
+        _ => &[],
     }
 }
 
@@ -34,7 +182,7 @@ fn keys_of(action: Action) -> &'static [Key]
 pub fn taken(action: Action, query: &Query) -> Result<(), RequestFault>
     ensures { Says result (taken action query.now) }
 {
-    match query.broken_rule(keys_of(action)) {
+    match query.broken_rule(keys_of(action, query)) {
         Some(rule) => Err(RequestFault::Refused(RequestRefusal::BadQuery(rule))),
         None => Ok(()),
     }

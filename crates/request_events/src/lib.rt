@@ -1,12 +1,13 @@
 //! From a request to the event that it asks for, or to why it is refused. It goes in two steps: the plan is what the head says, by
-//! its route and its query, before the body is read; the event is the plan with the body and the moment. The crate knows heads,
-//! routes, keys and events, and no link. Its main clauses are `Says result (planned head)` and
-//! `Says result (event_of plan has_length body moment)`.
+//! its route and its query, before the body is read; the event is the plan with the body, the moment and the settings. The crate
+//! knows heads, routes, keys and events, and no link. Its main clauses are `Says result (planned head)` and
+//! `Says result (event_of plan has_length body moment defaults)`.
 //!
 //! | Item | What it is |
 //! |---|---|
 //! | `plan_of`, `Plan` | what a head asks for |
-//! | `event_of` | the event of a plan, a body and a moment |
+//! | `event_of` | the event of a plan, a body, a moment and the settings |
+//! | `Defaults` | what the settings add: the rules of a new host, and the zone |
 //! | `event_asked` | both steps together |
 //! | `RequestRefusal` | why a request has no event, in the order in which that is judged |
 //! | `RequestFault` | a refusal, or want of memory |
@@ -14,26 +15,33 @@
 //! ```text
 //! let router = http_routes::router(alloc)?;
 //! let plan = plan_of(alloc, &router, &head)?;
-//! let event = event_of(plan, head.length().is_some(), body, clock.now())?;
+//! let event = event_of(alloc, plan, head.length().is_some(), body, clock.now(), &defaults)?;
 //! ```
 //!
-//! One more event is a row in the table of routes, one in the table of keys, a variant of `Plan` with its arm in `plan_for`, and
-//! an arm in `event_of`.
+//! One more event is a row in the table of routes, one in the table of keys if it takes any, a variant of `Plan` with its arm in
+//! `plan_for` and a function beside its neighbours, and an arm in `event_of`.
 #![tactic(auto)]
 
 mod backups;
+mod defaults;
 mod dumps;
 mod event;
 mod hosts;
+mod items;
 mod keys;
 mod names;
+mod night;
 mod plan;
 mod refusal;
+mod restores;
+mod rules;
 mod target;
 #[cfg(test)]
 mod tests;
 mod values;
 
+pub use defaults::Defaults;
 pub use event::{event_asked, event_of};
+pub use items::PlannedItem;
 pub use plan::{Plan, plan_of};
 pub use refusal::{RequestFault, RequestRefusal};

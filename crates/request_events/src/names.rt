@@ -4,9 +4,9 @@ ghost use Rattle.request_events.specs.Said.{Says};
 
 use crate::refusal::{RequestFault, RequestRefusal};
 use attr_records::{BadHostName, HostName};
-use first_model::SessionName;
 use http_query::read_number;
 use http_routes::{first_part, second_part};
+use office_model::SessionName;
 use std::alloc::Global;
 
 /// The host that a path names.

@@ -4,42 +4,107 @@ ghost use Rattle.request_events.specs.Said.{Says};
 ghost use Rattle.request_events.specs.Targets.{target_parts};
 ghost use Rattle.request_events.specs.Plans.{action_asked, plan_for, planned};
 
-use crate::backups::read_file;
-use crate::dumps::{commit, open_dump, put};
-use crate::hosts::add_host;
+use crate::backups::{delete, keep, list_backups, list_entries, look_up, open_read, read_file};
+use crate::dumps::{abort, commit, open_dump, put, remove};
+use crate::hosts::{add_host, contact, due, expire, list_hosts, set_rules};
+use crate::items::PlannedItem;
+use crate::night::{clean, reopen, stats, sweep};
 use crate::refusal::{RequestFault, RequestRefusal};
+use crate::restores::{close_read, read_next};
 use crate::target::Target;
 use attr_records::{HostName, PathName};
-use first_model::{Kind, SessionName};
+use backup_rules::{Kind, RuleChange};
 use http_heads::Head;
 use http_query::Query;
 use http_routes::{Action, Route, route_of, split_target};
 use matchit::Router;
+use office_model::SessionName;
 use std::alloc::Global;
 
-/// What a head asks for: an event without what its body and the moment add.
+/// What a head asks for: an event without what its body, the moment and the settings add.
 #[derive(Debug, Drop)]
 pub enum Plan {
+    Hosts,
     AddHost {
         host: HostName,
+    },
+    SetRules {
+        host: HostName,
+        change: RuleChange,
     },
     OpenDump {
         host: HostName,
         kind: Kind,
     },
-    /// A file, whose bytes are the body.
     Put {
+        dump: SessionName,
+        path: PathName,
+        item: PlannedItem,
+    },
+    Remove {
         dump: SessionName,
         path: PathName,
     },
     Commit {
         dump: SessionName,
     },
+    Abort {
+        dump: SessionName,
+    },
+    Backups {
+        host: HostName,
+    },
+    Delete {
+        host: HostName,
+        number: u32,
+    },
+    List {
+        host: HostName,
+        number: u32,
+        /// None is the root.
+        directory: Option<PathName>,
+    },
+    Lookup {
+        host: HostName,
+        number: u32,
+        path: PathName,
+    },
     ReadFile {
         host: HostName,
         number: u32,
         path: PathName,
     },
+    OpenRead {
+        host: HostName,
+        number: u32,
+    },
+    Keep {
+        host: HostName,
+        number: u32,
+        on: bool,
+    },
+    ReadNext {
+        restore: SessionName,
+    },
+    CloseRead {
+        restore: SessionName,
+    },
+    Expire {
+        host: HostName,
+    },
+    Contact {
+        host: HostName,
+        good: bool,
+    },
+    Due {
+        host: HostName,
+    },
+    Clean {
+        bucket: u8,
+    },
+    Sweep,
+    Stats,
+    Reopen,
 }
 
 /// What a head asks for, or why it is refused.
@@ -73,10 +138,29 @@ fn plan_for(alloc: Global, action: Action, target: &Target<'_>) -> Result<Plan, 
     ensures { Says result (plan_for action (target_parts target.now)) }
 {
     match action {
+        Action::Hosts => list_hosts(target),
         Action::AddHost => add_host(alloc, target),
+        Action::SetRules => set_rules(alloc, target),
         Action::OpenDump => open_dump(alloc, target),
         Action::Put => put(alloc, target),
+        Action::Remove => remove(alloc, target),
         Action::Commit => commit(target),
+        Action::Abort => abort(target),
+        Action::Backups => list_backups(alloc, target),
+        Action::Delete => delete(alloc, target),
+        Action::List => list_entries(alloc, target),
+        Action::Lookup => look_up(alloc, target),
         Action::ReadFile => read_file(alloc, target),
+        Action::OpenRead => open_read(alloc, target),
+        Action::Keep => keep(alloc, target),
+        Action::ReadNext => read_next(target),
+        Action::CloseRead => close_read(target),
+        Action::Expire => expire(alloc, target),
+        Action::Contact => contact(alloc, target),
+        Action::Due => due(alloc, target),
+        Action::Clean => clean(target),
+        Action::Sweep => sweep(target),
+        Action::Stats => stats(target),
+        Action::Reopen => reopen(target),
     }
 }

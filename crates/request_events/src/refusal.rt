@@ -18,6 +18,8 @@ pub enum RequestRefusal {
     BadQuery(QueryRule),
     /// The first rule of paths that the value of `path` breaks.
     BadPath(BadPath),
+    /// The body is no target of a link.
+    BadTarget,
     /// A file's bytes came without their number.
     NoLength,
 }

@@ -1,29 +1,27 @@
-ghost use Rattle.std.specs.Prelude.{◌≡◌, Option, codes};
+ghost use Rattle.std.specs.Prelude.{◌≡◌, codes};
 ghost use Rattle.http_query.specs.declared.keys.QueryRule.TheVariants.{Value};
 ghost use Rattle.request_events.specs.Said.{Says, or_refuse};
-ghost use Rattle.request_events.specs.Values.{value_in, dump_kind_of, item_kind_of, path_of_text, path_in};
+ghost use Rattle.request_events.specs.Values.{value_in, dump_kind_of, flag_of, bucket_of, path_of_text, path_in, place_in};
 ghost use Rattle.request_events.specs.declared.refusal.RequestRefusal.TheVariants.{BadQuery};
 
 use crate::refusal::{RequestFault, RequestRefusal};
 use attr_records::{BadPath, PathName};
-use first_model::Kind;
-use http_query::{Query, QueryRule};
+use backup_rules::Kind;
+use http_query::{Query, QueryRule, read_number};
 use std::alloc::Global;
 
-/// The kinds of an item.
-#[derive(Clone, Copy, Debug, PartialEq, Eq)]
-pub enum ItemKind {
-    File,
-}
-
 /// What a value of another form is answered.
-const BAD_VALUE: RequestFault = RequestFault::Refused(RequestRefusal::BadQuery(QueryRule::Value));
+pub const BAD_VALUE: RequestFault = RequestFault::Refused(RequestRefusal::BadQuery(
+    QueryRule::Value,
+));
 
 /// What the absence of a needed key is answered.
-const MISSING: RequestFault = RequestFault::Refused(RequestRefusal::BadQuery(QueryRule::Missing));
+pub const MISSING: RequestFault = RequestFault::Refused(RequestRefusal::BadQuery(
+    QueryRule::Missing,
+));
 
 /// A value, or the refusal of one of another form.
-fn in_form<T>(found: Option<T>) -> Result<T, RequestFault>
+pub fn in_form<T>(found: Option<T>) -> Result<T, RequestFault>
     ensures { Says result (or_refuse (BadQuery Value) found) }
 {
     match found {
@@ -38,17 +36,8 @@ fn dump_kind_of(text: &str) -> Option<Kind>
 {
     if text == "full" {
         Some(Kind::Full)
-    } else {
-        None
-    }
-}
-
-/// The kind of an item that a text names.
-fn item_kind_of(text: &str) -> Option<ItemKind>
-    ensures { result ≡ item_kind_of text.now }
-{
-    if text == "file" {
-        Some(ItemKind::File)
+    } else if text == "incr" {
+        Some(Kind::Incr)
     } else {
         None
     }
@@ -64,12 +53,38 @@ pub fn dump_kind_in(query: &Query) -> Result<Kind, RequestFault>
     }
 }
 
-/// The kind of an item, by the key `kind`.
-pub fn item_kind_in(query: &Query) -> Result<ItemKind, RequestFault>
-    ensures { Says result (value_in item_kind_of (codes "kind") query.now) }
+/// The flag that a text is.
+fn flag_of(text: &str) -> Option<bool>
+    ensures { result ≡ flag_of text.now }
 {
-    match query.value("kind") {
-        Some(text) => in_form(item_kind_of(text)),
+    if text == "0" {
+        Some(false)
+    } else if text == "1" {
+        Some(true)
+    } else {
+        None
+    }
+}
+
+/// A flag, by its key.
+pub fn flag_in(query: &Query, key: &str) -> Result<bool, RequestFault>
+    ensures { Says result (value_in flag_of key.now query.now) }
+{
+    match query.value(key) {
+        Some(text) => in_form(flag_of(text)),
+        None => Err(MISSING),
+    }
+}
+
+/// A bucket, by the key `bucket`.
+pub fn bucket_in(query: &Query) -> Result<u8, RequestFault>
+    ensures { Says result (value_in bucket_of (codes "bucket") query.now) }
+{
+    match query.value("bucket") {
+        Some(text) => match read_number(text.as_bytes(), 255) {
+            Some(bucket) => Ok(bucket as u8),
+            None => Err(BAD_VALUE),
+        },
         None => Err(MISSING),
     }
 }
@@ -92,5 +107,15 @@ pub fn path_in(alloc: Global, query: &Query) -> Result<PathName, RequestFault>
     match query.value("path") {
         Some(text) => path_of_text(alloc, text),
         None => Err(MISSING),
+    }
+}
+
+/// The path, by the key `path`, or None, the root, if the key is absent.
+pub fn place_in(alloc: Global, query: &Query) -> Result<Option<PathName>, RequestFault>
+    ensures { Says result (place_in query.now) }
+{
+    match query.value("path") {
+        Some(text) => Ok(Some(path_of_text(alloc, text)?)),
+        None => Ok(None),
     }
 }

@@ -1,4 +1,4 @@
-use crate::{TextFault, read_periods};
+use crate::{TextFault, read_counts, read_periods};
 use std::alloc::Global;
 use std::test::Fail;
 
@@ -55,6 +55,42 @@ fn texts_are_read_as_these_periods(rt: HostRuntime) -> Result<(), Fail> {
         if !matches!(read_periods(alloc, text), Err(TextFault::BadText)) {
             return Err(Fail::new("a text that is none"));
         }
+    }
+    Ok(())
+}
+
+// A text, and its numbers; None if it is refused.
+struct Counts(&'static [u8], Option<&'static [u32]>);
+
+const COUNTS: [Counts; 10] = [
+    Counts(b"1", Some(&[1])),
+    Counts(b"4,2,3", Some(&[4, 2, 3])),
+    Counts(b"0,1000", Some(&[0, 1_000])),
+    Counts(b"1,1,1,1,1,1,1,1,1,1,1,1,1,1,1,1,1", None),
+    Counts(b"", None),
+    Counts(b",", None),
+    Counts(b"1,", None),
+    Counts(b"1001", None),
+    Counts(b"1;2", None),
+    Counts(b"1, 2", None),
+];
+
+fn expect_counts(alloc: Global, case: &Counts) -> Result<(), Fail> {
+    let is_wanted = match (read_counts(alloc, case.0), case.1) {
+        (Ok(counts), Some(wanted)) => counts.as_slice() == wanted,
+        (Err(TextFault::BadText), None) => true,
+        _ => false,
+    };
+    if is_wanted {
+        return Ok(());
+    }
+    Err(Fail::new("other numbers"))
+}
+
+#[test]
+fn texts_are_read_as_these_numbers(rt: HostRuntime) -> Result<(), Fail> {
+    for case in &COUNTS {
+        expect_counts(rt.alloc(), case)?;
     }
     Ok(())
 }

@@ -10,5 +10,5 @@ returns g c =
     let back = c.into_link.ensures in
     let served = c.serve_wire-end.ensures in
     let ahead = ahead_of c.serve_wire-end.new.wire in
-    ServesLink-made _ _ _ _ _ _ _ _ _ _ _ _ _ _ ahead _ served.talk made.left made.written back.written back.sent made.faults back.faults
+    ServesLink-made _ _ _ _ _ _ _ _ _ _ _ _ _ _ _ ahead _ served.talk made.left made.written back.written back.sent made.faults back.faults
     (ap (before ahead) back.left) back.ahead served.sent served.counted

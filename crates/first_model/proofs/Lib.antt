@@ -1,3 +1,0 @@
-mod Fields
-mod Moves
-mod PlainTreeLaws

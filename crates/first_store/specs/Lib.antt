@@ -1,4 +1,0 @@
-pub mod Layout
-pub mod Lives
-pub mod Kept
-pub mod Moves
