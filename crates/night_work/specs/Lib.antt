@@ -1,0 +1,4 @@
+pub mod Script
+pub mod Steps
+pub mod Ends
+pub mod Texts
