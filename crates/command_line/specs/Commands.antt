@@ -1,0 +1,50 @@
+-- The program's command as a simple command of clap.
+use Rattle.std.specs.Prelude.{◌≡◌, ℕ, List, [], true, false, Some, codes}
+use Rattle.clap.specs.Walk.{Rule}
+use Rattle.clap.specs.Simple.{App, app_of, new_app, new_rule, new_shape, with_rule, with_subcommand}
+use Rattle.clap.specs.declared.builder.action.ArgAction.TheVariants.{SetTrue}
+use Rattle.clap.specs.declared.builder.command.Command.{Command}
+use Rattle.clap.specs.declared.builder.command.Command.TheViews.{out-Command}
+
+-- the command reads as this one, and has no global argument
+abbrev pub IsCommandOf : App → Command → Type 0
+IsCommandOf app c = (app_of c ≡ app) × ((out-Command c).has_globals ≡ false)
+
+-- `--NAME TEXT`, which may be left out
+abbrev pub option_rule : List ℕ → Rule
+option_rule name = record (new_rule name) { long = Some name }
+
+-- `--NAME TEXT`, which has to be there
+abbrev pub required_rule : List ℕ → Rule
+required_rule name = record (new_rule name) { long = Some name; required = true }
+
+-- `--NAME`
+abbrev pub flag_rule : List ℕ → Rule
+flag_rule name = record (new_rule name) { long = Some name; action = Some SetTrue }
+
+-- what each subcommand begins with: `--store DIR [--settings FILE]`
+abbrev pub common_app : List ℕ → App
+common_app name = with_rule (with_rule (new_app name) (required_rule (codes "store"))) (option_rule (codes "settings"))
+
+-- `pipe`
+abbrev pub pipe_app : App
+pipe_app = common_app (codes "pipe")
+
+-- `night [--scheduled]`
+abbrev pub night_app : App
+night_app = with_rule (common_app (codes "night")) (flag_rule (codes "scheduled"))
+
+-- the program's name, with help turned off and a subcommand wanted
+abbrev pub top_app : App
+top_app = record {
+  top = record (new_shape (codes "backup_server")) {
+    disable_help_flag = true;
+    disable_help_subcommand = true;
+    subcommand_required = true;
+  };
+  subs = [];
+}
+
+-- the whole command
+abbrev pub program_app : App
+program_app = with_subcommand (with_subcommand top_app pipe_app.top) night_app.top

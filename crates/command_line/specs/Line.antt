@@ -1,0 +1,72 @@
+-- What the words of a command line say.
+--     Line, Task   a line, and what it asks for
+--     line_of      the line of some words
+--     meaning      the line that the program's own value stands for
+use Rattle.std.specs.Prelude.{ℕ, Bool, List, ◌++◌, Option, Some, None, false, if◌then◌else◌, bytes_eq, codes, option_map, option_and_then}
+use Rattle.std.specs.String.{string_bytes}
+use Rattle.std.specs.Option.{option_map_or}
+use Rattle.clap.specs.Walk.{Row, first_of, is_empty, rows_of}
+use Rattle.clap.specs.Matches.{found_of}
+use Rattle.clap.specs.Faults.{fault_of}
+use Rattle.clap.specs.Simple.{subcommand_of}
+use Rattle.clap.specs.declared.parser.matches.ArgMatches.{ArgMatches}
+use Rattle.command_line.specs.Commands.{program_app}
+use Rattle.command_line.specs.declared.line.CommandLine.{CommandLine}
+use Rattle.command_line.specs.declared.line.Work.{Work}
+use Rattle.command_line.specs.declared.line.Work.TheVariants as work
+
+-- what a line asks for; of Night, whether only where the schedule says so
+pub data Task : Type 0 where
+  Pipe : Task
+  Night : Bool → Task
+
+-- a line: the store's folder, the settings' file and what it asks for
+pub record Line : Type 0 where
+  pub store : List ℕ
+  pub settings : Option (List ℕ)
+  pub task : Task
+
+-- the flag is among the matches: clap keeps the text `true` for one that was given, and `false` for another
+abbrev pub flag_of : List ℕ → List Row → Bool
+flag_of id rows = option_map_or (λ text. bytes_eq text (codes "true")) (first_of id rows) false
+
+-- what the subcommand of this name asks for with these matches
+abbrev pub task_in : List ℕ → List Row → Option Task
+task_in name rows =
+    if bytes_eq name (codes "pipe") then Some Pipe
+    else (if bytes_eq name (codes "night") then Some (Night (flag_of (codes "scheduled") rows)) else None)
+
+-- the line of a subcommand with its matches
+abbrev pub line_in : List ℕ × List Row → Option Line
+line_in p = option_and_then (λ task. option_map (λ store. record {
+  store = store;
+  settings = first_of (codes "settings") p.1;
+  task = task;
+}) (first_of (codes "store") p.1)) (task_in p.0 p.1)
+
+-- the line of some words, the program's name first: the simple command takes them, and this is what their subcommand says
+abbrev pub line_of : List (List ℕ) → Option Line
+line_of words =
+    if is_empty (fault_of program_app words) then option_and_then line_in (subcommand_of program_app words) else None
+
+-- how the program is called
+abbrev pub usage : List ℕ
+usage =
+    codes "usage: backup_server pipe --store DIR [--settings FILE]\n"
+    ++ codes "       backup_server night [--scheduled] --store DIR [--settings FILE]"
+
+-- the matches of a subcommand
+abbrev pub rows_in : ArgMatches → List Row
+rows_in found = rows_of (found_of found)
+
+-- what the program's own values stand for
+abbrev pub task_of : Work → Task
+task_of work.Pipe = Pipe
+task_of (work.Night scheduled) = Night scheduled
+
+abbrev pub meaning : CommandLine → Line
+meaning line = record {
+  store = string_bytes line.store;
+  settings = option_map string_bytes line.settings;
+  task = task_of line.work;
+}

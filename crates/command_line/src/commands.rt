@@ -1,0 +1,73 @@
+//! The command as clap takes it.
+ghost use Rattle.std.specs.Prelude.{◌≡◌, false, IfOk};
+ghost use Rattle.clap.specs.Walk.{rule_of};
+ghost use Rattle.command_line.specs.Commands.{IsCommandOf, option_rule, required_rule, flag_rule, common_app, pipe_app, night_app, top_app, program_app};
+
+use clap::{Arg, ArgAction, Command};
+use std::alloc::{AllocError, Global};
+
+/// An option that takes a text and has to be there.
+fn required_option<'a>(alloc: Global, name: &'a str) -> Arg<'a>
+    ensures rule { rule_of result ≡ required_rule name.now }
+    ensures local { result.global ≡ false }
+{
+    Arg::new(alloc, name).long(name).required(true)
+}
+
+/// An option that takes a text and may be left out.
+fn optional<'a>(alloc: Global, name: &'a str) -> Arg<'a>
+    ensures rule { rule_of result ≡ option_rule name.now }
+    ensures local { result.global ≡ false }
+{
+    Arg::new(alloc, name).long(name)
+}
+
+/// An option that takes nothing.
+fn flag<'a>(alloc: Global, name: &'a str) -> Arg<'a>
+    ensures rule { rule_of result ≡ flag_rule name.now }
+    ensures local { result.global ≡ false }
+{
+    Arg::new(alloc, name).long(name).action(ArgAction::SetTrue)
+}
+
+/// A subcommand with the two options that each has.
+fn subcommand<'a>(alloc: Global, name: &'a str) -> Result<Command<'a>, AllocError>
+    ensures { IfOk result (λ c. IsCommandOf (common_app name.now) c) }
+{
+    Command::new(alloc, name)
+        .arg(required_option(alloc, "store"))?
+        .arg(optional(alloc, "settings"))
+}
+
+/// `pipe`.
+fn pipe<'a>(alloc: Global) -> Result<Command<'a>, AllocError>
+    ensures { IfOk result (λ c. IsCommandOf pipe_app c) }
+{
+    subcommand(alloc, "pipe")
+}
+
+/// `night`.
+fn night<'a>(alloc: Global) -> Result<Command<'a>, AllocError>
+    ensures { IfOk result (λ c. IsCommandOf night_app c) }
+{
+    subcommand(alloc, "night")?.arg(flag(alloc, "scheduled"))
+}
+
+/// The program's name, with help turned off.
+fn top<'a>(alloc: Global) -> Command<'a>
+    ensures { IsCommandOf top_app result }
+{
+    Command::new(alloc, "backup_server")
+        .disable_help_flag(true)
+        .disable_help_subcommand(true)
+        .subcommand_required(true)
+}
+
+/// The program's command, with its subcommands.
+pub(crate) fn program<'a>(alloc: Global) -> Result<Command<'a>, AllocError>
+    ensures { IfOk result (λ c. IsCommandOf program_app c) }
+{
+    top(alloc)
+        .subcommand(pipe(alloc)?)?
+        .subcommand(night(alloc)?)
+}

@@ -1,0 +1,33 @@
+//! The words of the command line, read by the kit's `clap`: one level of subcommands, each with the required option `--store`
+//! and the optional `--settings`. The crate knows words, and opens nothing. The main clause of [`parse`]: a line is what `line_of`
+//! of specs/ makes of the words, and `NoParse` comes only where that is none. `line_of` reads what clap itself says of a simple
+//! command: there is a line where it finds no fault in the words and its matches give a subcommand with its store.
+//!
+//! | Item | What it is |
+//! |---|---|
+//! | `CommandLine`, `Work` | the words, understood: the store, the settings, and what is to be done |
+//! | `LineFault` | why there is no line |
+//! | `parse` | the line of some words |
+//! | `USAGE`, `complaint` | how the program is called, and what is said of words that are no line |
+//!
+//! ```text
+//! match parse(alloc, words) {
+//!     Ok(line) => run(line.store, line.work),
+//!     Err(LineFault::NoParse) => eprintln!(rt; "{}", complaint(alloc, words)?)?,
+//!     Err(LineFault::Memory) => return status(6),
+//! }
+//! ```
+//!
+//! One more subcommand is a variant of `Work` and of `Task`, a function of its options in `commands`, and a row of `work_in` and
+//! of `task_in`.
+#![tactic(auto)]
+
+mod commands;
+mod line;
+mod matches;
+#[cfg(test)]
+mod tests;
+mod usage;
+
+pub use line::{CommandLine, LineFault, Work, parse};
+pub use usage::{USAGE, complaint};

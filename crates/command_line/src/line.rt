@@ -1,0 +1,124 @@
+//! The line of some words.
+ghost use Rattle.std.specs.Prelude.{◌≡◌, None, Some, IfErr, IfOk, map, option_and_then, option_map};
+ghost use Rattle.std.specs.String.{string_bytes};
+ghost use Rattle.clap.specs.Simple.{subcommand_rows_of};
+ghost use Rattle.command_line.specs.Line.{line_in, line_of, meaning, rows_in, task_in, task_of};
+
+use crate::matches::{flag_in, matches_of, subcommand_in, text_in};
+use crate::usage::USAGE;
+use clap::ArgMatches;
+use std::alloc::{AllocError, Global};
+use std::error::Error;
+use std::fmt;
+
+/// What the program is to do.
+#[derive(Debug, PartialEq, Eq, Drop)]
+pub enum Work {
+    /// Serves one connection over standard input and output.
+    Pipe,
+    /// Does what is done each night. With `scheduled`, only where the schedule says so.
+    Night { scheduled: bool },
+}
+
+/// The words of a command line, understood.
+#[derive(Debug, Drop)]
+pub struct CommandLine {
+    /// The folder of the store, as it was written.
+    pub store: String,
+    /// The file of the settings, as it was written.
+    pub settings: Option<String>,
+    pub work: Work,
+}
+
+/// Why words are no command line.
+#[derive(Clone, Copy, Debug, PartialEq, Eq)]
+pub enum LineFault {
+    NoParse,
+    Memory,
+}
+
+impl fmt::Display for LineFault {
+    fn fmt<W: fmt::Write>(&self, f: &mut fmt::Formatter<W>) -> fmt::Result {
+        match self {
+            LineFault::NoParse => write!(f, "{USAGE}"),
+            LineFault::Memory => write!(f, "no memory"),
+        }
+    }
+}
+
+impl Error for LineFault {}
+
+impl From<AllocError> for LineFault {
+    ghost use Rattle.command_line.specs.declared.line.LineFault.TheVariants.{Memory};
+
+    ghost from_gives = { λ _ fault. fault ≡ Memory };
+
+    fn from(_error: AllocError) -> LineFault {
+        LineFault::Memory
+    }
+}
+
+/// What a subcommand asks for, by its name and its options.
+fn work_in(name: &str, found: &ArgMatches<'_>) -> Option<Work>
+    ensures { option_map task_of result ≡ task_in name.now (rows_in found.now) }
+{
+    if name == "pipe" {
+        Some(Work::Pipe)
+    } else if name == "night" {
+        let scheduled = flag_in(found, "scheduled");
+        Some(Work::Night { scheduled })
+    } else {
+        None
+    }
+}
+
+/// A text of one's own.
+fn owned(alloc: Global, text: Option<&str>) -> Result<Option<String>, AllocError>
+    ensures { IfOk result (λ copy. option_map string_bytes copy ≡ option_map (λ t. t.now) text.entry) }
+{
+    match text {
+        Some(text) => Ok(Some(String::from_str(alloc, text)?)),
+        None => Ok(None),
+    }
+}
+
+/// The line of a subcommand.
+fn line_in(alloc: Global, name: &str, found: &ArgMatches<'_>) -> Result<CommandLine, LineFault>
+    ensures ok { IfOk result (λ line. line_in (name.now, rows_in found.now) ≡ Some (meaning line)) }
+    ensures none { IfErr result (λ fault. fault ≡ LineFault.NoParse → line_in (name.now, rows_in found.now) ≡ None) }
+{
+    let Some(work) = work_in(name, found) else {
+        return Err(LineFault::NoParse);
+    };
+    let Some(store) = text_in(found, "store") else {
+        return Err(LineFault::NoParse);
+    };
+    let settings = owned(alloc, text_in(found, "settings"))?;
+    let store = String::from_str(alloc, store)?;
+    Ok(CommandLine {
+        store,
+        settings,
+        work,
+    })
+}
+
+/// The line of the subcommand that clap found.
+fn line_found(alloc: Global, found: &ArgMatches<'_>) -> Result<CommandLine, LineFault>
+    ensures ok { IfOk result (λ line. option_and_then line_in (subcommand_rows_of found.now) ≡ Some (meaning line)) }
+    ensures none { IfErr result (λ fault. fault ≡ LineFault.NoParse
+        → option_and_then line_in (subcommand_rows_of found.now) ≡ None) }
+{
+    match subcommand_in(found) {
+        Some((name, inner)) => line_in(alloc, name, inner),
+        None => Err(LineFault::NoParse),
+    }
+}
+
+/// Reads the words of a command line; the first is the program's name.
+pub fn parse(alloc: Global, words: &[String]) -> Result<CommandLine, LineFault>
+    ensures ok { IfOk result (λ line. line_of (map string_bytes words.now) ≡ Some (meaning line)) }
+    ensures none { IfErr result (λ fault. fault ≡ LineFault.NoParse → line_of (map string_bytes words.now) ≡ None) }
+{
+    let found = matches_of(alloc, words)?;
+    line_found(alloc, &found)
+}

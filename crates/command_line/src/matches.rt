@@ -1,0 +1,65 @@
+//! What clap found in the words.
+ghost use Rattle.std.specs.Prelude.{◌≡◌, ◌≢◌, [], IfOk, IfErr, map, option_map};
+ghost use Rattle.std.specs.String.{string_bytes};
+ghost use Rattle.clap.specs.Simple.{subcommand_of, subcommand_rows_of};
+ghost use Rattle.clap.specs.Faults.{fault_of};
+ghost use Rattle.clap.specs.Walk.{first_of};
+ghost use Rattle.command_line.specs.Commands.{program_app};
+ghost use Rattle.command_line.specs.Line.{rows_in, flag_of};
+
+use crate::commands::program;
+use crate::line::LineFault;
+use clap::ArgMatches;
+use clap::error::ErrorKind;
+use std::alloc::Global;
+
+/// The matches of the words, where the command takes them.
+pub(crate) fn matches_of<'a>(
+    alloc: Global,
+    words: &'a [String],
+) -> Result<ArgMatches<'a>, LineFault>
+    ensures ok { IfOk result (λ found. (fault_of program_app (map string_bytes words.now) ≡ [])
+        × (subcommand_of program_app (map string_bytes words.now) ≡ subcommand_rows_of found)) }
+    ensures none { IfErr result (λ fault. fault ≡ LineFault.NoParse
+        → fault_of program_app (map string_bytes words.now) ≢ []) }
+{
+    let Ok(command) = program(alloc) else {
+        return Err(LineFault::Memory);
+    };
+    match command.try_get_matches_from(words) {
+        Ok(found) => Ok(found),
+        Err(e) => {
+            if e.kind() == ErrorKind::OutOfMemory {
+                Err(LineFault::Memory)
+            } else {
+                Err(LineFault::NoParse)
+            }
+        }
+    }
+}
+
+/// The subcommand that was met: its name and its matches.
+pub(crate) fn subcommand_in<'a, 'b>(
+    found: &'b ArgMatches<'a>,
+) -> Option<(&'a str, &'b ArgMatches<'a>)>
+    ensures { option_map (λ p. (p.0.now, rows_in p.1.now)) result ≡ subcommand_rows_of found.now }
+{
+    found.subcommand()
+}
+
+/// The text of an option.
+pub(crate) fn text_in<'a>(found: &ArgMatches<'a>, id: &str) -> Option<&'a str>
+    ensures { option_map (λ text. text.now) result ≡ first_of id.now (rows_in found.now) }
+{
+    found.get_str(id)
+}
+
+/// Whether a flag is set: clap then keeps the text `true` for it.
+pub(crate) fn flag_in(found: &ArgMatches<'_>, id: &str) -> bool
+    ensures { result ≡ flag_of id.now (rows_in found.now) }
+{
+    match text_in(found, id) {
+        Some(text) => text == "true",
+        None => false,
+    }
+}

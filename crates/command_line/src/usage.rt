@@ -1,0 +1,44 @@
+//! What is said of words that are no line.
+ghost use Rattle.std.specs.Prelude.{◌≡◌, ◌++◌, List, ℕ, IfOk};
+ghost use Rattle.std.specs.String.{string_bytes};
+ghost use Rattle.command_line.specs.Line.{usage};
+
+use crate::commands::program;
+use clap::error::ErrorKind;
+use std::alloc::{AllocError, Global};
+
+/// How the program is called.
+pub const USAGE: &str =
+    "usage: backup_server pipe --store DIR [--settings FILE]\n       backup_server night [--scheduled] --store DIR [--settings FILE]";
+
+/// clap's own message of what is wrong in the words, and nothing of words that are a line.
+fn message_of(alloc: Global, words: &[String]) -> Result<String, AllocError> {
+    let command = program(alloc)?;
+    match command.try_get_matches_from(words) {
+        Ok(_) => Ok(String::new(alloc)),
+        Err(error) => {
+            if error.kind() == ErrorKind::OutOfMemory {
+                return Err(AllocError);
+            }
+            format!(in alloc; "{error}")
+        }
+    }
+}
+
+/// A text, and the usage below it.
+fn with_usage(text: String) -> Result<String, AllocError>
+    ensures { IfOk result (λ whole. string_bytes whole ≡ string_bytes text ++ usage) }
+{
+    let mut whole = text;
+    whole.push_str(USAGE)?;
+    Ok(whole)
+}
+
+/// What standard error is told of words that are no line: clap's own message of what is wrong in them, and then the usage. Of
+/// words that are a line there is no message.
+pub fn complaint(alloc: Global, words: &[String]) -> Result<String, AllocError>
+    ensures { IfOk result (λ text. (message : List ℕ) × (string_bytes text ≡ message ++ usage)) }
+{
+    let message = message_of(alloc, words)?;
+    with_usage(message)
+}
