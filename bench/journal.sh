@@ -1,7 +1,7 @@
 #!/bin/sh
 # Measures what a commit costs over a disk in memory, by the program bench_journal: 64 files of 16,384 bytes, and 8 files
-# of 262,144 bytes. bench/README.md says what the lines are. Needs rt and uptime. The first run proves the program's crates
-# and builds it.
+# of 262,144 bytes, beside writing and hashing the same bytes. bench/README.md says what the lines are. Needs rt, uptime, awk
+# and python3. The first run proves the program's crates and builds it.
 set -eu
 
 top=$(cd "$(dirname "$0")/.." && pwd)
@@ -10,7 +10,14 @@ trap 'rm -f "$build"' EXIT
 
 cd "$top/crates/bench_journal"
 echo "proving and building, which takes minutes the first time"
-rt run > "$build" 2>&1 || { cat "$build"; exit 1; }
+rt run >"$build" 2>&1 || { cat "$build"; exit 1; }
 uptime
-out/bench_journal 64 16384 time
-out/bench_journal 8 262144 time
+echo "measuring the machine, then the program"
+"$top/bench/machine.py"
+for size in '64 16384' '8 262144'; do
+    lines=$(out/bench_journal $size time)
+    echo "$lines" | awk '
+        /^write:/ && $5 > 0 { printf "%s, %.2f times the hash\n", $0, $8 / $5; next }
+        { print }
+    '
+done

@@ -1,7 +1,7 @@
 #!/bin/sh
-# Measures the crates of trees by the program bench_trees, at 1,000 and at 10,000 folders of a hundred rows, and
-# prints the growth of each time from the one to the other. bench/README.md says what the lines are.
-# Needs rt, awk and uptime. The first run proves the program's crates and builds it.
+# Measures the crates of trees by the program bench_trees, at 1,000 and at 10,000 folders of a hundred rows, and prints each
+# time's ratio to hashing the table's file, and its growth from the one to the other. bench/README.md says what the lines are.
+# Needs rt, awk, uptime and python3. The first run proves the program's crates and builds it.
 set -eu
 
 top=$(cd "$(dirname "$0")/.." && pwd)
@@ -10,11 +10,19 @@ trap 'rm -rf "$lines"' EXIT
 
 cd "$top/crates/bench_trees"
 echo "proving and building, which takes minutes the first time"
-rt run > "$lines/build" 2>&1 || { cat "$lines/build"; exit 1; }
+rt run >"$lines/build" 2>&1 || { cat "$lines/build"; exit 1; }
+"$top/bench/machine.py"
 
 measure() {
+    echo "measuring $1 folders"
     uptime
-    "$top/crates/bench_trees/out/bench_trees" "$1" "$2" time | tee "$lines/$1"
+    out/bench_trees "$1" "$2" time >"$lines/$1"
+    awk '
+        { micros = $0; sub(/.*; /, "", micros); micros += 0 }
+        FNR == NR { if (/^hash:/) hash = micros; next }
+        hash > 0 && !/of the hash$/ { printf "%s, %.2f times the hash\n", $0, micros / hash; next }
+        { print }
+    ' "$lines/$1" "$lines/$1"
     echo
 }
 

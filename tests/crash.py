@@ -1,8 +1,11 @@
 #!/usr/bin/env python3
-"""Stops the program at random moments, and looks whether each backup whose commit was answered is read back whole by the
-next run: tests/crash.py PROGRAM [KILLS [TERMS [STARTS]]]. The last line is 'N passed, M failed'."""
+"""Stops the program at random moments, fills its disk, and starts two on one folder, and looks whether each backup whose
+commit was answered is read back whole by the next run: tests/crash.py PROGRAM [KILLS [TERMS [STARTS]]]. The last line is
+'N passed, M failed'."""
+import contextlib
 import os
 import random
+import resource
 import shutil
 import signal
 import subprocess
@@ -10,6 +13,8 @@ import sys
 import tempfile
 import threading
 import time
+
+ROOM = "16m"
 
 
 def request(line, body=None):
@@ -33,14 +38,23 @@ def response(stream):
     return (int(first.split()[1]), body) if len(body) == length else None
 
 
-class Run:
-    """A run of the program on a store."""
+def limit_files(size):
+    """Lets this process write no file beyond a size: a write fails there, and no signal ends the process."""
+    signal.signal(signal.SIGXFSZ, signal.SIG_IGN)
+    resource.setrlimit(resource.RLIMIT_FSIZE, (size, size))
 
-    def __init__(self, program, store):
+
+class Run:
+    """A run of the program on a store, where a limit is given with no file above that size."""
+
+    def __init__(self, program, store, limit=None):
         words = [program, "pipe", "--store", store]
-        self.run = subprocess.Popen(words, stdin=subprocess.PIPE, stdout=subprocess.PIPE, stderr=subprocess.DEVNULL)
+        before = None if limit is None else lambda: limit_files(limit)
+        pipe = subprocess.PIPE
+        self.run = subprocess.Popen(words, stdin=pipe, stdout=pipe, stderr=pipe, preexec_fn=before)
 
     def ask(self, text):
+        """The response to a request, or None if the program has gone."""
         try:
             self.run.stdin.write(text)
             self.run.stdin.flush()
@@ -49,29 +63,47 @@ class Run:
         return response(self.run.stdout)
 
     def end(self):
-        try:
+        """The status, and what was said on standard error."""
+        with contextlib.suppress(BrokenPipeError):
             self.run.stdin.close()
-        except BrokenPipeError:
-            pass
         self.run.stdout.read()
-        return self.run.wait()
+        said = self.run.stderr.read().decode(errors="replace")
+        return self.run.wait(), said
+
+
+class Score:
+    """How many tries there were, and how many of them failed."""
+
+    def __init__(self):
+        self.tries, self.failed = 0, 0
+
+    def count(self, what, fault):
+        """Counts a try, which failed if there is a fault."""
+        self.tries += 1
+        if fault:
+            self.failed += 1
+            print(f"FAILED: {what}: {fault}", flush=True)
 
 
 def backup_again(run, kept, seed):
-    """Dumps and commits until the program is gone; what was answered goes into `kept`, by the backup's number."""
+    """Dumps and commits until the program has gone or refuses; what was answered goes into `kept`, by the backup's number.
+    It gives the status of the refusal, if there is one."""
+    chance = random.Random(seed)
     for turn in range(1_000):
-        kind = "full" if turn == 0 and not kept else "incr"
+        kind = "incr" if kept or turn else "full"
         found = run.ask(request(f"POST /hosts/pc1/dumps?kind={kind}"))
         if found is None or found[0] != 201:
-            return
+            return found and found[0]
         dump = found[1].decode().split('"')[3]
-        body = f"{seed} {turn} ".encode() * random.randint(1, 2_000)
-        if run.ask(request(f"PUT /dumps/{dump}/entry?path=f&kind=file", body)) is None:
-            return
+        body = f"{seed} {turn} ".encode() * chance.randint(1, 2_000)
+        found = run.ask(request(f"PUT /dumps/{dump}/entry?path=f&kind=file", body))
+        if found is None or found[0] != 200:
+            return found and found[0]
         found = run.ask(request(f"POST /dumps/{dump}/commit"))
         if found is None or found[0] != 201:
-            return
+            return found and found[0]
         kept[int(found[1].decode().strip("}").split(":")[1])] = body
+    return None
 
 
 def stop_once(program, store, kept, sent, seed):
@@ -85,62 +117,168 @@ def stop_once(program, store, kept, sent, seed):
     run.end()
 
 
-def is_whole(program, store, kept, last):
-    """Whether a further run has each backup that was answered, the last few of them whole."""
-    run = Run(program, store)
+def missing(run, kept, numbers):
+    """What a run hasn't of the backups whose commits were answered: of these numbers, each is read."""
     found = run.ask(request("GET /hosts/pc1/backups"))
     if kept and (found is None or found[0] != 200 or found[1].count(b'"number"') < len(kept)):
-        return False
-    for number in sorted(kept)[-last:]:
-        if run.ask(request(f"GET /hosts/pc1/backups/{number}/file?path=f")) != (200, kept[number]):
-            return False
-    return run.end() == 0
+        return f"{len(kept)} backups were answered, and {found} is listed"
+    for number in numbers:
+        found = run.ask(request(f"GET /hosts/pc1/backups/{number}/file?path=f"))
+        if found != (200, kept[number]):
+            return f"backup {number} isn't read back whole: {found and found[0]}"
+    return None
 
 
-def stops(program, room, sent, count):
-    """Stops runs on one store, again and again, with a new store now and then."""
-    passed, answered = 0, 0
+def reopened(program, store, kept, numbers):
+    """What is wrong with a further run, which is to have these backups."""
+    run = Run(program, store)
+    fault = missing(run, kept, numbers)
+    status, said = run.end()
+    return fault or (f"the next run ended with {status}: {said}" if status else None)
+
+
+def stops(score, program, room, sent, count):
+    """Stops runs on one store, again and again, with a new store now and then, which is read whole before it goes."""
+    answered = 0
     for at in range(count):
         if at % 20 == 0:
             store, kept = os.path.join(room, f"{int(sent)}-{at}"), {}
         before = len(kept)
         stop_once(program, store, kept, sent, at)
-        passed += is_whole(program, store, kept, 5)
+        is_last = at % 20 == 19 or at == count - 1
+        numbers = sorted(kept) if is_last else sorted(kept)[before:]
+        score.count(f"stop {at} by signal {int(sent)}", reopened(program, store, kept, numbers))
         answered += len(kept) - before
-    print(f"{count} runs stopped by signal {int(sent)}, after {answered} commits")
-    return passed
+        if is_last:
+            shutil.rmtree(store, ignore_errors=True)
+    print(f"{count} runs stopped by signal {int(sent)}, after {answered} commits", flush=True)
 
 
-def starts(program, room, count):
+def starts(score, program, room, count):
     """Starts two runs at once on a new folder: one has it, the other is told so, and what was answered is kept."""
-    passed = 0
     for at in range(count):
         store = os.path.join(room, f"start-{at}")
         both = [Run(program, store), Run(program, store)]
         answers = [run.ask(request(f"PUT /hosts/pc{n}")) for n, run in enumerate(both)]
-        statuses = [run.end() for run in both]
+        ends = [run.end() for run in both]
         told = [n for n, answer in enumerate(answers) if answer is not None and answer[0] == 201]
         names = ",".join(f'"pc{n}"' for n in told).encode()
         run = Run(program, store)
         found = run.ask(request("GET /hosts"))
         run.end()
-        passed += found == (200, b'{"hosts":[' + names + b"]}") and sorted(statuses) in ([0, 8], [0, 0]) and len(told) > 0
+        refused = [said for status, said in ends if status == 8]
+        is_told = all(said == f"the folder {store} is in use\n" for said in refused)
+        is_one = found == (200, b'{"hosts":[' + names + b"]}") and told and is_told
+        is_right = is_one and sorted(status for status, _ in ends) in ([0, 8], [0, 0])
+        score.count(f"pair {at}", None if is_right else f"{answers}, {ends}, then {found}")
         shutil.rmtree(store)
-    return passed
+    print(f"{count} pairs started at once", flush=True)
+
+
+def fill(program, store, limit=None):
+    """A run that goes on until its disk is full, and what it answered: the run, the backups, the status of the refusal."""
+    run, kept = Run(program, store, limit), {}
+    found = run.ask(request("PUT /hosts/pc1"))
+    if found is None or found[0] != 201:
+        return run, kept, found and found[0]
+    return run, kept, backup_again(run, kept, 1)
+
+
+def ended_full(run, refused):
+    """What is wrong with the end of a run whose disk was full: its last line names the file or folder, and the reason."""
+    status, said = run.end()
+    if refused not in (None, 500, 503):
+        return f"a full disk was answered by {refused}"
+    lines = said.splitlines()
+    is_told = bool(lines) and lines[-1].endswith(("(os error 27)", "(os error 28)"))
+    if status == 4 and is_told and lines[:-1] == ["disk failed"] or status == 8 and is_told and refused is None:
+        return None
+    if status == 0 and refused is not None and not lines:
+        return None
+    return f"a run with a full disk, refused by {refused}, ended with {status}: {said}"
+
+
+def limits(score, program, room):
+    """Limits on the size of a file: each fails another call, of the first opening or of a commit. Without it there is room."""
+    tried = [*range(0, 40, 2), *range(40, 1_240, 40)]
+    reached = set()
+    for size in tried:
+        store = os.path.join(room, f"limit-{size}")
+        run, kept, refused = fill(program, store, size)
+        reached.add(refused)
+        fault = ended_full(run, refused) or reopened(program, store, kept, sorted(kept))
+        score.count(f"files of at most {size} bytes", fault)
+        shutil.rmtree(store, ignore_errors=True)
+    is_met = reached >= {None, 500}
+    score.count("limits that fail the opening, and others that fail a request", None if is_met else str(reached))
+    print(f"{len(tried)} limits on the size of a file", flush=True)
+
+
+def mount(place, options):
+    """Whether a small disk in memory could be mounted."""
+    os.makedirs(place, exist_ok=True)
+    words = ["mount", "-t", "tmpfs", "-o", options, "tmpfs", place]
+    try:
+        return subprocess.run(words, stderr=subprocess.DEVNULL).returncode == 0
+    except OSError:
+        return False
+
+
+def full_once(score, program, place, options):
+    """A disk that gets full; then it has room, and the same run goes on after a reopening, or the next run does. It gives the
+    status of the refusal, or -1 if no disk could be mounted."""
+    if not mount(place, options):
+        return -1
+    try:
+        store = os.path.join(place, "store")
+        run, kept, refused = fill(program, store)
+        if refused is None:
+            subprocess.run(["mount", "-o", f"remount,size={ROOM},nr_inodes=10000", place], check=True)
+            fault = ended_full(run, refused) or reopened(program, store, kept, sorted(kept))
+            score.count(f"a disk with {options}, full at its first opening", fault)
+            return refused
+        subprocess.run(["mount", "-o", f"remount,size={ROOM},nr_inodes=10000", place], check=True)
+        found = run.ask(request("POST /reopen"))
+        fault = None if found is not None and found[0] == 200 else f"with room again it is reopened with {found}"
+        fault = fault or missing(run, kept, sorted(kept))
+        status, said = run.end()
+        fault = fault or (f"the run ended with {status}: {said}" if status or said else None)
+        fault = fault or reopened(program, store, kept, sorted(kept))
+        score.count(f"a disk with {options}, full after {len(kept)} commits", fault)
+        return refused
+    finally:
+        subprocess.run(["umount", place], check=True)
+
+
+def full_disks(score, program, room):
+    """Small disks: of some pages, and of some files."""
+    place = os.path.join(room, "disk")
+    sizes = [f"size={pages * 4}k" for pages in range(1, 61)] + [f"size={ROOM},nr_inodes={files}" for files in range(2, 42)]
+    reached = set()
+    for options in sizes:
+        refused = full_once(score, program, place, options)
+        if refused == -1:
+            print("skipped: full disks, since no tmpfs can be mounted here (as root, or where unshare may)", flush=True)
+            return
+        reached.add(refused)
+    is_met = reached >= {None, 500}
+    score.count("disks full at the first opening, and others full at a request", None if is_met else str(reached))
+    print(f"{len(sizes)} disks that got full", flush=True)
 
 
 def main():
     program = os.path.abspath(sys.argv[1])
     kills, terms, pairs = [int(word) for word in sys.argv[2:5]] + [300, 100, 200][len(sys.argv) - 2 :]
-    begun = time.monotonic()
+    begun, score = time.monotonic(), Score()
     with tempfile.TemporaryDirectory() as room:
-        passed = stops(program, room, signal.SIGKILL, kills)
-        passed += stops(program, room, signal.SIGTERM, terms)
-        passed += starts(program, room, pairs)
-    failed = kills + terms + pairs - passed
+        limits(score, program, room)
+        full_disks(score, program, room)
+        starts(score, program, room, pairs)
+        stops(score, program, room, signal.SIGTERM, terms)
+        stops(score, program, room, signal.SIGKILL, kills)
     print(f"{time.monotonic() - begun:.0f} seconds")
-    print(f"{passed} passed, {failed} failed")
-    sys.exit(1 if failed else 0)
+    print(f"{score.tries - score.failed} passed, {score.failed} failed")
+    sys.exit(1 if score.failed else 0)
 
 
 main()

@@ -7,6 +7,7 @@
 top=$(cd "$(dirname "$0")/.." && pwd)
 program=${1:-$top/bin/backup_server}
 [ -x "$program" ] || { echo "$program isn't there: make build first"; exit 1; }
+command -v curl >/dev/null && command -v python3 >/dev/null || { echo "curl and python3 aren't both there"; exit 1; }
 room=$(mktemp -d)
 python3 "$top/tests/relay.py" "$program" "$room" >"$room/port" &
 relay=$!

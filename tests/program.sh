@@ -38,6 +38,23 @@ expect() {
     fi
 }
 
+# ask METHOD TARGET [BODY]: a request.
+ask() {
+    printf '%s %s HTTP/1.1\r\nHost: b\r\n' "$1" "$2"
+    [ $# -lt 3 ] || printf 'Content-Length: %d\r\n' "${#3}"
+    printf '\r\n%s' "${3:-}"
+}
+
+# has TEXT: whether the output has it.
+has() {
+    grep -qF "$1" out
+}
+
+# hex FILE: its bytes in hexadecimal.
+hex() {
+    od -An -v -tx1 "$1" | tr -d ' \n'
+}
+
 usage='usage: backup_server pipe --store DIR'
 : >in
 : >want
@@ -142,14 +159,32 @@ ln -s ../nowhere lock_linked/lock
 attempt pipe --store lock_linked
 judge 'a symbolic link in the place of the lock' 8 "the folder lock_linked can't be locked: Too many levels of symbolic links (os error 40)"
 
-# A user who isn't root meets files without permission; root does not.
-if [ "$(id -u)" != 0 ]; then
-    mkdir -p closed
+# Root meets no file without permission, so the program runs as another user then, if it can.
+as_user=
+if [ "$(id -u)" = 0 ]; then
+    as_user=none
+    if setpriv --reuid=65534 --regid=65534 --clear-groups true 2>/dev/null; then
+        as_user='setpriv --reuid=65534 --regid=65534 --clear-groups'
+    fi
+fi
+if [ "$as_user" = none ]; then
+    echo 'skipped: a file and a folder without permission, since this is root, and setpriv makes no other user of it'
+else
+    chmod 755 .
+    cp "$program" copy
+    chmod 755 copy
+    mkdir -p closed shut
     : >closed/head
     chmod 000 closed/head
-    attempt pipe --store closed
+    chmod 500 shut
+    [ -z "$as_user" ] || chown -R 65534:65534 closed shut
+    $as_user ./copy pipe --store closed <in >out 2>err
+    status=$?
     judge 'a head without permission' 4 'disk failed
 closed/head: Permission denied (os error 13)'
+    $as_user ./copy pipe --store shut <in >out 2>err
+    status=$?
+    judge 'a folder that takes no file' 8 "the folder shut can't be locked: Permission denied (os error 13)"
 fi
 
 mkdir -p strange
@@ -160,6 +195,101 @@ printf 'HTTP/1.1 201 Created\r\nContent-Type: application/json\r\nContent-Length
 judge 'a folder with other files' 0 ''
 [ "$(LC_ALL=C ls strange | tr '\n' ' ')" = 'counts-0 gate head host-0 host-00 intent lock table-1 ' ]
 expect 'other files stay'
+
+# What a commit leaves in the folder, its bytes, and the clock.
+{
+    ask PUT /hosts/pc1
+    ask POST '/hosts/pc1/dumps?kind=full'
+    ask PUT '/dumps/1-0/entry?path=a.txt&kind=file' hello
+    ask POST /dumps/1-0/commit
+    ask GET /hosts/pc1/backups
+} >in
+before=$(date +%s)
+attempt pipe --store kept
+after=$(date +%s)
+has '{"number":0}'
+expect 'a commit'
+pool=pool-5d41402abc4b2a76b9719d911017c592-0
+[ "$(LC_ALL=C ls kept | tr '\n' ' ')" = "counts-0 gate head host-0 intent lock $pool pool-index-93 table-0-0 " ]
+expect 'the names in the folder after a commit'
+[ "$(stat -c %a kept/* | sort -u)" = 600 ]
+expect 'the files of a commit are their owner'"'"'s alone'
+[ "$(cat kept/$pool)" = hello ]
+expect 'a content is a file'
+path=0005$(printf a.txt | od -An -tx1 | tr -d ' ')
+attributes=000001a4000000000000000000000000000000000000000000000000
+head -c 70 kept/table-0-0 | md5sum >sum
+seal=$(cut -c 1-32 sum)
+[ "$(hex kept/table-0-0)" = "525442320000000101${path}${attributes}00000000000000055d41402abc4b2a76b9719d911017c5920000$seal" ]
+expect 'the bytes of a table'
+[ "$(hex kept/pool-index-93)" = 525042315d00000000000000015d41402abc4b2a76b9719d911017c59200000000000000000005002d4df6b9fabe42750d87b12f2bc3a725 ]
+expect 'the bytes of a bucket of the index'
+start=$(sed -n 's/.*"start":\([0-9]*\)}.*/\1/p' out)
+end=$(sed -n 's/.*{"end":\([0-9]*\),.*/\1/p' out)
+[ "$before" -le "${start:-0}" ] && [ "${start:-0}" -le "${end:-0}" ] && [ "${end:-0}" -le "$after" ]
+expect 'a backup starts and ends by the clock of the system'
+
+# Deletion, two cleanings of the content's bucket, a sweep.
+{
+    ask DELETE /hosts/pc1/backups/0
+    ask POST '/night/clean?bucket=5'
+    ask POST '/night/clean?bucket=5'
+    ask POST /night/sweep
+} >in
+attempt pipe --store kept
+has '"removed":1'
+expect 'a content that no backup holds is cleaned away'
+[ "$(LC_ALL=C ls kept | tr '\n' ' ')" = 'counts-0 gate head host-0 intent lock ' ]
+expect 'the names in the folder after a sweep'
+
+# No room: a limit on the size of a file stands for a full disk.
+ask PUT /hosts/pc1 >in
+: >want
+said=$(trap '' XFSZ; ulimit -f 0; "$program" pipe --store full_disk <in 2>&1; echo "status $?")
+[ "$said" = 'disk failed
+full_disk/intent: File too large (os error 27)
+status 4' ]
+expect "no room at the first opening: $said"
+attempt pipe --store full_disk
+has '{"host":"pc1"}' && [ "$status" = 0 ]
+expect 'it opens when there is room'
+
+# Want of memory: a file, and a body, that no memory can hold.
+mkdir -p vast
+truncate -s 1000000000 vast/head
+(ulimit -v 60000; attempt pipe --store vast; echo "$status" >limited)
+status=$(cat limited)
+judge 'a head that no memory can hold' 6 'no memory'
+{
+    ask PUT /hosts/pc1
+    ask POST '/hosts/pc1/dumps?kind=full'
+    printf 'PUT /dumps/1-0/entry?path=a&kind=file HTTP/1.1\r\nHost: b\r\nContent-Length: 67108864\r\n\r\n'
+    head -c 67108864 /dev/zero
+} >in
+(ulimit -v 60000; attempt pipe --store small; echo "$status" >limited)
+status=$(cat limited)
+{
+    printf 'HTTP/1.1 201 Created\r\nContent-Type: application/json\r\nContent-Length: 14\r\n\r\n{"host":"pc1"}'
+    printf 'HTTP/1.1 201 Created\r\nContent-Type: application/json\r\nContent-Length: 14\r\n\r\n{"dump":"1-0"}'
+    printf 'HTTP/1.1 507 Insufficient Storage\r\nContent-Length: 0\r\nConnection: close\r\n\r\n'
+} >want
+judge 'a body that no memory can hold' 6 'no memory'
+: >in
+: >want
+
+# A reader that has gone: the door opens when nobody reads any longer.
+mkfifo window wicket
+exec 4<>window
+"$program" pipe --store left <wicket >window 2>err 4<&- &
+left=$!
+exec 3>wicket
+exec 4<&-
+ask PUT /hosts/pc1 >&3
+exec 3>&-
+wait "$left"
+status=$?
+: >out
+judge 'a reader that has gone' 3 'link failed'
 
 # Two processes on one folder: the first has the lock until its input ends.
 mkfifo door
