@@ -1,0 +1,247 @@
+//! Talks with the program: what is asked, line by line, and what is to be answered.
+
+use crate::ends::{defaults, expect_file, words_of};
+use admin_cli::{Done, Note, run};
+use disk_trait::{Choice, DiskRoom, FileId, MemoryDisk};
+use pool_name::Namer;
+use std::alloc::{AllocError, Global};
+use std::test::Fail;
+use stream_traits::{ListClock, MemoryLink, Moment};
+
+/// An answer: the status with its phrase and a body in JSON, or the bytes of a file or a frame.
+#[derive(Clone, Copy)]
+pub enum Says {
+    Json(&'static str, &'static str),
+    Bytes(&'static [u8]),
+}
+
+/// The method and the target of a request, its body, and the answer to it.
+#[derive(Clone, Copy)]
+pub struct Row(pub &'static str, pub &'static str, pub Says);
+
+pub const OK: &str = "200 OK";
+
+pub const MADE: &str = "201 Created";
+
+pub const ABSENT: &str = "404 Not Found";
+
+pub const CONFLICT: &str = "409 Conflict";
+
+pub const DONE: Says = Says::Json(OK, "{}");
+
+pub const HOST: Row = Row("PUT /hosts/pc1", "", Says::Json(MADE, "{\"host\":\"pc1\"}"));
+
+pub const WEEKLY: Row = Row("PUT /hosts/pc1/rules?FillCycle=7", "", DONE);
+
+/// What uncertain files hold after a stop: what was written, nothing, or one byte, which opens Gate. What they held before is what
+/// they hold after a stop at the last sync.
+pub const CHOICES: [Choice; 3] = [Choice::Written, Choice::Absent, Choice::One(0x4F)];
+
+/// When nothing else is said.
+pub const NOW: &[u64] = &[1_700_000_000];
+
+const ROOM: DiskRoom = DiskRoom {
+    changes: 1_000,
+    bytes: 100_000,
+};
+
+/// A disk without files, of which these calls fail.
+pub fn blank_disk(alloc: Global, fails: &[u64]) -> Result<MemoryDisk, AllocError> {
+    MemoryDisk::new(alloc, Vec::from_slice(alloc, fails)?, ROOM)
+}
+
+/// Writes a request, with its body's length.
+fn put_request(out: &mut Vec<u8>, alloc: Global, row: &Row) -> Result<(), AllocError> {
+    let ask = row.0;
+    let body = row.1;
+    let count = body.len();
+    let text = format!(in alloc;
+        "{ask} HTTP/1.1\r\nHost: b\r\nContent-Length: {count}\r\n\r\n{body}"
+    )?;
+    out.extend_from_slice(text.as_bytes())?;
+    Ok(())
+}
+
+/// Writes a response of this status and this type.
+fn put_response(
+    out: &mut Vec<u8>,
+    alloc: Global,
+    status: &str,
+    kind: &str,
+    body: &[u8],
+) -> Result<(), AllocError> {
+    let count = body.len();
+    let head = format!(in alloc;
+        "HTTP/1.1 {status}\r\nContent-Type: application/{kind}\r\nContent-Length: {count}\r\n\r\n"
+    )?;
+    out.extend_from_slice(head.as_bytes())?;
+    out.extend_from_slice(body)?;
+    Ok(())
+}
+
+/// Writes the response that has an answer.
+fn put_answer(out: &mut Vec<u8>, alloc: Global, says: Says) -> Result<(), AllocError> {
+    match says {
+        Says::Json(status, body) => put_response(out, alloc, status, "json", body.as_bytes()),
+        Says::Bytes(body) => put_response(out, alloc, "200 OK", "octet-stream", body),
+    }
+}
+
+/// What is sent to ask this.
+pub fn input_of(alloc: Global, rows: &[Row]) -> Result<Vec<u8>, AllocError> {
+    let mut bytes = Vec::new(alloc);
+    for row in rows {
+        put_request(&mut bytes, alloc, row)?;
+    }
+    Ok(bytes)
+}
+
+/// What comes back if this is answered.
+pub fn output_of(alloc: Global, rows: &[Row]) -> Result<Vec<u8>, AllocError> {
+    let mut bytes = Vec::new(alloc);
+    for row in rows {
+        put_answer(&mut bytes, alloc, row.2)?;
+    }
+    Ok(bytes)
+}
+
+/// A clock that gives these moments in turn.
+pub fn clock_of(alloc: Global, seconds: &[u64]) -> Result<ListClock, Fail> {
+    let mut moments = Vec::new(alloc);
+    for second in seconds {
+        moments.push(Moment::new(*second).unwrap_or(Moment::first()))?;
+    }
+    if moments.is_empty() {
+        return Err(Fail::new("no moments"));
+    }
+    Ok(ListClock::new(moments))
+}
+
+/// Runs the program on what is asked.
+pub fn talk<N: Namer>(
+    alloc: Global,
+    disk: MemoryDisk,
+    namer: N,
+    seconds: &[u64],
+    rows: &[Row],
+) -> Result<Done<MemoryDisk, MemoryLink>, Fail> {
+    let words = words_of(alloc, "backup_server pipe --store store")?;
+    let link = MemoryLink::new(alloc, input_of(alloc, rows)?, 65_536, Vec::new(alloc))?;
+    let mut clock = clock_of(alloc, seconds)?;
+    Ok(run(
+        alloc,
+        words.as_slice(),
+        &defaults(alloc)?,
+        disk,
+        namer,
+        &mut clock,
+        link,
+    ))
+}
+
+/// Whether a run answered so.
+pub fn is_answered(
+    alloc: Global,
+    done: &Done<MemoryDisk, MemoryLink>,
+    rows: &[Row],
+) -> Result<bool, AllocError> {
+    let wanted = output_of(alloc, rows)?;
+    Ok(done.link.output() == wanted.as_slice())
+}
+
+/// A failure that tells the first request that wasn't answered as it was to be, and what comes from its answer on.
+fn fail_of(alloc: Global, done: &Done<MemoryDisk, MemoryLink>, rows: &[Row]) -> Result<(), Fail> {
+    let note = done.note;
+    let output = done.link.output();
+    let mut wanted = Vec::new(alloc);
+    for row in rows {
+        let count = wanted.len();
+        put_answer(&mut wanted, alloc, row.2)?;
+        if !output.starts_with(wanted.as_slice()) {
+            let ask = row.0;
+            let rest = String::from_utf8_lossy(alloc, output.get(count..).unwrap_or(output))?;
+            return Err(Fail::new(format_args!("{note:?}, {ask}: {rest}")));
+        }
+    }
+    Err(Fail::new(format_args!("{note:?}")))
+}
+
+/// Asks, fails where the run doesn't end with status 0 or something is answered otherwise, and gives the disk back.
+pub fn expect_talk<N: Namer>(
+    alloc: Global,
+    disk: MemoryDisk,
+    namer: N,
+    seconds: &[u64],
+    rows: &[Row],
+) -> Result<MemoryDisk, Fail> {
+    let done = talk(alloc, disk, namer, seconds, rows)?;
+    if done.note != Note::Nothing || !is_answered(alloc, &done, rows)? {
+        fail_of(alloc, &done, rows)?;
+    }
+    Ok(done.disk)
+}
+
+/// The place of the first of these that is what a run answered.
+fn place_of(
+    alloc: Global,
+    done: &Done<MemoryDisk, MemoryLink>,
+    answers: &[&[Row]],
+) -> Result<Option<usize>, AllocError> {
+    for (place, rows) in answers.iter().enumerate() {
+        if is_answered(alloc, done, rows)? {
+            return Ok(Some(place));
+        }
+    }
+    Ok(None)
+}
+
+/// Asks what may be answered in several ways; fails where it is answered in none, or the run doesn't end with status 0. Gives the
+/// place of the way, and the disk back.
+pub fn place_answered<N: Namer>(
+    alloc: Global,
+    disk: MemoryDisk,
+    namer: N,
+    answers: &[&[Row]],
+) -> Result<(usize, MemoryDisk), Fail> {
+    let first = match answers {
+        [first, ..] => *first,
+        [] => return Err(Fail::new("no answers")),
+    };
+    let done = talk(alloc, disk, namer, NOW, first)?;
+    match place_of(alloc, &done, answers)? {
+        Some(place) if done.note == Note::Nothing => Ok((place, done.disk)),
+        _ => {
+            fail_of(alloc, &done, first)?;
+            Err(Fail::new("not answered"))
+        }
+    }
+}
+
+/// The disk that a stop at a moment leaves.
+pub fn image_of(
+    alloc: Global,
+    disk: &MemoryDisk,
+    moment: usize,
+    choice: Choice,
+) -> Result<MemoryDisk, Fail> {
+    if moment > disk.moment() {
+        return Err(Fail::new("a moment to come"));
+    }
+    Ok(disk.image(alloc, moment, choice)?)
+}
+
+/// Fails where a file doesn't hold what stands beside it, or isn't absent where nothing does.
+pub fn expect_files(
+    alloc: Global,
+    disk: &mut MemoryDisk,
+    files: &[(FileId, Option<&[u8]>)],
+) -> Result<(), Fail> {
+    for (file, bytes) in files {
+        expect_file(alloc, disk, *file, *bytes)?;
+    }
+    Ok(())
+}
+
+pub fn expect(holds: bool, text: &'static str) -> Result<(), Fail> {
+    if holds { Ok(()) } else { Err(Fail::new(text)) }
+}
