@@ -1,0 +1,14 @@
+//! A server at a door: it serves the links that come there over HTTP, one after the other, over any port, clock and gate.
+//!
+//! ```text
+//! let end = serve_door(alloc, &mut port, &mut door, &mut clock, &mut OpenGate, &defaults);
+//! ```
+#![tactic(auto)]
+
+mod end;
+mod serving;
+#[cfg(test)]
+mod tests;
+
+pub use end::DoorEnd;
+pub use serving::serve_door;
