@@ -55,7 +55,7 @@ hex() {
     od -An -v -tx1 "$1" | tr -d ' \n'
 }
 
-usage='usage: backup_server pipe --store DIR'
+usage='usage: backup_server pipe --store DIR [--settings FILE]'
 : >in
 : >want
 
@@ -86,8 +86,31 @@ printf 'HTTP/1.1 200 OK\r\nContent-Type: application/json\r\nContent-Length: 17\
 attempt pipe --store empty/a/b
 judge 'a third run has what the second one added' 0 ''
 
+printf 'PUT /hosts/pc1 HTTP/1.1\r\nHost: b\r\n\r\nGET /hosts/pc1/due HTTP/1.1\r\nHost: b\r\n\r\n' >in
+{
+    printf 'HTTP/1.1 201 Created\r\nContent-Type: application/json\r\nContent-Length: 14\r\n\r\n{"host":"pc1"}'
+    printf 'HTTP/1.1 200 OK\r\nContent-Type: application/json\r\nContent-Length: 30\r\n\r\n{"blackout":true,"due":"full"}'
+} >want
+printf '[Rules]\nBlackoutGoodCnt = 0\nBlackoutPeriods = "0-1439:0123456;1439-0:0123456"\n' >settings
+attempt pipe --store settled --settings settings
+judge 'settings that have each host left alone' 0 ''
 : >in
 : >want
+printf '[Rules]\nFillCycle = -1\n' >settings
+attempt pipe --store unsettled --settings settings
+judge 'settings with a wrong value' 7 'bad settings: FillCycle'
+[ "$(ls unsettled)" = lock ]
+expect 'wrong settings open no store'
+printf 'Zone' >settings
+attempt pipe --store unsettled --settings settings
+judge 'settings that are no TOML' 7 'bad settings: not TOML'
+attempt pipe --store unread --settings absent
+judge 'a settings file that is not there' 8 "the settings file absent can't be read: No such file or directory (os error 2)"
+attempt pipe --store unread --settings .
+judge 'a settings file that is a folder' 8 "the settings file . can't be read: Is a directory (os error 21)"
+[ ! -e unread ]
+expect 'settings that cannot be read make nothing'
+
 mkdir -p foreign
 printf abc >foreign/head
 : >foreign/lock

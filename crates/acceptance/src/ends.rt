@@ -1,20 +1,19 @@
 //! A run of the program over ends in memory.
 
 use admin_cli::{Done, run};
-use backup_rules::Rules;
 use disk_trait::{Disk, DiskRoom, FileId, MemoryDisk};
 use pool_name::Md5Namer;
-use request_events::Defaults;
 use std::alloc::{AllocError, Global};
 use std::test::Fail;
 use stream_traits::{FixedClock, MemoryLink, Moment};
-use wake_schedule::Zone;
 
 /// What a run is made of.
 #[derive(Clone, Copy)]
 pub struct Case<'a> {
     /// The words of the command line, with one space between two.
     pub line: &'a str,
+    /// The text of the settings file.
+    pub settings: &'a str,
     /// The input, in pieces.
     pub input: &'a [&'a str],
     /// The number of the disk's call that fails.
@@ -28,6 +27,7 @@ pub struct Case<'a> {
 /// The command `pipe` without input, with ample room and no call that fails.
 pub const QUIET: Case<'static> = Case {
     line: "backup_server pipe --store store",
+    settings: "",
     input: &[],
     disk_fails: u64::MAX,
     disk_room: DiskRoom {
@@ -82,17 +82,6 @@ pub fn new_clock() -> FixedClock {
     FixedClock::new(Moment::new(1_700_000_000).unwrap_or(Moment::first()))
 }
 
-/// What a server without a settings file adds to requests.
-pub fn defaults(alloc: Global) -> Result<Defaults, AllocError> {
-    match Zone::read("UTC") {
-        Ok(zone) => Ok(Defaults {
-            rules: Rules::defaults(alloc)?,
-            zone,
-        }),
-        Err(_) => Err(AllocError),
-    }
-}
-
 /// Runs a case over this disk.
 pub fn run_over(
     alloc: Global,
@@ -105,7 +94,7 @@ pub fn run_over(
     Ok(run(
         alloc,
         words.as_slice(),
-        &defaults(alloc)?,
+        case.settings.as_bytes(),
         disk,
         Md5Namer,
         &mut clock,

@@ -26,6 +26,8 @@ mod nights;
 #[cfg(test)]
 mod refusals;
 #[cfg(test)]
+mod settings;
+#[cfg(test)]
 mod stops;
 #[cfg(test)]
 mod talks;

@@ -99,7 +99,7 @@ fn expect_usage(alloc: Global, line: &str) -> Result<(), Fail> {
     };
     let want = Want {
         status: 2,
-        said: "usage: backup_server pipe --store DIR",
+        said: "usage: backup_server pipe --store DIR [--settings FILE]",
         output: &[],
     };
     let mut disk = expect_run(alloc, &case, &want)?;
@@ -114,6 +114,8 @@ fn faulty_words_are_refused(rt: HostRuntime) -> Result<(), Fail> {
         "backup_server pipe --store",
         "backup_server pipe --store a b",
         "backup_server pipe store --store",
+        "backup_server pipe --store a --settings",
+        "backup_server pipe --store a --zone b",
     ] {
         expect_usage(rt.alloc(), line)?;
     }
@@ -124,10 +126,23 @@ fn faulty_words_are_refused(rt: HostRuntime) -> Result<(), Fail> {
 fn words_name_the_folder(rt: HostRuntime) -> Result<(), Fail> {
     let words = words_of(rt.alloc(), QUIET.line)?;
     let line = parse(rt.alloc(), words.as_slice())?;
-    if line.store.as_str() == "store" {
+    if line.store.as_str() == "store" && line.settings.is_none() {
         return Ok(());
     }
     Err(Fail::new("another folder"))
+}
+
+#[test]
+fn words_name_the_settings_file(rt: HostRuntime) -> Result<(), Fail> {
+    let words = words_of(
+        rt.alloc(),
+        "backup_server pipe --store store --settings file",
+    )?;
+    let line = parse(rt.alloc(), words.as_slice())?;
+    match line.settings {
+        Some(file) if line.store.as_str() == "store" && file.as_str() == "file" => Ok(()),
+        _ => Err(Fail::new("another file")),
+    }
 }
 
 #[test]

@@ -1,13 +1,12 @@
 //! Runs and stores in threads.
 
-use crate::ends::{Case, QUIET, Want, defaults, disk_of, expect_end, link_of, new_clock, words_of};
+use crate::ends::{Case, QUIET, Want, disk_of, expect_end, link_of, new_clock, words_of};
 use crate::files::{COMMIT, COMMITTED, CONTENT, READ};
 use admin_cli::{Done, run};
 use disk_trait::{Disk, MemoryDisk};
 use office_model::{Answer, Event, Refusal};
 use office_store::Store;
 use pool_name::Md5Namer;
-use request_events::Defaults;
 use std::alloc::Global;
 use std::test::Fail;
 use std::thread::{Threads, join};
@@ -19,7 +18,6 @@ fn run_apart<D: Disk + Send + Drop, C: Clock + Drop, L: Link + Drop>(
     rt: &impl Threads,
     alloc: Global,
     words: Vec<String>,
-    defaults: Defaults,
     disk: D,
     mut clock: C,
     link: L,
@@ -28,7 +26,7 @@ fn run_apart<D: Disk + Send + Drop, C: Clock + Drop, L: Link + Drop>(
         run(
             alloc,
             words.as_slice(),
-            &defaults,
+            &[],
             disk,
             Md5Namer,
             &mut clock,
@@ -64,7 +62,7 @@ fn expect_apart(
     let words = words_of(alloc, case.line)?;
     let disk = disk_of(alloc, case)?;
     let link = link_of(alloc, case)?;
-    let done = run_apart(rt, alloc, words, defaults(alloc)?, disk, new_clock(), link);
+    let done = run_apart(rt, alloc, words, disk, new_clock(), link);
     expect_end(alloc, &done, want)
 }
 

@@ -1,8 +1,7 @@
--- A run that served its connection, from what the layers below it say.
---     serves, refuses, complete
+-- A run of `pipe`, from what the layers below it say.
+--     serves, refuses_early, refuses, tells, complete
 use Rattle.std.specs.Prelude.{◌≤◌, IsSome, ◌||◌, ◌⊎◌}
 use Rattle.std.proofs.Common.{◌≡◌, ℕ, ◌-◌, ◌^◌, ◌<◌, Bool, true, false, List, Option, None, Some, refl, sym, ap, ◌∙◌, subst, inl, inr, arith}
-use Rattle.std.proofs.lemmas.Bool.{false≢true}
 use Rattle.fault_counts.specs.Counts.{Rose, Counted}
 use Rattle.disk_trait.specs.declared.disk.Disk.{Ghosts as DiskGhosts}
 use Rattle.disk_trait.specs.Files.{Files}
@@ -22,12 +21,18 @@ use Rattle.office_store.specs.Moves.{MayRecoverIn, Moves, Goes}
 use Rattle.office_store.specs.EndLaws.{is_halted, halted_rose, halted_as, left_of}
 use Rattle.stream_traits.specs.Seen.{LinkSeen}
 use Rattle.request_events.specs.declared.defaults.Defaults.{Defaults}
+use Rattle.settings_file.specs.declared.read.Settings.{Settings}
+use Rattle.settings_file.specs.Document.{IsSettings}
 use Rattle.browse_http.specs.declared.end.End.{End}
 use Rattle.browse_http.specs.declared.end.End.TheVariants.{Ended, Truncated, BadRequest, LinkFault, Memory}
 use Rattle.browse_http.specs.Talk.{ServesLink, calls_of}
 use Rattle.admin_cli.specs.declared.note.Note.{Note}
-use Rattle.admin_cli.specs.declared.note.Note.TheVariants.{Nothing, InputEnded, NotUnderstood, Usage, LinkFailed, DiskFailed, Foreign, EpochsSpent, NoMemory}
-use Rattle.admin_cli.specs.Run.{status_of, note_of, note_of_refusal, StandsForEither, IsServed, Serves, IsUnopened, IsCause, Refuses, IsComplete}
+use Rattle.admin_cli.specs.declared.note.Note.TheVariants.{NoMemory, EpochsSpent}
+use Rattle.admin_cli.specs.Statuses.{status_of}
+use Rattle.admin_cli.specs.Command.{Line, Pipe, AsksFor}
+use Rattle.admin_cli.specs.Asked.{IsSettingsFile, defaults_of, IsRefused, TellsRefusals}
+use Rattle.admin_cli.specs.Run.{note_of, note_of_refusal, StandsForEither, IsServed, Serves, IsUnopened, IsNotOpened, Refuses, IsComplete}
+use Rattle.admin_cli.proofs.RefusalLaws.{none_said, said_task, file_of, refused_for_memory, tells_served, tells_refused, tells_unopened}
 
 module _ {D N S : Type 0} {d : DiskGhosts D} {n : NamerGhosts N S} (disk : D) (store store' : Store D N S d n)
     (opened : (a b : Office) → IsOf n.digest_of (d.files disk) (d.uncertain disk) a b → Opened a b store.parts)
@@ -71,20 +76,26 @@ module _ {D N S : Type 0} {d : DiskGhosts D} {n : NamerGhosts N S} (disk : D) (s
           (halted_rose (Running (reopened o.office) o.names) (d.fault_count store.parts.journal.disk) g.leads.entries g.leads.legal refl
           (ap is_halted (sym g.leads.state_is) ∙ sym (halted_as store' g.next g.in_state) ∙ halted)))
 
-  pub serves : (defaults : Defaults) (words : Option (List ℕ)) (port port' : DirectPort D N S d n) (link link' : LinkSeen) (moments moments' : Option (List ℕ))
+  pub serves : (defaults : Defaults) (line : Option Line) (settings : List ℕ) (read : Settings) (port port' : DirectPort D N S d n) (link link' : LinkSeen) (moments moments' : Option (List ℕ))
       (end : End) (disk' : D) (halted : Bool) (note : Note)
-      → IsSome words → port.store ≡ store
+      → AsksFor Pipe line → IsSettings settings read → defaults ≡ defaults_of read → port.store ≡ store
       → ServesLink defaults (λ (p : DirectPort D N S d n) calls (q : DirectPort D N S d n). Moves p.store calls q.store)
       port port' link link' moments moments' end
       → store' ≡ port'.store → disk' ≡ store'.parts.journal.disk → halted ≡ (store'.parts.halted || store'.parts.journal.halted)
       → note ≡ note_of end halted
-      → Serves d n.digest_of defaults disk disk' words link link' moments moments' note
-  serves defaults words port port' link link' moments moments' end disk' halted note named port_is served store_is disk_is halted_is note_is =
+      → Serves d n.digest_of disk disk' line settings link link' moments moments' note
+  serves defaults line settings read port port' link link' moments moments' end disk' halted note asked is_read defaults_is port_is served_by store_is disk_is halted_is note_is =
+      let served : ServesLink (defaults_of read) (λ (p : DirectPort D N S d n) calls (q : DirectPort D N S d n). Moves p.store calls q.store)
+      port port' link link' moments moments' end =
+      subst (λ (added : Defaults). ServesLink added (λ (p : DirectPort D N S d n) calls (q : DirectPort D N S d n). Moves p.store calls q.store)
+      port port' link link' moments moments' end) defaults_is served_by in
       let moved : Moves store (calls_of served.talk.exchanges) store' =
       subst (λ q. Moves store (calls_of served.talk.exchanges) q) (sym store_is)
       (subst (λ p. Moves p (calls_of served.talk.exchanges) port'.store) port_is served.talk.moved) in
       rw (note_is, disk_is, halted_is) (record {
-        named = named;
+        asked = asked;
+        read = read;
+        is_read = is_read;
         end = end;
         halted = store'.parts.halted || store'.parts.journal.halted;
         talk = record {
@@ -109,16 +120,29 @@ module _ {D N S : Type 0} {d : DiskGhosts D} {n : NamerGhosts N S} (disk : D) (s
         note_is = refl;
       })
 
-none_named : IsSome {T = List ℕ} None → ⊥
-none_named named = false≢true named
+-- the words or the settings were refused
+pub refuses_early : {D : Type 0} (d : DiskGhosts D) (digest_of : List ℕ → List ℕ) (disk : D) (line : Option Line) (settings : List ℕ)
+    (link : LinkSeen) (moments : Option (List ℕ)) (note : Note) → IsRefused line settings note
+    → Refuses d digest_of disk disk line settings link link moments moments note
+refuses_early d digest_of disk line settings link moments note is =
+    record { cause = inl (is, refl); untouched = refl; unasked = refl }
 
 -- no store was opened
-pub refuses : {D : Type 0} (d : DiskGhosts D) (digest_of : List ℕ → List ℕ) (disk disk' : D) (store : Option (List ℕ)) (link : LinkSeen)
-    (moments : Option (List ℕ)) (refusal : OpenRefusal) (note : Note) → IsSome store → note ≡ note_of_refusal refusal
-    → IsUnopened d digest_of disk disk' refusal → Refuses d digest_of disk disk' store link link moments moments note
-refuses d digest_of disk disk' None link moments refusal note named note_is is = absurd (none_named named)
-refuses d digest_of disk disk' (Some store) link moments refusal note named note_is is =
-    record { cause = (refusal, note_is, is); untouched = refl; unasked = refl }
+pub refuses : {D : Type 0} (d : DiskGhosts D) (digest_of : List ℕ → List ℕ) (disk disk' : D) (line : Option Line) (settings : List ℕ)
+    (read : Settings) (link : LinkSeen) (moments : Option (List ℕ)) (refusal : OpenRefusal) (note : Note)
+    → AsksFor Pipe line → IsSettings settings read → note ≡ note_of_refusal refusal
+    → IsUnopened d digest_of disk disk' refusal → Refuses d digest_of disk disk' line settings link link moments moments note
+refuses d digest_of disk disk' line settings read link moments refusal note asked is_read note_is is = record {
+  cause = inr (record {
+    asked = said_task line Pipe asked;
+    read = file_of settings read is_read;
+    refusal = refusal;
+    note_is = note_is;
+    unopened = is;
+  });
+  untouched = refl;
+  unasked = refl;
+}
 
 module _ {D : Type 0} (d : DiskGhosts D) (digest_of : List ℕ → List ℕ) (disk disk' : D) (linked linked' : ℕ) (note : Note) where
   abbrev EndsWell : Note → Office → Office → Type 0
@@ -151,16 +175,41 @@ module _ {D : Type 0} (d : DiskGhosts D) (digest_of : List ℕ → List ℕ) (di
       let rose : Rose (d.fault_count disk) (d.fault_count disk') = is.counted.rose refl in absurd (omega (arith, rose, m, same))
   unopened_complete a b O.Memory stands is m same = inr (inr (inl refl))
 
-  pub complete : (defaults : Defaults) (store : Option (List ℕ)) (link link' : LinkSeen) (moments moments' : Option (List ℕ))
-      → Serves d digest_of defaults disk disk' store link link' moments moments' note
-      ⊎ Refuses d digest_of disk disk' store link link' moments moments' note
-      → link.faults ≡ linked → link'.faults ≡ linked' → IsComplete d digest_of disk disk' store linked linked' note
-  complete defaults store link link' moments moments' (inl s) is is' = λ a b stands some m same l same_link.
-      subst (λ (said : Note). EndsWell said a b) (sym s.note_is)
+  early_complete : (a b : Office) (line : Option Line) (settings : List ℕ) → IsRefused line settings note → IsSome line
+      → IsSettingsFile settings → EndsWell note a b
+  early_complete a b None settings is said file = absurd (none_said said)
+  early_complete a b (Some line) settings is said file =
+      inr (inr (inl (ap status_of (is.1 ∙ refused_for_memory settings is.0 file is.2))))
+
+  refused_complete : (line : Option Line) (settings : List ℕ)
+      → (IsRefused line settings note × (disk' ≡ disk)) ⊎ IsNotOpened d digest_of disk disk' line settings note
+      → IsComplete d digest_of disk disk' line settings linked linked' note
+  refused_complete line settings (inl early) = λ a b stands said file m same l same_link.
+      early_complete a b line settings early.0 said file
+  refused_complete line settings (inr at) = λ a b stands said file m same l same_link.
+      subst (λ (told : Note). EndsWell told a b) (sym at.note_is) (unopened_complete a b at.refusal stands at.unopened m same)
+
+  pub complete : (line : Option Line) (settings : List ℕ) (link link' : LinkSeen) (moments moments' : Option (List ℕ))
+      → Serves d digest_of disk disk' line settings link link' moments moments' note
+      ⊎ Refuses d digest_of disk disk' line settings link link' moments moments' note
+      → link.faults ≡ linked → link'.faults ≡ linked' → IsComplete d digest_of disk disk' line settings linked linked' note
+  complete line settings link link' moments moments' (inl s) is is' = λ a b stands said file m same l same_link.
+      subst (λ (told : Note). EndsWell told a b) (sym s.note_is)
       (served_complete a b s.end s.halted
       (λ e. subst (λ (k : ℕ). Rose k linked') is (subst (λ (k : ℕ). Rose link.faults k) is' (s.talk.counted.rose e)))
       (s.talk.talk.moved a b stands).rose m same l same_link)
-  complete defaults None link link' moments moments' (inr r) is is' = λ a b stands some m same l same_link. absurd (none_named some)
-  complete defaults (Some store) link link' moments moments' (inr r) is is' = λ a b stands some m same l same_link.
-      subst (λ (said : Note). EndsWell said a b) (sym r.cause.1)
-      (unopened_complete a b r.cause.0 stands r.cause.2 m same)
+  complete line settings link link' moments moments' (inr r) is is' = refused_complete line settings r.cause
+
+  refused_tells : (line : Option Line) (settings : List ℕ)
+      → (IsRefused line settings note × (disk' ≡ disk)) ⊎ IsNotOpened d digest_of disk disk' line settings note
+      → TellsRefusals line settings note
+  refused_tells line settings (inl early) = tells_refused line settings note early.0
+  refused_tells line settings (inr at) = tells_unopened line settings note at.refusal at.asked at.read at.note_is
+
+  pub tells : (line : Option Line) (settings : List ℕ) (link link' : LinkSeen) (moments moments' : Option (List ℕ))
+      → Serves d digest_of disk disk' line settings link link' moments moments' note
+      ⊎ Refuses d digest_of disk disk' line settings link link' moments moments' note
+      → TellsRefusals line settings note
+  tells line settings link link' moments moments' (inl s) =
+      tells_served line settings s.read note s.end s.halted (said_task line Pipe s.asked) s.is_read s.note_is
+  tells line settings link link' moments moments' (inr r) = refused_tells line settings r.cause

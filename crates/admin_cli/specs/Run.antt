@@ -1,5 +1,5 @@
 -- What the program promises for its command `pipe`.
---     status_of, note_of      the status of a note, and the note of a run that served its connection
+--     note_of      the note of a run that served its connection
 --     IsServed      one legal history of the calls, from one of the offices that the disk stood for, and what the disk is left with
 --     Serves, Refuses      a connection was served; no store was opened
 --     IsComplete      how a run ends if nothing failed
@@ -20,24 +20,16 @@ use Rattle.store_opening.specs.Opens.{IsOf, HasLast, Left}
 use Rattle.store_opening.specs.Recovers.{SaysWhy}
 use Rattle.store_opening.specs.Reopens.{first_of, second_of}
 use Rattle.office_store.specs.Moves.{MayRecoverIn}
-use Rattle.request_events.specs.declared.defaults.Defaults.{Defaults}
+use Rattle.settings_file.specs.declared.read.Settings.{Settings}
+use Rattle.settings_file.specs.Document.{IsSettings}
 use Rattle.browse_http.specs.declared.end.End.{End}
 use Rattle.browse_http.specs.declared.end.End.TheVariants.{Ended, Truncated, BadRequest, LinkFault, Memory}
 use Rattle.browse_http.specs.Talk.{ServesLink}
 use Rattle.admin_cli.specs.declared.note.Note.{Note}
-use Rattle.admin_cli.specs.declared.note.Note.TheVariants.{Nothing, InputEnded, NotUnderstood, Usage, LinkFailed, DiskFailed, Foreign, EpochsSpent, NoMemory}
-
--- the status of a run, by what it says as it ends
-abbrev pub status_of : Note → ℕ
-status_of Nothing = 0
-status_of InputEnded = 1
-status_of NotUnderstood = 1
-status_of Usage = 2
-status_of LinkFailed = 3
-status_of DiskFailed = 4
-status_of (Foreign file) = 5
-status_of EpochsSpent = 5
-status_of NoMemory = 6
+use Rattle.admin_cli.specs.declared.note.Note.TheVariants.{Nothing, InputEnded, NotUnderstood, LinkFailed, DiskFailed, Foreign, EpochsSpent, NoMemory}
+use Rattle.admin_cli.specs.Statuses.{status_of}
+use Rattle.admin_cli.specs.Command.{Line, Pipe, AsksFor}
+use Rattle.admin_cli.specs.Asked.{IsSettingsFile, defaults_of, IsRefused}
 
 -- what a run says that served its connection: want of memory first, then the link's fault, a halted store, and the connection's end
 abbrev pub note_of : End → (halted : Bool) → Note
@@ -84,14 +76,16 @@ module _ {D : Type 0} (d : DiskGhosts D) (digest_of : List ℕ → List ℕ) whe
   abbrev pub LeadsOnDisk : (halted : Bool) → D → List Call → D → Type 0
   LeadsOnDisk halted disk calls disk' = (a b : Office) → StandsForEither disk a b → IsServed disk disk' calls halted a b
 
-  -- the words name a store, it was opened, and one connection was served: its talk, over calls that lead from the disk that came in
-  -- to that handed back
-  pub record Serves (defaults : Defaults) (disk disk' : D) (store : Option (List ℕ)) (link link' : LinkSeen)
+  -- the words ask for `pipe`, the store was opened, and one connection was served by the settings that were read: its talk, over
+  -- calls that lead from the disk that came in to that handed back
+  pub record Serves (disk disk' : D) (line : Option Line) (settings : List ℕ) (link link' : LinkSeen)
       (moments moments' : Option (List ℕ)) (note : Note) : Type 0 where
-    pub named : IsSome store
+    pub asked : AsksFor Pipe line
+    pub read : Settings
+    pub is_read : IsSettings settings read
     pub end : End
     pub halted : Bool
-    pub talk : ServesLink defaults (LeadsOnDisk halted) disk disk' link link' moments moments' end
+    pub talk : ServesLink (defaults_of read) (LeadsOnDisk halted) disk disk' link link' moments moments' end
     pub later : d.fault_count disk ≤ d.fault_count disk'
     pub note_is : note ≡ note_of end halted
 
@@ -104,22 +98,30 @@ module _ {D : Type 0} (d : DiskGhosts D) (digest_of : List ℕ → List ℕ) whe
     pub left : (a b : Office) → StandsForEither disk a b → Left digest_of (d.files disk') (d.uncertain disk') a b refusal
     pub crash : (a b : Office) → StandsForEither disk a b → Leaves d.moment d.left_since disk disk' (Finds (MayLeave digest_of a b))
 
-  -- why no store was opened: the words name none, and the disk was left alone; or the opening was refused
-  abbrev pub IsCause : D → D → Option (List ℕ) → Note → Type 0
-  IsCause disk disk' None note = (note ≡ Usage) × (disk' ≡ disk)
-  IsCause disk disk' (Some store) note = (refusal : OpenRefusal) × (note ≡ note_of_refusal refusal) × IsUnopened disk disk' refusal
+  -- words and settings were understood, and the opening was refused
+  pub record IsNotOpened (disk disk' : D) (line : Option Line) (settings : List ℕ) (note : Note) : Type 0 where
+    pub asked : IsSome line
+    pub read : IsSettingsFile settings
+    pub refusal : OpenRefusal
+    pub note_is : note ≡ note_of_refusal refusal
+    pub unopened : IsUnopened disk disk' refusal
+
+  -- why no store was opened: the words or the settings were refused, and the disk was left alone; or the opening was refused
+  abbrev pub IsCause : D → D → Option Line → List ℕ → Note → Type 0
+  IsCause disk disk' line settings note =
+      (IsRefused line settings note × (disk' ≡ disk)) ⊎ IsNotOpened disk disk' line settings note
 
   -- no store was opened, nothing happened to the link, and the clock wasn't asked
-  pub record Refuses (disk disk' : D) (store : Option (List ℕ)) (link link' : LinkSeen) (moments moments' : Option (List ℕ))
-      (note : Note) : Type 0 where
-    pub cause : IsCause disk disk' store note
+  pub record Refuses (disk disk' : D) (line : Option Line) (settings : List ℕ) (link link' : LinkSeen)
+      (moments moments' : Option (List ℕ)) (note : Note) : Type 0 where
+    pub cause : IsCause disk disk' line settings note
     pub untouched : link' ≡ link
     pub unasked : moments' ≡ moments
 
-  -- If the words name a store, the disk stands for an office, whatever a crash leaves, and neither count rose (nor stands at its type's
-  -- end), the run ended with 0, with 1, for want of memory, or because the office had its last epoch.
-  abbrev pub IsComplete : D → D → Option (List ℕ) → (linked linked' : ℕ) → Note → Type 0
-  IsComplete disk disk' store linked linked' note =
-      (a b : Office) → StandsForEither disk a b → IsSome store
+  -- If the words are a command line, the settings are a settings file, the disk stands for an office, whatever a crash leaves, and neither
+  -- count rose (nor stands at its type's end), the run ended with 0, with 1, for want of memory, or because the office had its last epoch.
+  abbrev pub IsComplete : D → D → Option Line → List ℕ → (linked linked' : ℕ) → Note → Type 0
+  IsComplete disk disk' line settings linked linked' note =
+      (a b : Office) → StandsForEither disk a b → IsSome line → IsSettingsFile settings
       → d.fault_count disk < 2 ^ 64 - 1 → d.fault_count disk' ≡ d.fault_count disk → linked < 2 ^ 64 - 1 → linked' ≡ linked
       → (status_of note ≡ 0) ⊎ ((status_of note ≡ 1) ⊎ ((status_of note ≡ 6) ⊎ ((note ≡ EpochsSpent) × HasLast a b)))

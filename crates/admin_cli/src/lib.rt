@@ -2,14 +2,15 @@
 //! words, notes with their statuses, and the layers below by their public clauses alone; no bytes of a store's file.
 //!
 //! ```text
-//! let Done { note, disk } = run(alloc, &words, disk, &mut clock, &mut link);
+//! let Done { note, disk, link } = run(alloc, &words, settings, disk, namer, &mut clock, link);
 //! ```
 #![tactic(auto)]
 
+mod asked;
 mod note;
 mod pipe;
 mod words;
 
 pub use note::Note;
 pub use pipe::{Done, run};
-pub use words::{CommandLine, LineFault, USAGE, Work, has_parse, parse};
+pub use words::{CommandLine, LineFault, USAGE, Work, parse};

@@ -1,5 +1,6 @@
 use crate::words::USAGE;
 use disk_trait::FileId;
+use settings_file::SettingsFault;
 use std::fmt;
 
 /// What the program says on standard error as it ends; each has its exit status.
@@ -23,11 +24,13 @@ pub enum Note {
     EpochsSpent,
     /// There was no memory.
     NoMemory,
+    /// The settings are no settings file, for this reason.
+    BadSettings(SettingsFault),
 }
 
 impl Note {
     ghost use Rattle.std.specs.Prelude.{◌≡◌};
-    ghost use Rattle.admin_cli.specs.Run.{status_of};
+    ghost use Rattle.admin_cli.specs.Statuses.{status_of};
 
     /// The program's exit status.
     pub fn status(self) -> u8
@@ -42,6 +45,7 @@ impl Note {
             Note::DiskFailed => 4,
             Note::Foreign(_) | Note::EpochsSpent => 5,
             Note::NoMemory => 6,
+            Note::BadSettings(_) => 7,
         }
     }
 }
@@ -58,6 +62,7 @@ impl fmt::Display for Note {
             Note::Foreign(file) => write!(f, "foreign {file}"),
             Note::EpochsSpent => write!(f, "epochs spent"),
             Note::NoMemory => write!(f, "no memory"),
+            Note::BadSettings(fault) => write!(f, "bad settings: {fault}"),
         }
     }
 }

@@ -1,7 +1,6 @@
-ghost use Rattle.std.specs.Prelude.{◌≡◌, None, Some, map, IfOk, IfErr, is_some};
-ghost use Rattle.std.specs.Option.{option_copied};
+ghost use Rattle.std.specs.Prelude.{◌≡◌, None, Some, map, option_map, IfOk, IfErr};
 ghost use Rattle.std.specs.String.{string_bytes};
-ghost use Rattle.admin_cli.specs.Command.{store_named};
+ghost use Rattle.admin_cli.specs.Command.{line_of, with_options, task_of, meaning, borrowed_meaning};
 
 use std::alloc::{AllocError, Global};
 use std::error::Error;
@@ -19,6 +18,8 @@ pub enum Work {
 pub struct CommandLine {
     /// The folder of the store, as it was written.
     pub store: String,
+    /// The file of the settings, as it was written; without one each setting has its default.
+    pub settings: Option<String>,
     pub work: Work,
 }
 
@@ -51,16 +52,39 @@ impl From<AllocError> for LineFault {
 }
 
 /// How the program is called.
-pub const USAGE: &str = "usage: backup_server pipe --store DIR";
+pub const USAGE: &str = "usage: backup_server pipe --store DIR [--settings FILE]";
 
-/// The folder that the words name: they are the program's name, `pipe`, `--store` and the folder.
-fn store_named(words: &[String]) -> Option<&str>
-    ensures { option_copied result ≡ store_named (map string_bytes words.now) }
+/// The words of a command line, where they stand.
+#[derive(Clone, Copy)]
+struct Borrowed<'a> {
+    store: &'a str,
+    settings: Option<&'a str>,
+    work: Work,
+}
+
+/// Reads the options of a command: `--store` and a folder, and then `--settings` and a file, if any.
+fn with_options(work: Work, options: &[String]) -> Option<Borrowed<'_>>
+    ensures { option_map borrowed_meaning result ≡ with_options (task_of work) (map string_bytes options.now) }
 {
-    match words {
-        [_, command, option, store] => {
-            if command.as_str() == "pipe" && option.as_str() == "--store" {
-                Some(store.as_str())
+    match options {
+        [option, store] => {
+            if option.as_str() == "--store" {
+                Some(Borrowed {
+                    store: store.as_str(),
+                    settings: None,
+                    work,
+                })
+            } else {
+                None
+            }
+        }
+        [option, store, further, file] => {
+            if option.as_str() == "--store" && further.as_str() == "--settings" {
+                Some(Borrowed {
+                    store: store.as_str(),
+                    settings: Some(file.as_str()),
+                    work,
+                })
             } else {
                 None
             }
@@ -69,24 +93,45 @@ fn store_named(words: &[String]) -> Option<&str>
     }
 }
 
-/// Whether the words are a command line.
-pub fn has_parse(words: &[String]) -> bool
-    ensures { result ≡ is_some (store_named (map string_bytes words.now)) }
+/// Reads the words where they stand.
+fn line_of(words: &[String]) -> Option<Borrowed<'_>>
+    ensures { option_map borrowed_meaning result ≡ line_of (map string_bytes words.now) }
 {
-    store_named(words).is_some()
+    match words {
+        [_, command, options @ ..] => {
+            if command.as_str() == "pipe" {
+                with_options(Work::Pipe, options)
+            } else {
+                None
+            }
+        }
+        _ => None,
+    }
+}
+
+/// Copies a text, if there is one.
+fn copy_of(alloc: Global, text: Option<&str>) -> Result<Option<String>, AllocError>
+    ensures { IfOk result (λ copy. option_map string_bytes copy ≡ option_map (λ t. t.now) text.entry) }
+{
+    match text {
+        Some(text) => Ok(Some(String::from_str(alloc, text)?)),
+        None => Ok(None),
+    }
 }
 
 /// Reads the words of a command line; the first is the program's name.
 pub fn parse(alloc: Global, words: &[String]) -> Result<CommandLine, LineFault>
-    ensures ok { IfOk result (λ line. store_named (map string_bytes words.now) ≡ Some (string_bytes line.store)) }
-    ensures none { IfErr result (λ fault. fault ≡ LineFault.NoParse → store_named (map string_bytes words.now) ≡ None) }
+    ensures ok { IfOk result (λ line. line_of (map string_bytes words.now) ≡ Some (meaning line)) }
+    ensures none { IfErr result (λ fault. fault ≡ LineFault.NoParse → line_of (map string_bytes words.now) ≡ None) }
 {
-    match store_named(words) {
-        Some(store) => {
-            let store = String::from_str(alloc, store)?;
+    match line_of(words) {
+        Some(line) => {
+            let store = String::from_str(alloc, line.store)?;
+            let settings = copy_of(alloc, line.settings)?;
             Ok(CommandLine {
                 store,
-                work: Work::Pipe,
+                settings,
+                work: line.work,
             })
         }
         None => Err(LineFault::NoParse),

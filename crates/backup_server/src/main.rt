@@ -13,17 +13,13 @@ use crate::folder_disk::FolderDisk;
 use crate::standard_streams::StandardStreams;
 use crate::store_folder::lock_folder;
 use crate::system_clock::SystemClock;
-use admin_cli::{Done, LineFault, Note, parse, run};
-use backup_rules::Rules;
+use admin_cli::{CommandLine, Done, LineFault, Note, parse, run};
 use pool_name::Md5Namer;
-use request_events::Defaults;
-use std::alloc::AllocError;
 use std::io::{ErrorKind, Stdin, Stdout};
 use std::process::ExitCode;
-use std::{env, fmt, io};
-use wake_schedule::Zone;
+use std::{env, fmt, fs, io};
 
-/// The status where the store's folder or the standard streams can't be had.
+/// The status where the settings file, the store's folder or the standard streams can't be had.
 const NOT_MADE: u8 = 8;
 
 fn main(rt: HostRuntime) -> ExitCode {
@@ -51,9 +47,13 @@ fn obey(rt: &HostRuntime, words: &[String]) -> u8 {
         Ok(line) => line,
         Err(fault) => return refuse(rt, fault),
     };
+    let settings = match read_settings(rt, &line) {
+        Ok(settings) => settings,
+        Err(status) => return status,
+    };
     let folder = line.store.as_str();
     match FolderDisk::open(*rt, folder) {
-        Ok(disk) => serve_alone(rt, words, folder, disk),
+        Ok(disk) => serve_alone(rt, words, settings.as_slice(), folder, disk),
         Err(error) => not_made(
             rt,
             error,
@@ -62,16 +62,32 @@ fn obey(rt: &HostRuntime, words: &[String]) -> u8 {
     }
 }
 
+/// The bytes of the settings file, none where no file is named; or the status, and why it can't be read is said.
+fn read_settings(rt: &HostRuntime, line: &CommandLine) -> Result<Vec<u8>, u8> {
+    let Some(file) = &line.settings else {
+        return Ok(Vec::new(rt.alloc()));
+    };
+    match fs::read(rt, file.as_str()) {
+        Ok(bytes) => Ok(bytes),
+        Err(error) => Err(not_made(
+            rt,
+            error,
+            format_args!("the settings file {file} can't be read"),
+        )),
+    }
+}
+
 /// Does what the words ask while no other process works on the folder, and gives the status.
 fn serve_alone(
     rt: &HostRuntime,
     words: &[String],
+    settings: &[u8],
     folder: &str,
     disk: FolderDisk<HostRuntime>,
 ) -> u8 {
     match lock_folder(rt, folder) {
         Ok(Some(lock)) => {
-            let status = serve(rt, words, folder, disk);
+            let status = serve(rt, words, settings, folder, disk);
             drop(lock);
             status
         }
@@ -87,24 +103,15 @@ fn serve_alone(
     }
 }
 
-/// What a server adds to requests that has no settings file: the default rules, and the zone UTC.
-fn defaults(rt: &HostRuntime) -> Result<Defaults, AllocError> {
-    match Zone::read("UTC") {
-        Ok(zone) => Ok(Defaults {
-            rules: Rules::defaults(rt.alloc())?,
-            zone,
-        }),
-        Err(_) => Err(AllocError),
-    }
-}
-
 /// Does what the words ask, over the standard streams and the system's clock, and gives the status.
 /// What was given to the link goes out before it returns.
-fn serve(rt: &HostRuntime, words: &[String], folder: &str, disk: FolderDisk<HostRuntime>) -> u8 {
-    let defaults = match defaults(rt) {
-        Ok(defaults) => defaults,
-        Err(_) => return end(rt, Note::NoMemory),
-    };
+fn serve(
+    rt: &HostRuntime,
+    words: &[String],
+    settings: &[u8],
+    folder: &str,
+    disk: FolderDisk<HostRuntime>,
+) -> u8 {
     let link = match link_of(rt) {
         Ok(link) => link,
         Err(error) => return not_made(
@@ -121,7 +128,7 @@ fn serve(rt: &HostRuntime, words: &[String], folder: &str, disk: FolderDisk<Host
     } = run(
         rt.alloc(),
         words,
-        &defaults,
+        settings,
         disk,
         Md5Namer,
         &mut clock,

@@ -1,6 +1,9 @@
 use Rattle.std.proofs.Common.{refl}
-use Rattle.admin_cli.proofs.RunLaws.{complete}
+use Rattle.admin_cli.proofs.RunLaws.{complete, tells}
 use Rattle.admin_cli.proofs.pipe.run.Goals as goal
 
+pub returns-clause-refusals : goal.returns-clause-refusals
+returns-clause-refusals g c = tells _ _ _ _ 0 0 _ _ _ _ _ _ _ c.do_asked.ensures
+
 pub returns-clause-complete : goal.returns-clause-complete
-returns-clause-complete g c = complete _ _ _ _ _ _ _ _ _ _ _ _ _ c.serve_pipe.ensures refl refl
+returns-clause-complete g c = complete _ _ _ _ _ _ _ _ _ _ _ _ _ c.do_asked.ensures refl refl

@@ -1,11 +1,11 @@
-use Rattle.std.proofs.Common.{inl, inr, sym, ◌∙◌}
+use Rattle.std.proofs.Common.{inl, inr}
 use Rattle.admin_cli.proofs.RunLaws.{serves, refuses}
 use Rattle.admin_cli.proofs.pipe.serve_pipe.Goals as goal
 
 pub returns-in-Err : goal.returns-in-Err
-returns-in-Err g c =
-    inr (refuses _ _ c.args.disk c.in-Err.disk _ _ _ c.in-Err.refusal c.note_of_refusal-note.result
-    (sym c.has_parse.ensures ∙ c.if-not-has_parse.false) c.note_of_refusal-note.ensures (record {
+returns-in-Err g c = λ line bytes asked is.
+    inr (refuses _ _ c.args.disk c.in-Err.disk line bytes c.args.settings _ _ c.in-Err.refusal c.note_of_refusal-note.result
+    asked is c.note_of_refusal-note.ensures (record {
       why = c.in-Err.ensures.foreign;
       counted = c.in-Err.ensures.left_counted;
       left = c.in-Err.ensures.left;
@@ -13,7 +13,7 @@ returns-in-Err g c =
     }))
 
 pub returns : goal.returns
-returns g c =
+returns g c = λ line bytes asked is.
     inl (serves c.args.disk c.in-Ok.store c.into_store-store.result c.in-Ok.ensures.opened c.in-Ok.ensures.crash c.in-Ok.ensures.counted
-    _ _ _ _ _ _ _ _ _ _ _ _ (sym c.has_parse.ensures ∙ c.if-not-has_parse.false) c.new-port.ensures c.serve_connection-end.ensures
+    _ line bytes c.args.settings _ _ _ _ _ _ _ _ _ _ asked is c.defaults_of-defaults.ensures c.new-port.ensures c.serve_connection-end.ensures
     c.into_store-store.ensures c.close.ensures c.is_halted-halted.ensures c.note_of.ensures)

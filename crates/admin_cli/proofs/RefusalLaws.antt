@@ -1,0 +1,139 @@
+-- What the words and the settings let a run say.
+--     file_of, refused_for_memory      settings that were read are a settings file, which is refused for want of memory alone
+--     tells_served, tells_refused, tells_unopened      when the statuses 2 and 7 come
+use Rattle.std.specs.Prelude.{IsSome, ◌⊎◌}
+use Rattle.std.proofs.Common.{◌≡◌, ℕ, Bool, true, false, List, Option, None, Some, refl, sym, ap, ◌∙◌, subst, inl, inr, arith}
+use Rattle.std.proofs.lemmas.Bool.{false≢true}
+use Rattle.store_opening.specs.declared.fault.OpenRefusal.{OpenRefusal}
+use Rattle.store_opening.specs.declared.fault.OpenRefusal.TheVariants as O
+use Rattle.settings_file.specs.declared.read.Settings.{Settings}
+use Rattle.settings_file.specs.declared.fault.SettingsFault.{SettingsFault}
+use Rattle.settings_file.specs.declared.fault.SettingsFault.TheVariants as F
+use Rattle.settings_file.specs.Document.{first_wrong, has_unknowns, IsSettings, IsRefusal}
+use Rattle.browse_http.specs.declared.end.End.{End}
+use Rattle.browse_http.specs.declared.end.End.TheVariants.{Ended, Truncated, BadRequest, LinkFault, Memory}
+use Rattle.admin_cli.specs.declared.note.Note.{Note}
+use Rattle.admin_cli.specs.declared.note.Note.TheVariants.{Usage, NoMemory}
+use Rattle.admin_cli.specs.Statuses.{status_of}
+use Rattle.admin_cli.specs.Command.{Line, Task, AsksFor}
+use Rattle.admin_cli.specs.Asked.{IsSettingsFile, note_of_settings, IsRefused, TellsRefusals}
+use Rattle.admin_cli.specs.Run.{note_of, note_of_refusal}
+
+pub none_said : IsSome {T = Line} None → ⊥
+none_said said = false≢true said
+
+pub said_task : (line : Option Line) (task : Task) → AsksFor task line → IsSome line
+said_task None task asked = let no : ⊥ = cc (asked) in absurd no
+said_task (Some line) task asked = refl
+
+pub file_of : (bytes : List ℕ) (read : Settings) → IsSettings bytes read → IsSettingsFile bytes
+file_of bytes read is =
+    record { utf8 = is.utf8; document = is.document; parsed = is.parsed; right = is.are.right; known = is.are.known }
+
+pub refused_for_memory : (bytes : List ℕ) (fault : SettingsFault) → IsSettingsFile bytes → IsRefusal bytes fault
+    → note_of_settings fault ≡ NoMemory
+refused_for_memory bytes F.NotToml is refused =
+    let none = refused is.utf8 in
+    let parsed = is.parsed in
+    let no : ⊥ = cc (none, parsed) in
+    absurd no
+refused_for_memory bytes (F.BadKey key) is refused =
+    let parsed = is.parsed in
+    let again = refused.parsed in
+    let same : is.document ≡ refused.document = cc (parsed, again) in
+    let wrong : None ≡ Some key = sym is.right ∙ (ap first_wrong same ∙ refused.is) in
+    let no : ⊥ = cc (wrong) in
+    absurd no
+refused_for_memory bytes F.UnknownKey is refused =
+    let parsed = is.parsed in
+    let again = refused.parsed in
+    let same : is.document ≡ refused.document = cc (parsed, again) in
+    absurd (false≢true (sym is.known ∙ (ap has_unknowns same ∙ refused.is.1)))
+refused_for_memory bytes F.Memory is refused = refl
+
+-- a note of neither status
+abbrev IsOther : Note → Type 0
+IsOther note = (status_of note ≡ 2 → ⊥) × (status_of note ≡ 7 → ⊥)
+
+other : (note : Note) (status : ℕ) → status_of note ≡ status → (status ≡ 2 → ⊥) → (status ≡ 7 → ⊥) → IsOther note
+other note status is two seven = ((λ e. two (sym is ∙ e)), (λ e. seven (sym is ∙ e)))
+
+served_other : (end : End) (halted : Bool) → IsOther (note_of end halted)
+served_other Memory halted = other NoMemory 6 refl (λ e. omega (arith, e)) (λ e. omega (arith, e))
+served_other LinkFault halted = other (note_of LinkFault halted) 3 refl (λ e. omega (arith, e)) (λ e. omega (arith, e))
+served_other Ended true = other (note_of Ended true) 4 refl (λ e. omega (arith, e)) (λ e. omega (arith, e))
+served_other Ended false = other (note_of Ended false) 0 refl (λ e. omega (arith, e)) (λ e. omega (arith, e))
+served_other Truncated true = other (note_of Truncated true) 4 refl (λ e. omega (arith, e)) (λ e. omega (arith, e))
+served_other Truncated false = other (note_of Truncated false) 1 refl (λ e. omega (arith, e)) (λ e. omega (arith, e))
+served_other BadRequest true = other (note_of BadRequest true) 4 refl (λ e. omega (arith, e)) (λ e. omega (arith, e))
+served_other BadRequest false = other (note_of BadRequest false) 1 refl (λ e. omega (arith, e)) (λ e. omega (arith, e))
+
+unopened_other : (refusal : OpenRefusal) → IsOther (note_of_refusal refusal)
+unopened_other (O.Foreign file found) = other (note_of_refusal (O.Foreign file found)) 5 refl (λ e. omega (arith, e)) (λ e. omega (arith, e))
+unopened_other O.EpochsSpent = other (note_of_refusal O.EpochsSpent) 5 refl (λ e. omega (arith, e)) (λ e. omega (arith, e))
+unopened_other O.DiskFault = other (note_of_refusal O.DiskFault) 4 refl (λ e. omega (arith, e)) (λ e. omega (arith, e))
+unopened_other O.Memory = other NoMemory 6 refl (λ e. omega (arith, e)) (λ e. omega (arith, e))
+
+-- words and settings that were understood
+tells_understood : (line : Option Line) (settings : List ℕ) (note : Note) → IsSome line → IsSettingsFile settings → IsOther note
+    → TellsRefusals line settings note
+tells_understood None settings note said file is = absurd (none_said said)
+tells_understood (Some line) settings note said file is = record {
+  usage = λ e. absurd (is.0 e);
+  no_line = λ e. let no : ⊥ = cc (e) in absurd no;
+  refused = λ e. absurd (is.1 e);
+  no_settings = λ _ bad. absurd (bad file);
+}
+
+pub tells_served : (line : Option Line) (settings : List ℕ) (read : Settings) (note : Note) (end : End) (halted : Bool)
+    → IsSome line → IsSettings settings read → note ≡ note_of end halted → TellsRefusals line settings note
+tells_served line settings read note end halted said is note_is =
+    tells_understood line settings note said (file_of settings read is) (subst IsOther (sym note_is) (served_other end halted))
+
+pub tells_unopened : (line : Option Line) (settings : List ℕ) (note : Note) (refusal : OpenRefusal)
+    → IsSome line → IsSettingsFile settings → note ≡ note_of_refusal refusal → TellsRefusals line settings note
+tells_unopened line settings note refusal said file note_is =
+    tells_understood line settings note said file (subst IsOther (sym note_is) (unopened_other refusal))
+
+tells_usage : (settings : List ℕ) (note : Note) → (note ≡ Usage) ⊎ (note ≡ NoMemory) → TellsRefusals None settings note
+tells_usage settings note (inl is) = record {
+  usage = λ _. refl;
+  no_line = λ _. inl (ap status_of is);
+  refused = λ e. let two : status_of note ≡ 2 = ap status_of is in absurd (omega (arith, two, e));
+  no_settings = λ said. absurd (none_said said);
+}
+tells_usage settings note (inr is) = record {
+  usage = λ _. refl;
+  no_line = λ _. inr (ap status_of is);
+  refused = λ e. let six : status_of note ≡ 6 = ap status_of is in absurd (omega (arith, six, e));
+  no_settings = λ said. absurd (none_said said);
+}
+
+fault_status : (fault : SettingsFault) → (status_of (note_of_settings fault) ≡ 7) ⊎ (status_of (note_of_settings fault) ≡ 6)
+fault_status F.NotToml = inl refl
+fault_status (F.BadKey key) = inl refl
+fault_status F.UnknownKey = inl refl
+fault_status F.Memory = inr refl
+
+not_two : (n : ℕ) → (n ≡ 7) ⊎ (n ≡ 6) → n ≡ 2 → ⊥
+not_two n (inl seven) two = omega (arith, seven, two)
+not_two n (inr six) two = omega (arith, six, two)
+
+tells_fault : (line : Line) (settings : List ℕ) (fault : SettingsFault) → IsRefusal settings fault
+    → TellsRefusals (Some line) settings (note_of_settings fault)
+tells_fault line settings fault is = record {
+  usage = λ e. absurd (not_two (status_of (note_of_settings fault)) (fault_status fault) e);
+  no_line = λ e. let no : ⊥ = cc (e) in absurd no;
+  refused = λ e. (
+    refl,
+    λ file.
+        let six : status_of (note_of_settings fault) ≡ 6 = ap status_of (refused_for_memory settings fault file is) in
+        omega (arith, six, e),
+  );
+  no_settings = λ _ _. fault_status fault;
+}
+
+pub tells_refused : (line : Option Line) (settings : List ℕ) (note : Note) → IsRefused line settings note → TellsRefusals line settings note
+tells_refused None settings note is = tells_usage settings note is
+tells_refused (Some line) settings note is =
+    subst (TellsRefusals (Some line) settings) (sym is.1) (tells_fault line settings is.0 is.2)

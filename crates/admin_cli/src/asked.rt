@@ -1,0 +1,69 @@
+ghost use Rattle.std.specs.Prelude.{◌≡◌, None, IfOk, IfErr, map};
+ghost use Rattle.std.specs.String.{string_bytes};
+ghost use Rattle.admin_cli.specs.Command.{line_of};
+ghost use Rattle.admin_cli.specs.Asked.{note_of_settings, defaults_of, IsAsked, IsRefused};
+
+use crate::note::Note;
+use crate::words::{LineFault, Work, parse};
+use request_events::Defaults;
+use settings_file::{Settings, SettingsFault, read_settings};
+use std::alloc::Global;
+
+/// What a run is to do, and by which settings.
+#[derive(Drop)]
+pub struct Asked {
+    pub work: Work,
+    pub settings: Settings,
+}
+
+/// What is said of words that were not understood.
+fn note_of_line(fault: LineFault) -> Note
+    ensures usage { fault ≡ LineFault.NoParse → result ≡ Note.Usage }
+    ensures memory { fault ≡ LineFault.Memory → result ≡ Note.NoMemory }
+{
+    match fault {
+        LineFault::NoParse => Note::Usage,
+        LineFault::Memory => Note::NoMemory,
+    }
+}
+
+/// What is said of settings that were refused.
+fn note_of_settings(fault: SettingsFault) -> Note
+    ensures { result ≡ note_of_settings fault }
+{
+    match fault {
+        SettingsFault::Memory => Note::NoMemory,
+        _ => Note::BadSettings(fault),
+    }
+}
+
+/// What the settings add to a request.
+pub fn defaults_of(settings: Settings) -> Defaults
+    ensures { result ≡ defaults_of settings }
+{
+    let Settings {
+        zone,
+        wake: _,
+        period: _,
+        rules,
+    } = settings;
+    Defaults { rules, zone }
+}
+
+/// Reads the words, and then the settings.
+pub fn read_asked(alloc: Global, words: &[String], settings: &[u8]) -> Result<Asked, Note>
+    ensures ok { IfOk result (IsAsked (line_of (map string_bytes words.now)) settings.now) }
+    ensures err { IfErr result (IsRefused (line_of (map string_bytes words.now)) settings.now) }
+{
+    let line = match parse(alloc, words) {
+        Ok(line) => line,
+        Err(fault) => return Err(note_of_line(fault)),
+    };
+    match read_settings(alloc, settings) {
+        Ok(settings) => Ok(Asked {
+            work: line.work,
+            settings,
+        }),
+        Err(fault) => Err(note_of_settings(fault)),
+    }
+}
