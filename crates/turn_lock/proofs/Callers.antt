@@ -308,7 +308,7 @@ module _ {A B : Type 0} where
       (fits_of f log xs (All-tail (λ y. StoodIn log (f y)) x xs all))
 
 -- where the pass that met another stands, both stand
-pub met_stood : {O A B : Type 0} (stands : O → O → List (Entry A B) → Bool) (v w u : View O A B) (log : List (Entry A B))
+pub met_stood : {O A B : Type 0} (stands : O → O → List (Entry A B) → Type 0) (v w u : View O A B) (log : List (Entry A B))
     → Met stands v w u → StoodIn log u → StoodIn log v × StoodIn log w
 met_stood stands v w u log m s =
     let both : Fits log (v.callers ++ w.callers) = subst (λ ps. Fits log ps) m.3 s.1 in (
@@ -316,9 +316,8 @@ met_stood stands v w u log m s =
       (starts_more log u.seen w.seen s.0 m.2, fits_right log v.callers w.callers both),
     )
 
--- what an object's call does to its test, from any opening
-pub stands_more : {O A B : Type 0} (stands : O → O → List (Entry A B) → Bool) (p : Option O) (o o' : O) (log log' : List (Entry A B))
-    → ((from : O) → stands from o log ≡ true → stands from o' log' ≡ true) → stands_from stands p o log ≡ true
-    → stands_from stands p o' log' ≡ true
-stands_more stands None o o' log log' more is = absurd (true≢false (sym is))
+-- what an object's call does to what it stands for, from any opening
+pub stands_more : {O A B : Type 0} (stands : O → O → List (Entry A B) → Type 0) (p : Option O) (o o' : O) (log log' : List (Entry A B))
+    → ((from : O) → stands from o log → stands from o' log') → stands_from stands p o log → stands_from stands p o' log'
+stands_more stands None o o' log log' more is = absurd is
 stands_more stands (Some from) o o' log log' more is = more from is

@@ -58,7 +58,7 @@ same_home o o' e = ap (object_in o) e
 starts_later : {A B : Type 0} (log seen more : List (Entry A B)) → StartsWith log seen → StartsWith (log ++ more) seen
 starts_later log seen more s = (s.0 ++ more, ap (λ l. l ++ more) s.1 ∙ append_assoc seen s.0 more)
 
-module _ {O A B : Type 0} (stands : O → List (Entry A B) → Bool) (from : O) where
+module _ {O A B : Type 0} (stands : O → List (Entry A B) → Type 0) (from : O) where
   -- a ticket is drawn
   drawn : (next served id : ℕ) (p : Option O) (seen : List (Entry A B)) (callers : List (Caller A B)) (homes : List (Slot (Held O A B)))
       (views : List (View O A B)) → Agrees stands from next served homes views
@@ -189,7 +189,7 @@ module _ {O A B : Type 0} (stands : O → List (Entry A B) → Bool) (from : O) 
   served_next : (next served id : ℕ) (p : Option O) (seen : List (Entry A B)) (own : Caller A B) (rest : List (Caller A B)) (a : A) (b : B)
       (o : O) (homes : List (Slot (Held O A B))) (views : List (View O A B)) → (k : Agrees stands from next served homes views)
       → get_elem? views id ≡ some (has_turn p served seen (own ∷ rest)) → length homes ≡ 1
-      → stands o (seen ++ entry own.number a b ∷ []) ≡ true
+      → stands o (seen ++ entry own.number a b ∷ [])
       → Fits (seen ++ entry own.number a b ∷ []) (with_call a b (own ∷ rest))
       × Agrees stands from next (served + 1) (set homes 0 (some (Home o)))
       (set views id (idle p (seen ++ entry own.number a b ∷ []) (with_call a b (own ∷ rest))))
@@ -253,13 +253,13 @@ module _ {O A B : Type 0} (stands : O → List (Entry A B) → Bool) (from : O) 
               fits_else v.callers own.number a b k.log (omega (arith, both, one_own, total)) (k.fits i v other.1))
               (at_set views id i new v got);
           once = λ q. let o = k.once q in let t = owns_set views id (has_turn p served seen (own ∷ rest)) new q at in omega (arith, o, t);
-          legal = (o, ap (stands o) past ∙ good);
+          legal = (o, subst (stands o) (sym past) good);
           out = λ i v got yes. ⊎_elim
               (λ same. cc (ap (λ (w : View O A B). w.turn) same.1 ∙ yes))
               (λ other. absurd (other.0 (k.apart i id served v (has_turn p served seen (own ∷ rest)) other.1 at
               (k.turn i v other.1 yes) refl)))
               (at_set views id i new v got);
-          home = λ _. (o, set_here homes 0 (some (Home o)) (omega (arith, one)), ap (stands o) past ∙ good);
+          home = λ _. (o, set_here homes 0 (some (Home o)) (omega (arith, one)), subst (stands o) (sym past) good);
         },
       )
 
@@ -395,7 +395,7 @@ module _ {O A B : Type 0} (stands : O → List (Entry A B) → Bool) (from : O) 
   -- recording the call and passing the turn on
   ends_own : (slots id t : ℕ) (p : Option O) (seen : List (Entry A B)) (own : Caller A B) (rest : List (Caller A B)) (a : Snapshot A)
       (b : Snapshot B) (o : O)
-      → stands o (seen ++ entry own.number a.value b.value ∷ []) ≡ true → (u : ℕ) → (t + 1 < 2 ^ 64 → u ≡ t + 1)
+      → stands o (seen ++ entry own.number a.value b.value ∷ []) → (u : ℕ) → (t + 1 < 2 ^ 64 → u ≡ t + 1)
       → Allows (Keeps stands from) slots id (has_turn p t seen (own ∷ rest), (0, Home o) ∷ []) 1 (λ n. either (eqb n t) u n)
       (Ended (step slots 1 t u (some (Call a b))) (has_turn p t seen (own ∷ rest), (0, Home o) ∷ []))
   ends_own slots id t p seen own rest a b o good u up s kept len at small =
@@ -436,7 +436,7 @@ module _ {O A B : Type 0} (stands : O → List (Entry A B) → Bool) (from : O) 
 
   pub ends : (slots id t : ℕ) (p : Option O) (seen : List (Entry A B)) (callers : List (Caller A B)) → is_live callers ≡ true
       → (a : Snapshot A) (b : Snapshot B) (o : O)
-      → stands o (seen ++ entry (own_number callers) a.value b.value ∷ []) ≡ true → (u : ℕ) → (t + 1 < 2 ^ 64 → u ≡ t + 1)
+      → stands o (seen ++ entry (own_number callers) a.value b.value ∷ []) → (u : ℕ) → (t + 1 < 2 ^ 64 → u ≡ t + 1)
       → Allows (Keeps stands from) slots id (has_turn p t seen callers, (0, Home o) ∷ []) 1 (λ n. either (eqb n t) u n)
       (Ended (step slots 1 t u (some (Call a b))) (has_turn p t seen callers, (0, Home o) ∷ []))
   ends slots id t p seen [] live = absurd (true≢false (sym live))
@@ -567,7 +567,7 @@ module _ {O A B : Type 0} (stands : O → List (Entry A B) → Bool) (from : O) 
       )
 
   -- the table at the start
-  pub opens : (o : O) → stands o [] ≡ true → Keeps stands from (opening (0 ∷ 0 ∷ []) (Home o ∷ [])
+  pub opens : (o : O) → stands o [] → Keeps stands from (opening (0 ∷ 0 ∷ []) (Home o ∷ [])
       (idle (Some from) [] (caller [] 0 [] ∷ [])))
   opens o good = record {
     two = refl;
@@ -597,7 +597,7 @@ module _ {O A B : Type 0} (stands : O → List (Entry A B) → Bool) (from : O) 
       only (suc i) v got = absurd (some-ne-none v (sym got))
 
 -- the same steps, where the opening is what the view says
-module _ {O A B : Type 0} (stands : O → O → List (Entry A B) → Bool) (from : O) where
+module _ {O A B : Type 0} (stands : O → O → List (Entry A B) → Type 0) (from : O) where
   pub looks_from : (slots id t : ℕ) (p : Option O) (seen : List (Entry A B)) (callers : List (Caller A B)) → is_live callers ≡ true
       → Allows (Keeps (stands from) from) slots id (waits p t seen callers, []) 1 (λ n. n)
       (Looked (stands_from stands p) (step slots 1 0 0 none) (waits p t seen callers, []))
@@ -625,11 +625,11 @@ module _ {O A B : Type 0} (stands : O → O → List (Entry A B) → Bool) (from
 
   pub ends_from : (slots id t : ℕ) (p : Option O) (seen : List (Entry A B)) (callers : List (Caller A B)) → is_live callers ≡ true
       → (a : Snapshot A) (b : Snapshot B) (o : O)
-      → stands_from stands p o (seen ++ entry (own_number callers) a.value b.value ∷ []) ≡ true → (u : ℕ) → (t + 1 < 2 ^ 64 → u ≡ t + 1)
+      → stands_from stands p o (seen ++ entry (own_number callers) a.value b.value ∷ []) → (u : ℕ) → (t + 1 < 2 ^ 64 → u ≡ t + 1)
       → Allows (Keeps (stands from) from) slots id (has_turn p t seen callers, (0, Home o) ∷ []) 1 (λ n. either (eqb n t) u n)
       (Ended (step slots 1 t u (some (Call a b))) (has_turn p t seen callers, (0, Home o) ∷ []))
   ends_from slots id t p seen callers live a b o good u up s kept len at small =
-      let good_from : stands from o (seen ++ entry (own_number callers) a.value b.value ∷ []) ≡ true =
-      subst (λ (q : Option O). stands_from stands q o (seen ++ entry (own_number callers) a.value b.value ∷ []) ≡ true)
+      let good_from : stands from o (seen ++ entry (own_number callers) a.value b.value ∷ []) =
+      subst (λ (q : Option O). stands_from stands q o (seen ++ entry (own_number callers) a.value b.value ∷ []))
       (kept.at.opened id (has_turn p t seen callers) at live) good in
       ends (stands from) from slots id t p seen callers live a b o good_from u up s kept len at small

@@ -1,5 +1,5 @@
 -- One more call of a pass, and the history of two passes that made all calls.
-use Rattle.std.proofs.Common.{◌≡◌, ℕ, ◌+◌, ◌<◌, List, [], ◌∷◌, ◌++◌, length, take, get_or, Bool, refl, sym}
+use Rattle.std.proofs.Common.{◌≡◌, ℕ, ◌+◌, ◌<◌, List, [], ◌∷◌, ◌++◌, length, take, get_or, refl, sym}
 use Rattle.std.proofs.Common.{ap, subst, ◌∙◌, arith, append_assoc, append-nil}
 use Rattle.std.proofs.lemmas.List.{take_more, length-take-le}
 use Rattle.turn_lock.specs.declared.object.Entry.{Entry}
@@ -37,7 +37,7 @@ module _ {A B : Type 0} where
   asked_none v = (sym (with_no_calls v.callers), ([], sym (append-nil v.seen)), refl)
 
   -- one call more
-  pub asked_more : {O : Type 0} (stands : O → O → List (Entry A B) → Bool) (v w u : View O A B) (xs : List A) (ys : List B) (a : A) (b : B)
+  pub asked_more : {O : Type 0} (stands : O → O → List (Entry A B) → Type 0) (v w u : View O A B) (xs : List A) (ys : List B) (a : A) (b : B)
       → length xs ≡ length ys → Asked v xs ys w → Extends stands w a b u → Asked v (xs ++ a ∷ []) (ys ++ b ∷ []) u
   asked_more stands v w u xs ys a b same asked more = (
     more.2 ∙ ap (λ (l : List (Caller A B)). with_call a b l) asked.0 ∙ with_calls_more xs ys a b v.callers same,
@@ -50,7 +50,7 @@ module _ {A B : Type 0} where
   )
 
   -- the next call of a list
-  pub asked_next : {O : Type 0} (stands : O → O → List (Entry A B) → Bool) (v w u : View O A B) (asks : List A) (i : ℕ) (a : A)
+  pub asked_next : {O : Type 0} (stands : O → O → List (Entry A B) → Type 0) (v w u : View O A B) (asks : List A) (i : ℕ) (a : A)
       (ys ys' : List B) (b : B)
       → i < length asks → a ≡ get_or asks i a → length ys ≡ i → ys' ≡ ys ++ b ∷ [] → Asked v (take i asks) ys w → Extends stands w a b u
       → Asked v (take (i + 1) asks) ys' u

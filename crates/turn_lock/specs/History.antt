@@ -20,9 +20,9 @@ owns [] children (k ∷ q) = cond (ltb k children) 0 1
 owns (x ∷ p) children [] = 0
 owns (x ∷ p) children (y ∷ q) = cond (x == y) (owns p children q) 0
 
--- the test of an object from an opening, if there is one
-abbrev pub stands_from : {O A B : Type 0} → (O → O → List (Entry A B) → Bool) → Option O → O → List (Entry A B) → Bool
-stands_from stands None o log = false
+-- what an object stands for from an opening, if there is one
+abbrev pub stands_from : {O A B : Type 0} → (O → O → List (Entry A B) → Type 0) → Option O → O → List (Entry A B) → Type 0
+stands_from stands None o log = ⊥
 stands_from stands (Some opening) o log = stands opening o log
 
 module _ {A B : Type 0} where
@@ -119,12 +119,12 @@ module _ {O A B : Type 0} where
   callers_of [] = []
   callers_of (v ∷ vs) = v.callers ++ callers_of vs
 
-module _ {O A B : Type 0} (stands : O → List (Entry A B) → Bool) where
+module _ {O A B : Type 0} (stands : O → List (Entry A B) → Type 0) where
   -- some object stands for this history
   abbrev pub IsLegal : List (Entry A B) → Type 0
-  IsLegal log = (o : O) × (stands o log ≡ true)
+  IsLegal log = (o : O) × stands o log
 
-module _ {O A B : Type 0} (stands : O → O → List (Entry A B) → Bool) where
+module _ {O A B : Type 0} (stands : O → O → List (Entry A B) → Type 0) where
   -- a call: a legal history, which begins with what was seen, ends with the call and has the pass's calls, each once, was then seen
   abbrev pub Extends : View O A B → A → B → View O A B → Type 0
   Extends v ask answer w =
@@ -142,5 +142,5 @@ module _ {O A B : Type 0} (stands : O → O → List (Entry A B) → Bool) where
   -- an object stands for a whole history: these passes stood in it, and if all are there it has no other calls
   abbrev pub StandsForAll : View O A B → List (View O A B) → O → Type 0
   StandsForAll v others o =
-      (log : List (Entry A B)) × (stands_from stands v.opening o log ≡ true) × StoodIn log v × All (StoodIn log) others
+      (log : List (Entry A B)) × stands_from stands v.opening o log × StoodIn log v × All (StoodIn log) others
       × (AllReturned (v.callers ++ callers_of others) → NoOtherCalls (v.callers ++ callers_of others) log)

@@ -1,6 +1,5 @@
 -- The rule of the lock, and what each step tells. Word 0 is the next ticket, word 1 the ticket that is served.
 use Rattle.std.specs.Prelude.{◌≡◌, ◌≢◌, ℕ, ◌+◌, ◌^◌, ◌<◌, ◌≤◌, Option, List, [], ◌∷◌, ◌++◌, length, slice_index, Some, None, true, false}
-use Rattle.std.specs.Prelude.{Bool}
 use mathlib.Core.Option.{Option as Slot, some, none}
 use lib.ListN.{get_elem?}
 use Rattle.atomic_table.specs.Table.{State, Me, Step}
@@ -40,10 +39,10 @@ module _ {O A B : Type 0} where
   abbrev pub meets : Option O → List (Entry A B) → List (Entry A B) → List (Caller A B) → View O A B
   meets opening seen told callers = record { opening = opening; ticket = None; turn = false; seen = seen; told = told; callers = callers }
 
-module _ {O A B : Type 0} (stands : O → List (Entry A B) → Bool) (opening : O) where
+module _ {O A B : Type 0} (stands : O → List (Entry A B) → Type 0) (opening : O) where
   -- the slot holds an object that stands for this history
   abbrev pub IsHome : List (Entry A B) → List (Slot (Held O A B)) → Type 0
-  IsHome log homes = (o : O) × (get_elem? homes 0 ≡ some (some (Home o))) × (stands o log ≡ true)
+  IsHome log homes = (o : O) × (get_elem? homes 0 ≡ some (some (Home o))) × stands o log
 
   -- the next ticket, the ticket that is served, the slot, the views and one history agree
   pub record Agrees (next served : ℕ) (homes : List (Slot (Held O A B))) (views : List (View O A B)) : Type 0 where
@@ -70,13 +69,13 @@ module _ {O A B : Type 0} (stands : O → List (Entry A B) → Bool) (opening : 
     pub one : length s.homes ≡ 1
     pub at : Agrees (slice_index s.words 0) (slice_index s.words 1) s.homes s.views
 
-module _ {O A B : Type 0} (stands : O → List (Entry A B) → Bool) where
+module _ {O A B : Type 0} (stands : O → List (Entry A B) → Type 0) where
   -- the slot is taken if the ticket is served, and all the history is seen
   abbrev pub Looked : Step (Held O A B) → Me (Held O A B) (View O A B) → ℕ → Me (Held O A B) (View O A B) → Type 0
   Looked st me found me' =
       (me.0.ticket ≡ Some found → (o : O) × (between : List (Entry A B))
       × (me' ≡ (has_turn me.0.opening found (me.0.seen ++ between) me.0.callers, (0, Home o) ∷ me.1))
-      × (stands o (me.0.seen ++ between) ≡ true) × Fits (me.0.seen ++ between) me.0.callers)
+      × stands o (me.0.seen ++ between) × Fits (me.0.seen ++ between) me.0.callers)
       × (me.0.ticket ≢ Some found → me' ≡ me)
 
   -- both histories begin one legal history, in which the calls stand

@@ -1,5 +1,5 @@
 // Callers that make many calls, alone and beside each other.
-ghost use Rattle.std.specs.Prelude.{◌≡◌, ◌≤◌, ◌∷◌, [], List, true, IfOk, IfErr, length, vec_capacity};
+ghost use Rattle.std.specs.Prelude.{◌≡◌, ◌≤◌, ◌∷◌, [], List, IfOk, IfErr, length, vec_capacity};
 ghost use Rattle.turn_lock.specs.declared.object.Entry.{Entry};
 ghost use Rattle.turn_lock.specs.Asked.{Asked, HasBoth};
 
@@ -76,7 +76,7 @@ pub fn ask_both<O: Object + Send, R: Threads + Wait + Sync>(
 where
     O::Answer: Drop + Send,
     O::Ask: Sync,
-    ensures ok { IfOk result (λ r. (log : List (Entry O.Ask O.Answer)) × (O.stands object r.0 log ≡ true)
+    ensures ok { IfOk result (λ r. (log : List (Entry O.Ask O.Answer)) × O.stands object r.0 log
         × (length r.1.items ≡ length left.now) × (length r.2.items ≡ length right.now)
         × HasBoth log left.now r.1.items right.now r.2.items) }
     ensures err { IfErr result (λ failed. failed.value ≡ object) }

@@ -8,7 +8,7 @@
 //!
 //! | Type | What it is |
 //! |---|---|
-//! | `Object` | what is locked: an act, and a test of which calls it has come through since its opening |
+//! | `Object` | what is locked: an act, and what it stands for: the calls that it has come through since its opening |
 //! | `Turn` | the lock |
 //! | `Pass` | a caller's token, which is split for a further caller and meets another at the end |
 //! | `View` | what a pass knows: the history seen, and the calls of its callers. It is data of clauses alone, as `Caller` and `Entry` are |

@@ -141,7 +141,7 @@ impl<O: Object> Turn<O> {
                   pass.old.me.0.callers,
               (0, Home o) ∷ [],
             ))
-            × (stands_from O.stands pass.old.me.0.opening o (pass.old.me.0.seen ++ between) ≡ true)
+            × stands_from O.stands pass.old.me.0.opening o (pass.old.me.0.seen ++ between)
             × Fits (pass.old.me.0.seen ++ between) pass.old.me.0.callers) }
         ensures same { OnFalse result (pass.new.me ≡ pass.old.me) }
     {
@@ -177,8 +177,8 @@ impl<O: Object> Turn<O> {
         requires own { pass.old.table_id ≡ self.now.table.shared.table_id }
         requires turn { pass.old.me.0 ≡ has_turn pass.old.me.0.opening ticket pass.old.me.0.seen pass.old.me.0.callers }
         requires object { (o : O) × (pass.old.me.1 ≡ (0, Home o) ∷ [])
-            × (stands_from O.stands pass.old.me.0.opening o
-            (pass.old.me.0.seen ++ entry (own_number pass.old.me.0.callers) ask.now answer.now ∷ []) ≡ true) }
+            × stands_from O.stands pass.old.me.0.opening o
+            (pass.old.me.0.seen ++ entry (own_number pass.old.me.0.callers) ask.now answer.now ∷ []) }
         requires live { is_live pass.old.me.0.callers ≡ true }
         ensures own { (pass.new.table_id ≡ pass.old.table_id) × (pass.new.id ≡ pass.old.id) }
         ensures ended { pass.new.me ≡ (
@@ -224,7 +224,7 @@ impl<O: Object> Turn<O> {
                   pass.old.me.0.callers,
               (0, Home o) ∷ [],
             ))
-            × (stands_from O.stands pass.old.me.0.opening o (pass.old.me.0.seen ++ between) ≡ true)
+            × stands_from O.stands pass.old.me.0.opening o (pass.old.me.0.seen ++ between)
             × Fits (pass.old.me.0.seen ++ between) pass.old.me.0.callers }
     {
         for _ in rt.forever() {

@@ -1,5 +1,5 @@
 // The object, the entries of its history, and what a pass knows of them.
-ghost use Rattle.std.specs.Prelude.{◌≡◌, ◌∷◌, ◌++◌, [], List, ℕ, Bool, true};
+ghost use Rattle.std.specs.Prelude.{◌≡◌, ◌∷◌, ◌++◌, [], List, ℕ};
 ghost use Rattle.turn_lock.specs.declared.object.Entry.{Entry};
 ghost use Rattle.turn_lock.specs.History.{entry};
 
@@ -15,22 +15,22 @@ pub struct Entry<A, B> {
 
 /// An object whose answers follow from the calls so far.
 ///
-/// `stands opening object log` is the object's own test: it has come from `opening` by the calls of `log`, each
-/// with its answer. What of the opening it reads, such as a state and a count of faults, is its own to say.
+/// `stands opening object log` says what the object stands for: it has come from `opening` by the calls of `log`, each
+/// with its answer. What of the opening it reads, such as a state and a count of faults, is the object's own to say.
 pub trait Object: Drop {
     type Ask;
 
     type Answer;
 
-    ghost stands: { Self → Self → List (Entry Self.Ask Self.Answer) → Bool };
+    ghost stands: { Self → Self → List (Entry Self.Ask Self.Answer) → Type 0 };
 
     /// Answers one more call, of any caller.
     fn act(&mut self, ask: &Self::Ask) -> Self::Answer
-        ensures { (opening : Self) → (log : List (Entry Self.Ask Self.Answer)) → (by : List ℕ) → stands opening self.old log ≡ true
-            → stands opening self.new (log ++ entry by ask.now result ∷ []) ≡ true };
+        ensures { (opening : Self) → (log : List (Entry Self.Ask Self.Answer)) → (by : List ℕ) → stands opening self.old log
+            → stands opening self.new (log ++ entry by ask.now result ∷ []) };
 
     // Each object stands for no calls from its own present opening.
-    ghost begins: { (o : Self) → stands o o [] ≡ true };
+    ghost begins: { (o : Self) → stands o o [] };
 }
 
 /// A caller: its number, how many passes were split from its pass, and its calls. No value of it is made.

@@ -1,4 +1,4 @@
-ghost use Rattle.std.specs.Prelude.{true};
+ghost use Rattle.std.specs.Prelude.{◌≡◌, true};
 ghost use Rattle.turn_lock.specs.Sums.{sums};
 ghost use Rattle.turn_lock.specs.SumLaws.{sums_none};
 
@@ -17,7 +17,7 @@ impl Object for Sum {
 
     type Answer = u64;
 
-    ghost stands = { λ from sum log. sums from.value sum.value log };
+    ghost stands = { λ from sum log. sums from.value sum.value log ≡ true };
 
     ghost begins = { λ sum. sums_none sum.value };
 

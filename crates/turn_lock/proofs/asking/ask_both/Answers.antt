@@ -1,4 +1,4 @@
-use Rattle.std.proofs.Common.{◌≡◌, ◌∷◌, [], ◌++◌, All, Some, true, map, ap, subst, ◌∙◌}
+use Rattle.std.proofs.Common.{◌≡◌, ◌∷◌, [], ◌++◌, All, Some, map, ap, subst, ◌∙◌}
 use Rattle.std.proofs.lemmas.List.Elements.{All-head}
 use Rattle.turn_lock.specs.History.{StoodIn, Fits, AllReturned, NoOtherCalls, callers_of, with_child, new_child, stands_from}
 use Rattle.turn_lock.specs.Asked.{with_calls}
@@ -34,7 +34,7 @@ returns-clause-ok g c =
     subst (λ items. AllReturned (first.seat.me.0.callers ++ callers_of (map (λ p. p.seat.me.0) items))
     → NoOtherCalls (first.seat.me.0.callers ++ callers_of (map (λ p. p.seat.me.0) items)) end.0) items_is end.4 in (
       end.0,
-      subst (λ p. stands_from g.O.Object.stands p c.close-object.result end.0 ≡ true) opening_is end.1,
+      subst (λ p. stands_from g.O.Object.stands p c.close-object.result end.0) opening_is end.1,
       j.ensures.counted_first,
       j.ensures.counted_second,
       both_stood left right xs ys end.0 first.seat.me.0.callers second.seat.me.0.callers one_is two_is end.2.1 fits_two only,

@@ -1,0 +1,4 @@
+pub mod Asks
+pub mod AsksLaws
+pub mod Comes
+pub mod ComesLaws
