@@ -1,6 +1,6 @@
 //! Talks with the program: what is asked, line by line, and what is to be answered.
 
-use crate::ends::{defaults, expect_file, words_of};
+use crate::ends::{expect_file, words_of};
 use admin_cli::{Done, Note, run};
 use disk_trait::{Choice, DiskRoom, FileId, MemoryDisk};
 use pool_name::Namer;
@@ -128,15 +128,7 @@ pub fn talk<N: Namer>(
     let words = words_of(alloc, "backup_server pipe --store store")?;
     let link = MemoryLink::new(alloc, input_of(alloc, rows)?, 65_536, Vec::new(alloc))?;
     let mut clock = clock_of(alloc, seconds)?;
-    Ok(run(
-        alloc,
-        words.as_slice(),
-        &defaults(alloc)?,
-        disk,
-        namer,
-        &mut clock,
-        link,
-    ))
+    Ok(run(alloc, words.as_slice(), b"", disk, namer, &mut clock, link))
 }
 
 /// Whether a run answered so.
