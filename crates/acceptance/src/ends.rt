@@ -1,14 +1,11 @@
 //! A run of the program over ends in memory.
 
 use admin_cli::{Done, run};
-use backup_rules::Rules;
 use disk_trait::{Disk, DiskRoom, FileId, MemoryDisk};
 use pool_name::Md5Namer;
-use request_events::Defaults;
 use std::alloc::{AllocError, Global};
 use std::test::Fail;
 use stream_traits::{FixedClock, MemoryLink, Moment};
-use wake_schedule::Zone;
 
 /// What a run is made of.
 #[derive(Clone, Copy)]
@@ -83,17 +80,6 @@ pub fn link_of(alloc: Global, case: &Case<'_>) -> Result<MemoryLink, AllocError>
 /// A clock that stands at 1,700,000,000.
 pub fn new_clock() -> FixedClock {
     FixedClock::new(Moment::new(1_700_000_000).unwrap_or(Moment::first()))
-}
-
-/// What a server without a settings file adds to requests.
-pub fn defaults(alloc: Global) -> Result<Defaults, AllocError> {
-    match Zone::read("UTC") {
-        Ok(zone) => Ok(Defaults {
-            rules: Rules::defaults(alloc)?,
-            zone,
-        }),
-        Err(_) => Err(AllocError),
-    }
 }
 
 /// Runs a case over this disk.

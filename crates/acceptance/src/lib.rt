@@ -16,26 +16,10 @@ mod faults;
 #[cfg(test)]
 mod files;
 #[cfg(test)]
-mod hours;
-#[cfg(test)]
-mod last_number;
-#[cfg(test)]
-mod night_stops;
-#[cfg(test)]
-mod nights;
-#[cfg(test)]
 mod refusals;
 #[cfg(test)]
 mod settings;
 #[cfg(test)]
-mod stops;
-#[cfg(test)]
-mod talks;
-#[cfg(test)]
 mod threads;
-#[cfg(test)]
-mod trees;
-#[cfg(test)]
-mod twins;
 #[cfg(test)]
 mod values;

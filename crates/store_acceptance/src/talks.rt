@@ -1,8 +1,7 @@
 //! Talks with the program: what is asked, line by line, and what is to be answered.
 
-use crate::ends::{expect_file, words_of};
 use admin_cli::{Done, Note, run};
-use disk_trait::{Choice, DiskRoom, FileId, MemoryDisk};
+use disk_trait::{Choice, Disk, DiskRoom, FileId, MemoryDisk};
 use pool_name::Namer;
 use std::alloc::{AllocError, Global};
 use std::test::Fail;
@@ -115,6 +114,34 @@ pub fn clock_of(alloc: Global, seconds: &[u64]) -> Result<ListClock, Fail> {
         return Err(Fail::new("no moments"));
     }
     Ok(ListClock::new(moments))
+}
+
+/// The words of a command line, with one space between two.
+fn words_of(alloc: Global, line: &str) -> Result<Vec<String>, AllocError> {
+    let mut words = Vec::new(alloc);
+    for word in line.split(' ') {
+        words.push(String::from_str(alloc, word)?)?;
+    }
+    Ok(words)
+}
+
+/// Fails where a file of the disk doesn't hold these bytes, or isn't absent where there are none.
+fn expect_file(
+    alloc: Global,
+    disk: &mut MemoryDisk,
+    file: FileId,
+    want: Option<&[u8]>,
+) -> Result<(), Fail> {
+    let found = disk.read(alloc, file);
+    let is_same = match (&found, want) {
+        (Ok(Some(bytes)), Some(want)) => bytes.as_slice() == want,
+        (Ok(None), None) => true,
+        _ => false,
+    };
+    if is_same {
+        return Ok(());
+    }
+    Err(Fail::new(format_args!("{file} is {found:?}")))
 }
 
 /// Runs the program on what is asked.

@@ -1,0 +1,17 @@
+//! What a store keeps, shown by examples of the whole program, and nothing else: contents of one digest, trees over several backups
+//! with the exact bytes of their tables, the last number of a host, stops and faults around a commit's decision, nights. Each test
+//! is a talk over `pipe`: requests, line by line, and the answers to them.
+#![tactic(auto)]
+
+#[cfg(test)]
+mod last_number;
+#[cfg(test)]
+mod nights;
+#[cfg(test)]
+mod stops;
+#[cfg(test)]
+mod talks;
+#[cfg(test)]
+mod trees;
+#[cfg(test)]
+mod twins;
