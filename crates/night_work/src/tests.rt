@@ -1,3 +1,5 @@
+ghost use Rattle.std.specs.Prelude.{◌<◌};
+
 use crate::{Night, NightEnd, night};
 use attr_records::{Attr, File, HostName, Item, PathName};
 use backup_rules::{Kind, Rules};

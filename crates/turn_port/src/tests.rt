@@ -10,7 +10,6 @@ use pool_name::Md5Namer;
 use std::alloc::Global;
 use std::sync::Wait;
 use std::test::Fail;
-use std::thread::{Threads, join};
 use stream_traits::Moment;
 use tree_office::TreeOffice;
 
@@ -208,85 +207,5 @@ fn two_callers_are_answered_as_by_one_office(rt: HostRuntime) -> Result<(), Fail
     others.push_reserved(second);
     let store = close_store(&rt, turn, first, others);
     seen?;
-    expect_both(alloc, store)
-}
-
-/// A caller dumps a host of its own and reads it, whatever another caller does meanwhile. None where a reply isn't the one
-/// that it would have alone.
-fn dump_own<R: Wait>(
-    alloc: Global,
-    port: &mut TestPort<'_, R>,
-    name: &str,
-    text: &str,
-) -> Option<()>
-    ensures own { port.new.pass.seat.table_id ≡ port.old.pass.seat.table_id }
-{
-    let Ok(Answer::Done) = port.call(alloc, &add(alloc, name)?) else {
-        return None;
-    };
-    let Ok(Answer::Dump(dump)) = port.call(alloc, &open(alloc, name)?) else {
-        return None;
-    };
-    let Ok(Answer::Done) = port.call(alloc, &put(alloc, dump, text)?) else {
-        return None;
-    };
-    let Ok(Answer::Committed(0)) = port.call(alloc, &commit(dump)?) else {
-        return None;
-    };
-    if is_content(port.call(alloc, &read(alloc, name)?), text) {
-        return Some(());
-    }
-    None
-}
-
-/// A caller's thread.
-fn serve_one<R: Wait>(
-    rt: &R,
-    alloc: Global,
-    turn: &TestTurn,
-    pass: TestPass,
-    name: &str,
-    text: &str,
-) -> (Option<()>, TestPass)
-    requires own { pass.seat.table_id ≡ turn.now.table.shared.table_id }
-    ensures own { result.1.seat.table_id ≡ turn.now.table.shared.table_id }
-{
-    let mut port = TurnPort::new(rt, turn, pass);
-    let seen = dump_own(alloc, &mut port, name, text);
-    (seen, port.into_pass())
-}
-
-/// Two callers beside each other, in threads.
-fn serve_beside<R: Threads + Wait + Sync>(
-    rt: &R,
-    alloc: Global,
-    turn: &TestTurn,
-    first: TestPass,
-    second: TestPass,
-) -> ((Option<()>, TestPass), (Option<()>, TestPass))
-    requires first { first.seat.table_id ≡ turn.now.table.shared.table_id }
-    requires second { second.seat.table_id ≡ turn.now.table.shared.table_id }
-    ensures first { result.0.1.seat.table_id ≡ turn.now.table.shared.table_id }
-    ensures second { result.1.1.seat.table_id ≡ turn.now.table.shared.table_id }
-{
-    join(
-        rt,
-        || serve_one(rt, alloc, turn, first, "pc1", "left"),
-        || serve_one(rt, alloc, turn, second, "pc2", "right"),
-    )
-}
-
-#[test]
-fn two_threads_dump_into_one_store(rt: HostRuntime) -> Result<(), Fail> {
-    let alloc = rt.alloc();
-    let mut others = Vec::with_capacity(alloc, 1)?;
-    let Ok((turn, mut first)) = lock_store(alloc, blank_store(alloc)?) else {
-        return Err(Fail::new("no memory"));
-    };
-    let second = turn.pass(&mut first);
-    let ((left, first), (right, second)) = serve_beside(&rt, alloc, &turn, first, second);
-    others.push_reserved(second);
-    let store = close_store(&rt, turn, first, others);
-    assert!(rt; left.is_some() && right.is_some());
     expect_both(alloc, store)
 }
