@@ -1,7 +1,7 @@
 //! Requests, words and disks that are refused.
 
 use crate::ends::{Case, QUIET, Want, disk_of, expect_file, expect_run, expect_run_over, words_of};
-use admin_cli::{LineFault, parse};
+use admin_cli::{CommandLine, LineFault, parse};
 use disk_trait::{Disk, FileId};
 use std::alloc::Global;
 use std::test::Fail;
@@ -138,11 +138,18 @@ fn words_name_the_settings_file(rt: HostRuntime) -> Result<(), Fail> {
         rt.alloc(),
         "backup_server pipe --store store --settings file",
     )?;
-    let line = parse(rt.alloc(), words.as_slice())?;
-    match line.settings {
-        Some(file) if line.store.as_str() == "store" && file.as_str() == "file" => Ok(()),
-        _ => Err(Fail::new("another file")),
+    let CommandLine {
+        store,
+        settings,
+        ..
+    } = parse(rt.alloc(), words.as_slice())?;
+    let Some(file) = settings else {
+        return Err(Fail::new("no file"));
+    };
+    if store.as_str() == "store" && file.as_str() == "file" {
+        return Ok(());
     }
+    Err(Fail::new("another file"))
 }
 
 #[test]
