@@ -14,8 +14,6 @@ mod limits;
 mod lines;
 mod names;
 mod parts;
-#[cfg(test)]
-mod tests;
 
 pub use backup_rules::{
     KeepCounts, Kind, Line, OutOfRange, Period, Periods, PeriodsFault, RuleChange, Rules, SETTINGS,

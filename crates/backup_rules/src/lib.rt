@@ -12,8 +12,6 @@ mod periods;
 mod reading;
 mod rules;
 mod settings;
-#[cfg(test)]
-mod tests;
 mod writing;
 
 pub use change::RuleChange;

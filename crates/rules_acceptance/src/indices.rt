@@ -1,9 +1,9 @@
-use crate::{
+use attr_records::HostName;
+use backup_index::{
     HeadFile, HostIndex, IndexFault, IndexLayout, IndexRule, Kind, Line, LineList, MAX_HOSTS,
     NameList, NameRefusal, Rules, read_head_file, read_host_index, write_head_file,
     write_host_index,
 };
-use attr_records::HostName;
 use std::alloc::{AllocError, Global};
 use std::test::Fail;
 use wire_bytes::seal;

@@ -1,4 +1,4 @@
-use crate::{
+use backup_rules::{
     KeepCounts, Kind, Line, Period, Periods, RuleChange, Rules, RulesFault, RulesLayout, Setting,
     fill_rule, put_line, put_rules, read_line, read_rules,
 };
