@@ -5,6 +5,7 @@
 
 program=${1:-$(cd "$(dirname "$0")/.." && pwd)/bin/backup_server}
 [ -x "$program" ] || { echo "$program isn't there: make build first"; exit 1; }
+example=$(cd "$(dirname "$0")/../examples" && pwd)/backup_server.toml
 room=$(mktemp -d)
 trap 'rm -rf "$room"' EXIT
 cd "$room" || exit 1
@@ -110,6 +111,17 @@ attempt pipe --store unread --settings .
 judge 'a settings file that is a folder' 8 "the settings file . can't be read: Is a directory (os error 21)"
 [ ! -e unread ]
 expect 'settings that cannot be read make nothing'
+
+# The example has each setting with its default: a host that is added by it is the same as one without a settings file.
+printf 'PUT /hosts/pc1 HTTP/1.1\r\nHost: b\r\n\r\n' >in
+printf 'HTTP/1.1 201 Created\r\nContent-Type: application/json\r\nContent-Length: 14\r\n\r\n{"host":"pc1"}' >want
+attempt pipe --store by_example --settings "$example"
+judge 'the example of the settings' 0 ''
+attempt pipe --store by_default
+cmp -s by_example/host-0 by_default/host-0
+expect 'the example has the defaults'
+: >in
+: >want
 
 mkdir -p foreign
 printf abc >foreign/head
