@@ -372,4 +372,5 @@ def main():
         say("removing the stores")
 
 
-main()
+if __name__ == "__main__":
+    main()

@@ -1,6 +1,6 @@
 #!/usr/bin/env python3
-"""Stops the program at random moments, fills its disk, and starts two on one folder, and looks whether each backup whose
-commit was answered is read back whole by the next run: tests/crash.py PROGRAM [KILLS [TERMS [STARTS]]]. The last line is
+"""Stops the program at random moments, fills its disk, fails its syncs, interrupts its reads and writes, and starts two on
+one folder, and looks whether each backup whose commit was answered is read back whole by the next run: tests/crash.py PROGRAM [KILLS [TERMS [STARTS]]]. The last line is
 'N passed, M failed'."""
 import contextlib
 import os
@@ -45,10 +45,10 @@ def limit_files(size):
 
 
 class Run:
-    """A run of the program on a store, where a limit is given with no file above that size."""
+    """A run of the program on a store; with no file above a size if a limit is given, and under another program's words."""
 
-    def __init__(self, program, store, limit=None):
-        words = [program, "pipe", "--store", store]
+    def __init__(self, program, store, limit=None, under=()):
+        words = [*under, program, "pipe", "--store", store]
         before = None if limit is None else lambda: limit_files(limit)
         pipe = subprocess.PIPE
         self.run = subprocess.Popen(words, stdin=pipe, stdout=pipe, stderr=pipe, preexec_fn=before)
@@ -175,27 +175,27 @@ def starts(score, program, room, count):
     print(f"{count} pairs started at once", flush=True)
 
 
-def fill(program, store, limit=None):
-    """A run that goes on until its disk is full, and what it answered: the run, the backups, the status of the refusal."""
-    run, kept = Run(program, store, limit), {}
+def fill(program, store, limit=None, under=()):
+    """A run that goes on until its disk fails, and what it answered: the run, the backups, the status of the refusal."""
+    run, kept = Run(program, store, limit, under), {}
     found = run.ask(request("PUT /hosts/pc1"))
     if found is None or found[0] != 201:
         return run, kept, found and found[0]
     return run, kept, backup_again(run, kept, 1)
 
 
-def ended_full(run, refused):
-    """What is wrong with the end of a run whose disk was full: its last line names the file or folder, and the reason."""
+def ended_full(run, refused, reasons=(27, 28)):
+    """What is wrong with the end of a run whose disk failed: its last line names the file or folder, and the reason."""
     status, said = run.end()
     if refused not in (None, 500, 503):
-        return f"a full disk was answered by {refused}"
+        return f"a disk that failed was answered by {refused}"
     lines = said.splitlines()
-    is_told = bool(lines) and lines[-1].endswith(("(os error 27)", "(os error 28)"))
-    if status == 4 and is_told and lines[:-1] == ["disk failed"] or status == 8 and is_told and refused is None:
-        return None
-    if status == 0 and refused is not None and not lines:
-        return None
-    return f"a run with a full disk, refused by {refused}, ended with {status}: {said}"
+    if lines and lines[-1].endswith(tuple(f"(os error {reason})" for reason in reasons)):
+        if status == 4 and lines[:-1] == ["disk failed"] or status == 8 and refused is None:
+            return None
+        if status == 0 and refused is not None and len(lines) == 1:
+            return None
+    return f"a run whose disk failed, refused by {refused}, ended with {status}: {said}"
 
 
 def limits(score, program, room):
@@ -241,8 +241,7 @@ def full_once(score, program, place, options):
         found = run.ask(request("POST /reopen"))
         fault = None if found is not None and found[0] == 200 else f"with room again it is reopened with {found}"
         fault = fault or missing(run, kept, sorted(kept))
-        status, said = run.end()
-        fault = fault or (f"the run ended with {status}: {said}" if status or said else None)
+        fault = fault or ended_full(run, refused)
         fault = fault or reopened(program, store, kept, sorted(kept))
         score.count(f"a disk with {options}, full after {len(kept)} commits", fault)
         return refused
@@ -266,6 +265,65 @@ def full_disks(score, program, room):
     print(f"{len(sizes)} disks that got full", flush=True)
 
 
+def traced(rules):
+    """The words that have strace inject these errors into the calls of a program."""
+    return ["strace", "-f", "-qq", "-o", "/dev/null", *(word for rule in rules for word in ("-e", f"inject={rule}"))]
+
+
+def failing_syncs(score, program, room):
+    """Each sync fails in one run: nothing is answered as kept from then on, and what was answered before is."""
+    calls, reached = 0, set()
+    for at in range(1, 81):
+        store = os.path.join(room, f"sync-{at}")
+        run, kept, refused = fill(program, store, under=traced([f"fsync,fdatasync:error=EIO:when={at}"]))
+        more = dict(kept)
+        again = backup_again(run, more, 2)
+        fault = None if more == kept else f"{len(more) - len(kept)} commits were answered after a sync that failed"
+        fault = fault or ended_full(run, refused, [5]) or reopened(program, store, kept, sorted(kept))
+        score.count(f"sync {at} fails", fault)
+        reached |= {refused, again}
+        calls += len(kept)
+        shutil.rmtree(store, ignore_errors=True)
+    score.count("a sync that fails an opening, and one that fails a request", None if {None, 500} <= reached else str(reached))
+    print(f"80 syncs that failed, after {calls} commits", flush=True)
+
+
+def interrupts(score, program, room):
+    """Reads and writes are interrupted, again and again: they are tried again, and nobody sees it."""
+    rules = ["read:error=EINTR:when=4+{0}", "write:error=EINTR:when=1+{0}", "pread64,pwrite64:error=EINTR:when=9+{0}"]
+    for step in range(2, 12):
+        store, kept = os.path.join(room, f"interrupt-{step}"), {}
+        run = Run(program, store, under=traced([rule.format(step) for rule in rules]))
+        found = run.ask(request("PUT /hosts/pc1"))
+        fault = None if found and found[0] == 201 else f"a host was answered by {found}"
+        for seed in range(10):
+            found = run.ask(request("POST /hosts/pc1/dumps?kind=full"))
+            dump = found[1].decode().split('"')[3]
+            body = f"{seed} ".encode() * 5_000
+            run.ask(request(f"PUT /dumps/{dump}/entry?path=f&kind=file", body))
+            found = run.ask(request(f"POST /dumps/{dump}/commit"))
+            if found is None or found[0] != 201:
+                fault = fault or f"a commit was answered by {found}"
+                break
+            kept[seed] = body
+        fault = fault or missing(run, kept, sorted(kept))
+        status, said = run.end()
+        fault = fault or (f"the run ended with {status}: {said}" if status or said else None)
+        fault = fault or reopened(program, store, kept, sorted(kept))
+        score.count(f"each {step}th read and write interrupted", fault)
+        shutil.rmtree(store, ignore_errors=True)
+    print("10 runs whose reads and writes were interrupted", flush=True)
+
+
+def calls_that_fail(score, program, room):
+    """What strace can do to single calls, if it is there and may."""
+    if subprocess.run(["sh", "-c", "strace -qq -o /dev/null true"], stderr=subprocess.DEVNULL).returncode:
+        print("skipped: syncs that fail and calls that are interrupted, since strace isn't there or may not trace", flush=True)
+        return
+    failing_syncs(score, program, room)
+    interrupts(score, program, room)
+
+
 def main():
     program = os.path.abspath(sys.argv[1])
     kills, terms, pairs = [int(word) for word in sys.argv[2:5]] + [300, 100, 200][len(sys.argv) - 2 :]
@@ -273,6 +331,7 @@ def main():
     with tempfile.TemporaryDirectory() as room:
         limits(score, program, room)
         full_disks(score, program, room)
+        calls_that_fail(score, program, room)
         starts(score, program, room, pairs)
         stops(score, program, room, signal.SIGTERM, terms)
         stops(score, program, room, signal.SIGKILL, kills)

@@ -81,6 +81,12 @@ Content-Type: application/json
 Content-Length: 22
 Allow: PUT'
 
+curl -s -I -H 'Host:' "$base/stats" | tr -d '\r' >said
+judge 'HEAD without a host has a head alone' 'HTTP/1.1 400 Bad Request
+Content-Type: application/json
+Content-Length: 21
+Connection: close'
+
 curl -s -0 -w "$code" -X PUT "$base/hosts/pc1" >said
 judge 'version 1.0' '{"host":"pc1"}201 1'
 
@@ -110,6 +116,25 @@ judge "six requests of Python's client on one connection" "201 Created applicati
 201 Created application/json b'{\"number\":0}'
 200 OK application/octet-stream b'\\x00\\xff'
 404 Not Found application/json b'{\"refused\":\"NoBackup\"}'"
+
+# A store that is kept, one connection after the other, as README shows it.
+if command -v socat >/dev/null; then
+    kept=http://127.0.0.1:$(python3 -c 'import socket; print(socket.create_server(("127.0.0.1", 0)).getsockname()[1])')
+    socat "TCP-LISTEN:${kept##*:},bind=127.0.0.1,reuseaddr,fork,max-children=1" "EXEC:'$program' pipe --store kept" &
+    listener=$!
+    trap 'kill "$relay" "$listener" 2>/dev/null; rm -rf "$room"' EXIT
+    {
+        curl -s --retry 50 --retry-connrefused --retry-delay 1 -X PUT "$kept/hosts/pc2"
+        epoch=$(($(curl -s -X POST "$kept/reopen" | tr -dc 0-9) + 1))
+        curl -s -X POST "$kept/hosts/pc2/dumps?kind=full" -o /dev/null \
+            --next -s -T hello.txt "$kept/dumps/$epoch-0/entry?path=a.txt&kind=file" \
+            --next -s -X POST "$kept/dumps/$epoch-0/commit"
+        curl -s "$kept/hosts/pc2/backups/0/file?path=a.txt"
+    } >said
+    judge 'a dump and a file given back over a kept store, behind socat' '{"host":"pc2"}{}{"number":0}hello'
+else
+    echo "skipped: a kept store behind socat, which isn't there"
+fi
 
 echo "$passed passed, $failed failed"
 [ "$failed" = 0 ]

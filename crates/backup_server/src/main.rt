@@ -139,18 +139,14 @@ fn serve(
     status
 }
 
-/// Says on standard error, in a second line, where and why the disk failed, or which folder has a foreign file.
+/// Says on standard error, behind the note if there is one, which folder has a foreign file, and where and why the disk
+/// failed last if it did: also where that refused a request alone, and the run went on.
 fn explain(rt: &HostRuntime, folder: &str, note: Note, disk: &FolderDisk<HostRuntime>) {
-    match note {
-        Note::DiskFailed => {
-            if let Some(fault) = disk.fault() {
-                let _ = eprintln!(rt; "{folder}{fault}");
-            }
-        }
-        Note::Foreign(_) => {
-            let _ = eprintln!(rt; "in the folder {folder}");
-        }
-        _ => {}
+    if let Note::Foreign(_) = note {
+        let _ = eprintln!(rt; "in the folder {folder}");
+    }
+    if let Some(fault) = disk.fault() {
+        let _ = eprintln!(rt; "{folder}{fault}");
     }
 }
 

@@ -40,7 +40,7 @@ fn read_request(alloc: Global, wire: &mut Wire<MemoryLink>) -> Result<Option<usi
         HeadRead::Whole(head) => Ok(Some(body_len(alloc, wire, &head)?)),
         HeadRead::Ended => Ok(None),
         HeadRead::Truncated => Err(Fault::Truncated),
-        HeadRead::Bad(refusal) => Err(Fault::Head(refusal)),
+        HeadRead::Bad { refusal, .. } => Err(Fault::Head(refusal)),
         HeadRead::LinkFault => Err(Fault::Link),
         HeadRead::Memory => Err(Fault::Memory),
     }

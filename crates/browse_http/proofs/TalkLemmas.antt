@@ -21,9 +21,9 @@ use Rattle.office_model.specs.declared.answer.AnswerKind.TheVariants as K
 use Rattle.reply_bodies.specs.Replies.{takes_memory}
 use Rattle.http_heads.specs.declared.refusal.HeadRefusal.{HeadRefusal}
 use Rattle.http_heads.specs.Heads.{HeadParts}
-use Rattle.http_heads.specs.Fronts.{Bad as IsBad, Ended as IsEnded, Truncated as IsTruncated}
+use Rattle.http_heads.specs.Fronts.{Ended as IsEnded, Truncated as IsTruncated}
 use Rattle.http_wire.specs.Bodies.{body_length, CutsBody}
-use Rattle.http_wire.specs.HeadReads.{TakesHead, ComesTo, continue_due, FailsToAsk}
+use Rattle.http_wire.specs.HeadReads.{TakesHead, ComesTo, RefusesHead, continue_due, FailsToAsk}
 use Rattle.http_wire.specs.Message.{no_memory_response, continue_response}
 use Rattle.request_events.specs.declared.defaults.Defaults.{Defaults}
 use Rattle.request_events.specs.declared.refusal.RequestFault.{RequestFault}
@@ -85,26 +85,26 @@ uncalled_truncated left left' written written' comes same = record {
 }
 
 -- a head was refused
-pub uncalled_bad : (left left' left'' written written' written'' : Option (List ℕ)) (refusal : HeadRefusal) (end : End)
-    → ComesTo left left' (IsBad refusal) → written' ≡ written → left'' ≡ left'
-    → SaysLast (bad_response refusal) BadRequest written' written'' end → EndsUncalled left left'' written written'' end
-uncalled_bad left left' left'' written written' written'' refusal end comes same still (inl (e, last)) =
+pub uncalled_bad : (left left' left'' written written' written'' : Option (List ℕ)) (refusal : HeadRefusal)
+    (for_head : Bool) (end : End) → RefusesHead left left' refusal for_head → written' ≡ written → left'' ≡ left'
+    → SaysLast (bad_response refusal for_head) BadRequest written' written'' end → EndsUncalled left left'' written written'' end
+uncalled_bad left left' left'' written written' written'' refusal for_head end comes same still (inl (e, last)) =
     subst (EndsUncalled left left'' written written'') (sym e) (record {
       taken = [];
       left_is = none_taken left left'' (still ∙ comes.same);
       quiet = λ e. refl;
-      word = bad_response refusal;
-      wrote = last ∙ ap (λ w. behind w (bad_response refusal)) same;
-      stops = λ input is. (refusal, comes.comes input is, refl);
+      word = bad_response refusal for_head;
+      wrote = last ∙ ap (λ w. behind w (bad_response refusal for_head)) same;
+      stops = λ input is. (refusal, for_head, comes.refused input is, refl);
     })
-uncalled_bad left left' left'' written written' written'' refusal end comes same still (inr (e, last)) =
+uncalled_bad left left' left'' written written' written'' refusal for_head end comes same still (inr (e, last)) =
     subst (EndsUncalled left left'' written written'') (sym e) (record {
       taken = [];
       left_is = none_taken left left'' (still ∙ comes.same);
       quiet = λ e. refl;
-      word = take last.count (bad_response refusal);
-      wrote = last.wrote ∙ ap (λ w. behind w (take last.count (bad_response refusal))) same;
-      stops = λ input is. (bad_response refusal, last.count, inl (refusal, comes.comes input is, refl), refl);
+      word = take last.count (bad_response refusal for_head);
+      wrote = last.wrote ∙ ap (λ w. behind w (take last.count (bad_response refusal for_head))) same;
+      stops = λ input is. (bad_response refusal for_head, last.count, inl (refusal, for_head, comes.refused input is, refl), refl);
     })
 
 -- there was no memory, after these bytes
@@ -607,7 +607,7 @@ uncalled_unsent Ended rest word (read, e) = ([] ++ no_memory_response, 0, inr ([
 uncalled_unsent Truncated rest word (inl (read, e)) = ([] ++ no_memory_response, 0, inr ([], inl refl, refl), e)
 uncalled_unsent Truncated rest word (inr b) =
     (word ++ no_memory_response, length word, inr (word, inr (asks_in_body rest word b), refl), prefix_of word no_memory_response)
-uncalled_unsent BadRequest rest word (refusal, bad, e) = (word, length word, inl (refusal, bad, e), whole word)
+uncalled_unsent BadRequest rest word (refusal, for_head, bad, e) = (word, length word, inl (refusal, for_head, bad, e), whole word)
 uncalled_unsent LinkFault rest word stops = stops
 uncalled_unsent Memory rest word (prefix, may, e) = (word, length word, inr (prefix, may, e), whole word)
 

@@ -145,9 +145,9 @@ bytes_message body closes is_head = record {
 }
 
 -- the response to a head that is refused, the connection's last
-unfoldable pub bad_response : HeadRefusal → List ℕ
-bad_response refusal =
-    response_bytes (json_message (head_refusal_status refusal) (object_text (refused (head_refusal_name refusal))) None true false)
+unfoldable pub bad_response : HeadRefusal → Bool → List ℕ
+bad_response refusal for_head =
+    response_bytes (json_message (head_refusal_status refusal) (object_text (refused (head_refusal_name refusal))) None true for_head)
 
 -- the response to a request that is refused
 unfoldable pub refused_response : RequestRefusal → Bool → Bool → List ℕ

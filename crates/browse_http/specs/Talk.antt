@@ -9,7 +9,7 @@ use Rattle.office_model.specs.declared.event.Event.{Event}
 use Rattle.office_model.specs.Step.{Call}
 use Rattle.http_heads.specs.declared.refusal.HeadRefusal.{HeadRefusal}
 use Rattle.http_heads.specs.Heads.{HeadParts}
-use Rattle.http_heads.specs.Fronts.{Read, Bad as IsBad, Ended as IsEnded, Truncated as IsTruncated, IsHeadRead}
+use Rattle.http_heads.specs.Fronts.{Read, Ended as IsEnded, Truncated as IsTruncated, IsHeadRead, IsRefusedFor}
 use Rattle.http_wire.specs.Bodies.{body_length}
 use Rattle.http_wire.specs.HeadReads.{continue_due}
 use Rattle.http_wire.specs.Message.{no_memory_response}
@@ -153,14 +153,15 @@ MayAsk rest prefix = (prefix ≡ []) ⊎ AsksFor rest prefix
 -- what may be written last: the response to a head that is refused, or that to want of memory
 abbrev pub MaySay : List ℕ → List ℕ → Type 0
 MaySay rest word =
-    ((refusal : HeadRefusal) × IsHeadRead rest (IsBad refusal) × (word ≡ bad_response refusal))
+    ((refusal : HeadRefusal) × (for_head : Bool) × IsRefusedFor rest refusal for_head × (word ≡ bad_response refusal for_head))
     ⊎ ((prefix : List ℕ) × MayAsk rest prefix × (word ≡ prefix ++ no_memory_response))
 
 -- How a connection ends if no request was read last: `rest` is the input behind the requests, `word` what was written last.
 abbrev pub StopsUncalled : End → List ℕ → List ℕ → Type 0
 StopsUncalled Ended rest word = IsHeadRead rest IsEnded × (word ≡ [])
 StopsUncalled Truncated rest word = (IsHeadRead rest IsTruncated × (word ≡ [])) ⊎ EndsInBody rest word
-StopsUncalled BadRequest rest word = (refusal : HeadRefusal) × IsHeadRead rest (IsBad refusal) × (word ≡ bad_response refusal)
+StopsUncalled BadRequest rest word =
+    (refusal : HeadRefusal) × (for_head : Bool) × IsRefusedFor rest refusal for_head × (word ≡ bad_response refusal for_head)
 StopsUncalled Memory rest word = (prefix : List ℕ) × MayAsk rest prefix × (word ≡ prefix ++ no_memory_response)
 -- the link failed: what was to be said lacks its end
 StopsUncalled LinkFault rest word = (full : List ℕ) × (n : ℕ) × MaySay rest full × (word ≡ take n full)

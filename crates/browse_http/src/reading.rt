@@ -21,13 +21,13 @@ pub struct Request {
     pub body: Vec<u8>,
 }
 
-/// Refuses a head.
-fn refuse<L: Link>(wire: &mut Wire<L>, refusal: HeadRefusal) -> End
-    ensures says { SaysLast (bad_response refusal) End.BadRequest (written_of wire.old) (written_of wire.new) result }
+/// Refuses a head; without a body if it asks for HEAD.
+fn refuse<L: Link>(wire: &mut Wire<L>, refusal: HeadRefusal, for_head: bool) -> End
+    ensures says { SaysLast (bad_response refusal for_head) End.BadRequest (written_of wire.old) (written_of wire.new) result }
     ensures left { left_of wire.new ≡ left_of wire.old }
     ensures counted { Counted (faults_of wire.old) (faults_of wire.new) (result ≡ End.LinkFault) }
 {
-    match write_bad(wire, refusal) {
+    match write_bad(wire, refusal, for_head) {
         Ok(()) => End::BadRequest,
         Err(Failed) => End::LinkFault,
     }
@@ -60,7 +60,7 @@ pub fn read_request<L: Link, G: Gate>(
         HeadRead::Whole(head) => head,
         HeadRead::Ended => return Err(End::Ended),
         HeadRead::Truncated => return Err(End::Truncated),
-        HeadRead::Bad(refusal) => return Err(refuse(wire, refusal)),
+        HeadRead::Bad { refusal, for_head } => return Err(refuse(wire, refusal, for_head)),
         HeadRead::LinkFault => return Err(End::LinkFault),
         HeadRead::Memory => return Err(give_up(wire)),
     };

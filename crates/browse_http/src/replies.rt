@@ -73,16 +73,20 @@ fn write_json<L: Link>(
     }
 }
 
-/// Refuses a head.
+/// Refuses a head; without a body if it asks for HEAD.
 #[tactic(auto, unfolding(crate::specs::Messages::bad_response))]
-pub fn write_bad<L: Link>(wire: &mut Wire<L>, refusal: HeadRefusal) -> Result<(), Failed>
-    ensures all { OnOk result (written_of wire.new ≡ behind (written_of wire.old) (bad_response refusal)) }
-    ensures front { OnErr result (WroteFront (written_of wire.old) (written_of wire.new) (bad_response refusal)) }
+pub fn write_bad<L: Link>(
+    wire: &mut Wire<L>,
+    refusal: HeadRefusal,
+    for_head: bool,
+) -> Result<(), Failed>
+    ensures all { OnOk result (written_of wire.new ≡ behind (written_of wire.old) (bad_response refusal for_head)) }
+    ensures front { OnErr result (WroteFront (written_of wire.old) (written_of wire.new) (bad_response refusal for_head)) }
     ensures left { left_of wire.new ≡ left_of wire.old }
     ensures counted { Counted (faults_of wire.old) (faults_of wire.new) (IsErr result) }
 {
     let body = refused_text(refusal.name().as_bytes());
-    match write_json(wire, head_status(refusal), &body, None, true, false) {
+    match write_json(wire, head_status(refusal), &body, None, true, for_head) {
         Ok(()) => Ok(()),
         Err(Failed) => Err(Failed),
     }

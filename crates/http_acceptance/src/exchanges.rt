@@ -282,3 +282,29 @@ fn a_refused_head_ends_the_connection(rt: HostRuntime) -> Result<(), Fail> {
     }
     Ok(())
 }
+
+/// Refused heads of the method HEAD, and the heads of their responses, which have no body.
+const BAD_HEADS_OF_HEAD: [(&str, &str); 3] = [
+    (
+        "HEAD /stats HTTP/1.1\r\n\r\n",
+        "400 Bad Request\r\nContent-Type: application/json\r\nContent-Length: 21",
+    ),
+    (
+        "\r\nHEAD /stats HTTP/2.0\r\n",
+        "400 Bad Request\r\nContent-Type: application/json\r\nContent-Length: 21",
+    ),
+    (
+        "HEAD /stats HTTP/1.1\r\nHost: b\r\nTransfer-Encoding: chunked\r\n\r\n",
+        "411 Length Required\r\nContent-Type: application/json\r\nContent-Length: 22",
+    ),
+];
+
+#[test]
+fn a_refused_head_of_the_method_head_has_no_body(rt: HostRuntime) -> Result<(), Fail> {
+    let alloc = rt.alloc();
+    for (asked, head) in BAD_HEADS_OF_HEAD {
+        let told = format!(in alloc; "HTTP/1.1 {head}\r\nConnection: close\r\n\r\n")?;
+        expect_both(alloc, &[asked, ADD], &[told.as_str()], End::BadRequest)?;
+    }
+    Ok(())
+}

@@ -8,6 +8,7 @@ mod front;
 mod head;
 mod judge;
 mod laws;
+mod method;
 mod refusal;
 #[cfg(test)]
 mod tests;
@@ -20,6 +21,7 @@ pub use laws::{
     blank_inputs_end, cut_inputs_are_truncated, endless_heads_are_too_large, fronts_decide,
     heads_decide, hopeless_inputs_are_bad, too_large_heads_are_long,
 };
+pub use method::asks_for_head;
 pub use refusal::HeadRefusal;
 pub use text::BODY_LIMIT;
 pub use version::Version;

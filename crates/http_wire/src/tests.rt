@@ -112,7 +112,8 @@ fn outcome(read: &HeadRead) -> &'static str {
         HeadRead::Whole(_) => "Whole",
         HeadRead::Ended => "Ended",
         HeadRead::Truncated => "Truncated",
-        HeadRead::Bad(refusal) => refusal.name(),
+        HeadRead::Bad { for_head: true, .. } => "refused for HEAD",
+        HeadRead::Bad { refusal, .. } => refusal.name(),
         HeadRead::LinkFault => "LinkFault",
         HeadRead::Memory => "Memory",
     }
@@ -125,7 +126,7 @@ fn read_over<L: Link + Drop>(alloc: Global, link: L) -> &'static str {
 }
 
 /// Heads with the end of the input behind them, and what they come to.
-const HEADS: [(&[u8], &str); 16] = [
+const HEADS: [(&[u8], &str); 20] = [
     (b"", "Ended"),
     (b"\r\n\n\r\n", "Ended"),
     (b"\r\n\r", "Truncated"),
@@ -154,6 +155,13 @@ const HEADS: [(&[u8], &str); 16] = [
         b"GET / HTTP/1.0\r\nContent-Length: 999999999999999999999999999999\r\n\r\n",
         "FileTooLarge",
     ),
+    (b"HEAD / HTTP/1.1\r\n\r\n", "refused for HEAD"),
+    (b"\r\n\nHEAD  / HTTP/1.0\r\n", "refused for HEAD"),
+    (
+        b"HEAD / HTTP/1.0\r\nTransfer-Encoding: chunked\r\n\r\n",
+        "refused for HEAD",
+    ),
+    (b"HEADS / HTTP/1.1\r\n\r\n", "BadHead"),
 ];
 
 /// Compares what a head comes to, read in one piece and byte for byte.

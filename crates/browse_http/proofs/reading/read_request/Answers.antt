@@ -9,7 +9,7 @@ returns-in-Truncated-clause-ends g c = uncalled_truncated _ _ _ _ c.in-Truncated
 
 pub returns-in-Bad-clause-ends : goal.returns-in-Bad-clause-ends
 returns-in-Bad-clause-ends g c =
-    uncalled_bad _ _ _ _ _ _ _ _ c.in-Bad.ensures.read c.in-Bad.ensures.wrote c.refuse.ensures.left c.refuse.ensures.says
+    uncalled_bad _ _ _ _ _ _ _ _ _ c.in-Bad.ensures.read c.in-Bad.ensures.wrote c.refuse.ensures.left c.refuse.ensures.says
 
 pub returns-in-LinkFault-clause-ends : goal.returns-in-LinkFault-clause-ends
 returns-in-LinkFault-clause-ends g c = uncalled_fault _ _ _ _ c.in-LinkFault.ensures.read c.in-LinkFault.ensures.wrote
