@@ -174,7 +174,7 @@ rows_fit front (row ∷ rows) is each = (
   rows_fit (front ++ row ∷ []) rows (subst IsMadeTree (sym (append_assoc front (row ∷ []) rows)) is) each.1,
 )
 
--- a tree of items in range fits the layout
-pub tree_fits : (tree : Tree) → IsMadeTree tree → AllByRecursion IsInRange tree → stream_layout.Fits tree
+-- a tree fits the layout
+pub tree_fits : (tree : Tree) → IsMadeTree tree → stream_layout.Fits tree
 unfolding stream_layout rows_layout sequence seen_as followed_by limited field
-tree_fits tree is each = ((refl, refl), rows_fit [] tree is each)
+tree_fits tree is = ((refl, refl), rows_fit [] tree is is.each)

@@ -1,5 +1,5 @@
 -- What the stream's layout says of streams.
-use Rattle.std.specs.Prelude.{◌≡◌, ℕ, ◌<◌, List, [], ◌++◌, length, Option, Some, None, Result, Ok, Err}
+use Rattle.std.specs.Prelude.{◌≡◌, ℕ, ◌<◌, List, [], ◌++◌, length, Option, Some, None, Result, Ok, Err, IfOk, MatchResult}
 use Rattle.std.proofs.Common.{refl, sym, ap, subst, ◌∙◌, append_assoc, length-append, arith}
 use Rattle.std.proofs.lemmas.List.{append-nil}
 use Rattle.wire_bytes.specs.Kind.{IsReadOneWay}
@@ -8,10 +8,12 @@ use Rattle.attr_records.specs.Items.{Tree}
 use Rattle.restore_stream.specs.declared.faults.ReadStreamFault.{ReadStreamFault}
 use Rattle.restore_stream.specs.declared.faults.ReadStreamFault.TheVariants as F
 use Rattle.restore_stream.specs.Cuts.{Layout}
-use Rattle.restore_stream.specs.Reading.{Reads, ReadsExactly}
+use Rattle.restore_stream.specs.Reading.{Reads, ReadsExactly, IsOther}
 use Rattle.restore_stream.specs.Layouts.{stream_bytes}
 use Rattle.restore_stream.specs.Streams.{stream_layout}
+use Rattle.restore_stream.specs.Trees.{IsMadeTree}
 use Rattle.restore_stream.proofs.PrintLaws.{stream_print}
+use Rattle.restore_stream.proofs.FitLaws.{tree_fits}
 
 module _ {X V : Type 0} (layout : Layout V) (view : X → V) where
   split : (bytes print : List ℕ) (new : Option (List ℕ)) → Some bytes ≡ before print new
@@ -74,6 +76,20 @@ pub streams_one_way : IsReadOneWay stream_layout.Fits stream_bytes
 streams_one_way = λ a b x y fits_a fits_b e.
     stream_layout.one_way a b x y fits_a fits_b
     (ap (λ bytes. bytes ++ x) (stream_print a) ∙ e ∙ ap (λ bytes. bytes ++ y) (sym (stream_print b)))
+
+-- what was read is the tree whose stream it was
+pub tree_read : (old new : Option (List ℕ)) (result : Result Tree ReadStreamFault) → Reads stream_layout 0 (λ tree. tree) old result new
+    → IfOk result IsMadeTree → IfOk result (λ tree. IsMadeTree tree × (old ≡ before (stream_bytes tree) new))
+tree_read old new (Ok tree) read is = (is, read.took ∙ ap (λ bytes. before bytes new) (stream_print tree))
+tree_read old new (Err fault) read is = tt
+
+-- the stream of a tree is read as the tree
+pub tree_back : (old new : Option (List ℕ)) (result : Result Tree ReadStreamFault) → Reads stream_layout 0 (λ tree. tree) old result new
+    → (tree : Tree) (rest : List ℕ) → IsMadeTree tree → old ≡ Some (stream_bytes tree ++ rest)
+    → MatchResult result (λ read. (read ≡ tree) × (new ≡ Some rest)) IsOther
+tree_back old new result read = λ tree rest is e.
+    (read_exactly_from stream_layout (λ t. t) old new result read).back tree rest (tree_fits tree is)
+    (e ∙ ap (λ bytes. Some (bytes ++ rest)) (sym (stream_print tree)))
 
 -- a stream that ends before its end is none
 pub no_cut_stream : (tree other : Tree) (front back rest : List ℕ) → stream_layout.Fits tree → stream_layout.Fits other → 0 < length back

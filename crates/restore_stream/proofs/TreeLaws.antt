@@ -5,6 +5,7 @@ use Rattle.std.specs.declared.cmp.Ordering.TheVariants.{Less, Greater}
 use Rattle.std.specs.Ordering.{ordering_reverse, is_eq}
 use Rattle.std.specs.Cmp.{IsTotalOrder, first_so, second_so}
 use Rattle.std.specs.FinMap.Entries.{find, put, by_order}
+use Rattle.std.specs.List.{AllByRecursion}
 use Rattle.std.proofs.Common.{refl, sym, ap, subst, ◌∙◌, arith, length-append}
 use Rattle.std.proofs.lemmas.Bool.Decides.{nat_tests}
 use Rattle.ordered_lists.specs.Order.{IsBelowAll, IsInOrder, is_after}
@@ -15,7 +16,7 @@ use Rattle.attr_records.specs.Paths.{path_cmp, parent}
 use Rattle.attr_records.specs.PathLaws.{path_cmp_total}
 use Rattle.attr_records.specs.Trees.{node_at, with_node, is_parent_in, IsTree, broken_rule}
 use Rattle.attr_records.specs.TreeLaws.{IsTree-with_node}
-use Rattle.restore_stream.specs.Trees.{IsMadeTree, may_follow}
+use Rattle.restore_stream.specs.Trees.{IsInRange, IsMadeTree, may_follow}
 
 module _ {K X : Type 0} (R : K → K → Ordering) (total : IsTotalOrder R) where
   last_below : (k : K) (es : List (K × X)) (e : K × X) → IsBelowAll R k (es ++ e ∷ []) → R k e.0 ≡ Less
@@ -62,8 +63,13 @@ follows tree path e =
     let rest = second_so (is_after path_cmp tree path) (is_parent_in is_dir tree (parent path) && nat_lt (length tree) 1048576) e in
     record { after = first_so _ _ e; parent = first_so _ _ rest; room = second_so (is_parent_in is_dir tree (parent path)) _ rest }
 
-pub IsMadeTree-append : (tree : Tree) (row : List ℕ × Item) → IsMadeTree tree → may_follow tree row.0 ≡ true → IsMadeTree (tree ++ row ∷ [])
-IsMadeTree-append tree row is may =
+each_append : (tree : Tree) (row : List ℕ × Item) → AllByRecursion IsInRange tree → IsInRange row → AllByRecursion IsInRange (tree ++ row ∷ [])
+each_append [] row each here = (here, tt)
+each_append (first ∷ tree) row each here = (each.0, each_append tree row each.1 here)
+
+pub IsMadeTree-append : (tree : Tree) (row : List ℕ × Item) → IsMadeTree tree → IsInRange row → may_follow tree row.0 ≡ true
+    → IsMadeTree (tree ++ row ∷ [])
+IsMadeTree-append tree row is range may =
     let f = follows tree row.0 may in
     let order = is.is_tree.in_order in
     let none = find_after path_cmp path_cmp_total row.0 row.1 tree order f.after in
@@ -73,13 +79,14 @@ IsMadeTree-append tree row is may =
       is_tree = subst (λ t. IsTree is_dir t) put_is
           (IsTree-with_node is_dir (λ _. false) tree row.0 row.1 is.is_tree (no_rule tree row.0 (is_dir row.1) f.parent none room.0));
       few = let n : length (tree ++ row ∷ []) ≡ length tree + 1 = length-append tree (row ∷ []) in omega (arith, n, room.1);
+      each = each_append tree row is.each range;
     }
 
 -- a row pushed on rows that were reserved for
-pub pushed : (old reserved new : Tree) (row : List ℕ × Item) (path : List ℕ) → IsMadeTree old → reserved ≡ old → new ≡ reserved ++ row ∷ []
-    → path ≡ row.0 → may_follow old path ≡ true → IsMadeTree new
-pushed old reserved new row path is same new_is path_is may =
-    rw (new_is, same) (IsMadeTree-append old row is (ap (may_follow old) (sym path_is) ∙ may))
+pub pushed : (old reserved new : Tree) (row : List ℕ × Item) (path : List ℕ) → IsMadeTree old → IsInRange row → reserved ≡ old
+    → new ≡ reserved ++ row ∷ [] → path ≡ row.0 → may_follow old path ≡ true → IsMadeTree new
+pushed old reserved new row path is range same new_is path_is may =
+    rw (new_is, same) (IsMadeTree-append old row is range (ap (may_follow old) (sym path_is) ∙ may))
 
 pub no_paths : IsMadeTree []
-no_paths = record { is_tree = record { in_order = tt; parents = λ directory rest there. there }; few = omega arith }
+no_paths = record { is_tree = record { in_order = tt; parents = λ directory rest there. there }; few = omega arith; each = tt }

@@ -4,13 +4,42 @@ ghost use Rattle.attr_records.specs.Items.{is_dir};
 ghost use Rattle.attr_records.specs.Paths.{path_cmp, parent};
 ghost use Rattle.attr_records.specs.Trees.{node_at, is_parent_in};
 ghost use Rattle.ordered_lists.specs.Order.{IsInOrder, is_after};
-ghost use Rattle.restore_stream.specs.Trees.{IsMadeTree, may_follow};
+ghost use Rattle.restore_stream.specs.Trees.{IsAttr, IsItem, IsInRange, IsMadeTree, may_follow};
 
-use attr_records::{Item, MAX_PATHS, PathName, compare, parent};
+use attr_records::{Attr, Item, MAX_PATHS, PathName, compare, parent};
 use ordered_lists::Entry;
 use std::alloc::Global;
 use std::cmp::Ordering;
 use std::marker::Model;
+
+/// The numbers of attributes are in their ranges.
+fn attr_in_range(attr: Attr)
+    ensures { IsAttr attr }
+{
+    let _mode = attr.mode();
+    let _uid = attr.uid();
+    let _gid = attr.gid();
+    let _mtime = attr.mtime();
+    let _nanos = attr.nanos();
+}
+
+/// The numbers and texts of an item are in their ranges.
+fn item_in_range(item: &Item)
+    ensures { IsItem item.now }
+{
+    match item {
+        Item::File(file) => {
+            attr_in_range(file.attr);
+            let _group = file.group;
+            let _size = file.bytes.len();
+        }
+        Item::Dir(dir) => attr_in_range(dir.attr),
+        Item::Link(link) => {
+            attr_in_range(link.attr);
+            let _target = link.target.as_slice();
+        }
+    }
+}
 
 /// A path, and what stands at it.
 #[derive(Debug, Drop)]
@@ -22,21 +51,27 @@ pub struct Made {
 impl Model for Made {
     ghost use Rattle.std.specs.Prelude.{List, ℕ};
     ghost use Rattle.attr_records.specs.declared.nodes.Item.{Item};
+    ghost use Rattle.restore_stream.specs.Trees.{IsInRange};
 
     ghost Value = { List ℕ × Item };
 
     ghost view = { λ m. (m.path, m.item) };
+
+    ghost invariant = { λ m. IsInRange (m.path, m.item) };
 }
 
 impl Made {
     pub fn new(path: PathName, item: Item) -> Made
         ensures { result ≡ (path, item) }
     {
+        let _valid = path.as_slice();
+        item_in_range(&item);
         Made { path, item }
     }
 
     pub fn path(&self) -> &PathName
-        ensures { result.now ≡ self.now.0 }
+        ensures value { result.now ≡ self.now.0 }
+        ensures range { IsInRange self.now }
     {
         &self.path
     }

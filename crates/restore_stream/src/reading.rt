@@ -1,13 +1,16 @@
 //! Reads the stream of a tree.
 
-ghost use Rattle.std.specs.Prelude.{◌≡◌, ◌≤◌, ◌+◌, ◌-◌, ◌⊎◌, min, length, IfOk, IfErr, IfSome, IsErrOf, IsTrue, ◌↔◌, List, ℕ, Some};
+ghost use Rattle.std.specs.Prelude.{◌≡◌, ◌≤◌, ◌+◌, ◌-◌, ◌⊎◌, min, length, IfOk, IfErr, IfSome, IsErrOf, IsTrue, ◌↔◌, ◌++◌, List, ℕ, Some, MatchResult};
 ghost use Rattle.std.specs.Option.{option_map};
 ghost use Rattle.fault_counts.specs.Counts.{Counted};
+ghost use Rattle.stream_traits.specs.Told.{before};
 ghost use Rattle.attr_records.specs.declared.nodes.Item.{Item as ItemValue};
+ghost use Rattle.attr_records.specs.Items.{Tree};
 ghost use Rattle.restore_stream.specs.Frames.{pieces};
-ghost use Rattle.restore_stream.specs.Layouts.{entry_bytes, tail_length, magic};
-ghost use Rattle.restore_stream.specs.Reading.{Reads, ReadsExactly};
+ghost use Rattle.restore_stream.specs.Layouts.{entry_bytes, tail_length, magic, stream_bytes};
+ghost use Rattle.restore_stream.specs.Reading.{Reads, ReadsExactly, IsOther};
 ghost use Rattle.restore_stream.specs.Streams.{u8_field, bytes_field_of, pieces_layout, size_of, item_of, row_layout, row_step, rows_layout, stream_layout};
+ghost use Rattle.restore_stream.specs.Trees.{IsMadeTree};
 
 use crate::entries::{read_entry, read_piece, read_this_u32};
 use crate::faults::ReadStreamFault;
@@ -190,6 +193,7 @@ fn read_rows<S: Source>(
 ) -> Result<MadeList, ReadStreamFault>
     requires sent { S.sent source.old ≡ S.written source.old }
     ensures read { Reads rows_layout start (λ tree. tree) (S.left source.old) result (S.left source.new) }
+    ensures made { IfOk result IsMadeTree }
     ensures written { S.written source.new ≡ S.written source.old }
     ensures sent { S.sent source.new ≡ S.sent source.old }
     ensures counted { Counted (S.faults source.old) (S.faults source.new) (IsErrOf result ReadStreamFault.ReadFault) }
@@ -202,6 +206,7 @@ fn read_rows<S: Source>(
         }
         offset = behind;
     }
+    let _rows = tree.rows();
     Ok(tree)
 }
 
@@ -232,6 +237,7 @@ fn read_magic<S: Source>(source: &mut S) -> Result<(), ReadStreamFault>
 fn read_parts<S: Source>(alloc: Global, source: &mut S) -> Result<MadeList, ReadStreamFault>
     requires sent { S.sent source.old ≡ S.written source.old }
     ensures read { Reads stream_layout 0 (λ tree. tree) (S.left source.old) result (S.left source.new) }
+    ensures made { IfOk result IsMadeTree }
     ensures written { S.written source.new ≡ S.written source.old }
     ensures sent { S.sent source.new ≡ S.sent source.old }
     ensures counted { Counted (S.faults source.old) (S.faults source.new) (IsErrOf result ReadStreamFault.ReadFault) }
@@ -243,11 +249,15 @@ fn read_parts<S: Source>(alloc: Global, source: &mut S) -> Result<MadeList, Read
 
 /// Reads the tree whose stream the source has next, and leaves what follows it unread. `BadStream` comes exactly if a field that is
 /// there whole breaks the layout, with the offset of its frame; `Ended` exactly if the source ended in or before a field and
-/// all before it holds; `ReadFault` only if a read failed, and `Memory` for want of memory.
+/// all before it holds; `ReadFault` only if a read failed, and `Memory` for want of memory. What `write_stream` wrote of a tree
+/// is read as that tree (`back`), and what was read is the tree whose stream it was (`tree`).
 pub fn read_stream<S: Source>(alloc: Global, source: &mut S) -> Result<MadeList, ReadStreamFault>
     requires sent { S.sent source.old ≡ S.written source.old }
     ensures read { Reads stream_layout 0 (λ tree. tree) (S.left source.old) result (S.left source.new) }
     ensures exact { ReadsExactly stream_layout (λ tree. tree) (S.left source.old) result (S.left source.new) }
+    ensures tree { IfOk result (λ tree. IsMadeTree tree × (S.left source.old ≡ before (stream_bytes tree) (S.left source.new))) }
+    ensures back { (tree : Tree) (rest : List ℕ) → IsMadeTree tree → S.left source.old ≡ Some (stream_bytes tree ++ rest)
+        → MatchResult result (λ read. (read ≡ tree) × (S.left source.new ≡ Some rest)) IsOther }
     ensures written { S.written source.new ≡ S.written source.old }
     ensures sent { S.sent source.new ≡ S.sent source.old }
     ensures counted { Counted (S.faults source.old) (S.faults source.new) (IsErrOf result ReadStreamFault.ReadFault) }

@@ -137,6 +137,24 @@ fn each_kind_is_read_and_written(rt: HostRuntime) -> Result<(), Fail> {
 }
 
 #[test]
+fn what_was_written_is_read_back(rt: HostRuntime) -> Result<(), Fail> {
+    let alloc = rt.alloc();
+    let tree = hello(alloc)?;
+    let stream = written(alloc, &tree, 100)?;
+    let input = joined(alloc, [stream.as_slice(), b"more", b""])?;
+    let mut link = link_of(alloc, input.as_slice(), 0)?;
+    let read = read_stream(alloc, &mut link)?;
+    for (made, first) in read.rows().iter().zip(tree.rows()) {
+        assert!(rt; made.path().as_slice() == first.path().as_slice());
+        assert!(rt; made.item() == first.item());
+    }
+    assert_eq!(rt; read.len(), 1);
+    let mut rest = [0u8; 8];
+    assert_eq!(rt; link.read(&mut rest), Ok(4));
+    Ok(())
+}
+
+#[test]
 fn a_file_is_given_in_pieces(rt: HostRuntime) -> Result<(), Fail> {
     let alloc = rt.alloc();
     for (size, length) in [(65_536usize, 65_595usize), (65_537, 65_601)] {

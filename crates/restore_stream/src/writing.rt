@@ -6,6 +6,7 @@ ghost use Rattle.fault_counts.specs.Counts.{Counted};
 ghost use Rattle.stream_traits.specs.Told.{behind, WroteFront};
 ghost use Rattle.wire_bytes.specs.Layout.{text_bytes};
 ghost use Rattle.restore_stream.specs.Layouts.{attr_bytes, kind_of, node_bytes, entry_bytes, frame_bytes, frames_bytes, stream_bytes, IsFrame};
+ghost use Rattle.restore_stream.specs.Trees.{IsMadeTree};
 ghost use Rattle.restore_stream.specs.Writing.{WroteFrames};
 
 use crate::frames::FrameCursor;
@@ -181,20 +182,21 @@ fn write_next<K: Sink>(
 }
 
 /// Writes the stream of a tree, and sends nothing. If a write fails or there is no memory for a frame, a front of the stream
-/// may be written. It holds a frame at a time.
+/// may be written. It holds a frame at a time. `read_stream` of what was written gives the same tree again.
 pub fn write_stream<K: Sink>(
     alloc: Global,
     tree: &MadeList,
     sink: &mut K,
 ) -> Result<(), WriteStreamFault>
+    ensures tree { IsMadeTree tree.now }
     ensures all { OnOk result (K.written sink.new ≡ behind (K.written sink.old) (stream_bytes tree.now)) }
     ensures front { OnErr result (WroteFront (K.written sink.old) (K.written sink.new) (stream_bytes tree.now)) }
     ensures sent { K.sent sink.new ≡ K.sent sink.old }
     ensures left { K.left sink.new ≡ K.left sink.old }
     ensures counted { Counted (K.faults sink.old) (K.faults sink.new) (IsErrOf result WriteStreamFault.WriteFault) }
 {
-    write_all(sink, b"RST2")?;
     let mut cursor = FrameCursor::new(tree.rows());
+    write_all(sink, b"RST2")?;
     while write_next(alloc, &mut cursor, sink)? {}
     Ok(())
 }

@@ -20,4 +20,4 @@ last_tells (e ∷ rows) asked path row r b some is path_is compared tested =
 pub returns-in-len1-up : goal.returns-in-len1-up
 returns-in-len1-up c =
     last_tells c.args.rows.now c.args.path.now _ c.last-item.result _ _ c.in-len1-up.len_at_least c.last-item.is
-    (c.as_slice.ensures.value ∙ c.path.ensures) c.compare.ensures c.is_lt.ensures
+    (c.as_slice.ensures.value ∙ c.path.ensures.value) c.compare.ensures c.is_lt.ensures
