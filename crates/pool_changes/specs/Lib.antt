@@ -1,4 +1,5 @@
 pub mod Slots
+pub mod Small
 pub mod Kept
 pub mod Named
 pub mod NameLaws

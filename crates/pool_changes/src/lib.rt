@@ -22,6 +22,7 @@ mod index;
 mod listing;
 mod names;
 mod slot;
+mod small;
 mod turning;
 mod writing;
 

@@ -7,6 +7,7 @@ ghost use Rattle.pool_changes.specs.Writing.{option_list};
 
 use crate::names::Names;
 use crate::slot::Slot;
+use crate::small::SmallSlot;
 use disk_trait::PoolId;
 use std::alloc::{AllocError, Global};
 use std::marker::Model;
@@ -70,10 +71,10 @@ pub(crate) fn push_some<T: Drop>(items: &mut Vec<T>, item: Option<T>) -> Result<
 }
 
 /// What a cleaning sees of a name.
-fn bucket_item(id: PoolId, slot: Slot) -> Option<BucketItem>
-    ensures { result ≡ bucket_item_of id (Some slot) }
+fn bucket_item(id: PoolId, slot: &SmallSlot) -> Option<BucketItem>
+    ensures { result ≡ bucket_item_of id (Some slot.now) }
 {
-    match slot {
+    match slot.to_slot() {
         Slot::Live { size, mark, claims } => Some(BucketItem {
             id,
             size,
@@ -94,7 +95,7 @@ pub fn bucket_items(alloc: Global, names: &Names, bucket: u8) -> Result<BucketIt
     }
     let first = bucket * 16;
     for (id, slot) in names.between(first, first + 15) {
-        match push_some(&mut inner, bucket_item(*id, *slot)) {
+        match push_some(&mut inner, bucket_item(*id, slot)) {
             Ok(()) => {}
             Err(fault) => return Err(fault),
         }
@@ -103,12 +104,12 @@ pub fn bucket_items(alloc: Global, names: &Names, bucket: u8) -> Result<BucketIt
 }
 
 /// The totals with those of one name more.
-fn with_name(stats: PoolStats, slot: Slot) -> PoolStats
+fn with_name(stats: PoolStats, slot: &SmallSlot) -> PoolStats
     requires few { stats.files < 2 ^ 63 }
     requires marked { stats.marked ≤ stats.files }
-    ensures { result ≡ with_slot_stats stats slot }
+    ensures { result ≡ with_slot_stats stats slot.now }
 {
-    match slot {
+    match slot.to_slot() {
         Slot::Live { size, mark, .. } => PoolStats {
             files: stats.files + 1,
             bytes: stats.bytes.saturating_add(size),
@@ -128,7 +129,7 @@ pub fn stats(names: &Names) -> PoolStats
         marked: 0,
     };
     for (_, slot) in names.map.iter() {
-        stats = with_name(stats, *slot);
+        stats = with_name(stats, slot);
     }
     stats
 }

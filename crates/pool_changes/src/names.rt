@@ -5,6 +5,7 @@ ghost use Rattle.pool_changes.specs.Slots.{slots_in, least_of, greatest_of};
 ghost use Rattle.pool_changes.specs.Named.{IsName, AreNames, AreSized, NoneDoomed, NoneDoomedBelow};
 
 use crate::slot::Slot;
+use crate::small::SmallSlot;
 use disk_trait::PoolId;
 use std::alloc::{AllocError, Global};
 use std::collections::BTreeMap;
@@ -13,7 +14,7 @@ use std::collections::btree_map::Range;
 /// The used names of a pool in order, with what is known of each.
 #[derive(Drop)]
 pub struct Names {
-    pub(crate) map: BTreeMap<PoolId, Slot>,
+    pub(crate) map: BTreeMap<PoolId, SmallSlot>,
     ghost named: { AreNames (slots_in map) },
     ghost sized: { AreSized (slots_in map) },
 }
@@ -73,7 +74,10 @@ impl Names {
     pub fn get(&self, id: PoolId) -> Option<Slot>
         ensures { result ≡ slots_of self.now id }
     {
-        self.map.get(&id).copied()
+        match self.map.get(&id) {
+            Some(small) => Some(small.to_slot()),
+            None => None,
+        }
     }
 
     /// Gives a name a slot. A name that has one takes no memory.
@@ -85,7 +89,7 @@ impl Names {
         ensures absent { OnErr result (slots_of self.old id ≡ None) }
     {
         is_name(id);
-        match self.map.insert(id, slot) {
+        match self.map.insert(id, SmallSlot::of(slot)) {
             Ok(_) => Ok(()),
             Err(_) => Err(AllocError),
         }
@@ -120,7 +124,7 @@ impl Names {
         ensures none { result ≡ None → NoneDoomed (slots_of self.now) }
     {
         for (id, slot) in self.map.range(from..) {
-            match slot {
+            match slot.to_slot() {
                 Slot::Doomed => return Some(*id),
                 _ => {}
             }
@@ -129,7 +133,7 @@ impl Names {
     }
 
     /// The entries of the names whose digest begins with a byte from one to another, in order.
-    pub(crate) fn between(&self, first: u8, last: u8) -> Range<'_, PoolId, Slot>
+    pub(crate) fn between(&self, first: u8, last: u8) -> Range<'_, PoolId, SmallSlot>
         requires { first ≤ last }
         ensures between { result ≡ entries_between id_cmp (Included (least_of first)) (Included (greatest_of last)) self.now.map.entries }
         ensures in_range { IsRangeOf id_cmp (Included (least_of first)) (Included (greatest_of last)) self.now.map result }

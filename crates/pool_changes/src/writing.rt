@@ -9,11 +9,12 @@ ghost use Rattle.pool_changes.specs.Relisted.{relisted, turned};
 ghost use Rattle.pool_changes.specs.Indexed.{relisted_by};
 ghost use Rattle.pool_changes.specs.Listed.{item_of, index_of};
 ghost use Rattle.pool_changes.specs.Written.{IsCalled, LeadsIndex};
-ghost use Rattle.pool_changes.specs.Writing.{option_list, first_changes, layered, IsOver, AreUnder, AreAlikeUnder, IsByteChange, IsFileOf};
+ghost use Rattle.pool_changes.specs.Writing.{option_list, first_changes, slot_or, layered, IsOver, AreUnder, AreAlikeUnder, IsByteChange, IsFileOf};
 
 use crate::listing::push_some;
 use crate::names::Names;
 use crate::slot::{Slot, Turn};
+use crate::small::SmallSlot;
 use disk_trait::{Bytes, FileId, PoolId};
 use intent_journal::{Change, Changes};
 use pool_index::{IndexItem, write_bucket};
@@ -84,11 +85,11 @@ fn changed_names(
 }
 
 /// Whether two slots of a name say the same to the index.
-fn is_same_item(a: Slot, b: Option<Slot>) -> bool
-    ensures same { result ≡ true → (id : PoolId) → item_of id (Some a) ≡ item_of id b }
-    ensures other { result ≡ false → (id : PoolId) → item_of id (Some a) ≡ item_of id b → ⊥ }
+fn is_same_item(a: &SmallSlot, b: Option<Slot>) -> bool
+    ensures same { result ≡ true → (id : PoolId) → item_of id (Some a.now) ≡ item_of id b }
+    ensures other { result ≡ false → (id : PoolId) → item_of id (Some a.now) ≡ item_of id b → ⊥ }
 {
-    match (a, b) {
+    match (a.to_slot(), b) {
         (
             Slot::Live { size, mark, .. },
             Some(
@@ -111,19 +112,29 @@ fn is_changed(names: &Names, over: &Names, byte: u8) -> bool
     ensures alike { result ≡ false → AreAlikeUnder byte (index_of (slots_of names.now)) (index_of (layered (slots_of names.now) (slots_of over.now))) }
 {
     for (id, slot) in over.between(byte, byte) {
-        if !is_same_item(*slot, names.get(*id)) {
+        if !is_same_item(slot, names.get(*id)) {
             return true;
         }
     }
     false
 }
 
-/// The item of a name, as it lies over the names.
-fn item_over(names: &Names, over: &Names, id: PoolId) -> Option<IndexItem>
-    ensures { result ≡ item_of id (layered (slots_of names.now) (slots_of over.now) id) }
+/// The slot of a name that has this one, as it lies over it or as it is.
+fn slot_here(over: &Names, id: PoolId, slot: &SmallSlot) -> Slot
+    ensures { Some result ≡ slot_or (slots_of over.now id) (Some slot.now) }
 {
-    match slot_over(names, over, id) {
-        Some(Slot::Live { size, mark, .. }) => Some(IndexItem { id, size, mark }),
+    match over.get(id) {
+        Some(slot) => slot,
+        None => slot.to_slot(),
+    }
+}
+
+/// The item of a name that has this slot, as it lies over it.
+fn item_over(over: &Names, id: PoolId, slot: &SmallSlot) -> Option<IndexItem>
+    ensures { result ≡ item_of id (slot_or (slots_of over.now id) (Some slot.now)) }
+{
+    match slot_here(over, id, slot) {
+        Slot::Live { size, mark, .. } => Some(IndexItem { id, size, mark }),
         _ => None,
     }
 }
@@ -139,8 +150,8 @@ fn items_over(
     ensures { IfOk result (λ items. AreUnder byte (index_of (layered (slots_of names.now) (slots_of over.now))) items.items) }
 {
     let mut items = Vec::new(alloc);
-    for (id, _) in names.between(byte, byte) {
-        match push_some(&mut items, item_over(names, over, *id)) {
+    for (id, slot) in names.between(byte, byte) {
+        match push_some(&mut items, item_over(over, *id, slot)) {
             Ok(()) => {}
             Err(fault) => return Err(fault),
         }

@@ -23,7 +23,7 @@ returns-in-Doomed-clause-below c =
 pub loop-id-preserved : goal.loop-id-preserved
 loop-id-preserved c = record {
   sorted = sorted_rest c.in-Some.id.now c.in-Some.slot.now _ _ c.in-Some.ensures.steps c.loop-id.invariant.sorted;
-  left = left_more (slots_of c.args.self.now) c.args.from c.in-Some.id.now c.in-Some.slot.now _ _ c.in-Some.ensures.steps c.in_default.not-Doomed c.loop-id.invariant.left;
+  left = left_more (slots_of c.args.self.now) c.args.from c.in-Some.id.now c.in-Some.slot.now _ _ c.in-Some.ensures.steps (λ e. c.in_default.not-Doomed (c.to_slot.ensures ∙ e)) c.loop-id.invariant.left;
 }
 
 pub returns-clause-none : goal.returns-clause-none
