@@ -1,5 +1,6 @@
 pub mod Slots
 pub mod Small
+pub mod Numbers
 pub mod Kept
 pub mod Named
 pub mod NameLaws

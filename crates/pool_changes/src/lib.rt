@@ -19,6 +19,7 @@
 #![tactic(auto)]
 
 mod index;
+mod key;
 mod listing;
 mod names;
 mod slot;

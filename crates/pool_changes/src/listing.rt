@@ -5,6 +5,7 @@ ghost use Rattle.pool_changes.specs.Kept.{slots_of};
 ghost use Rattle.pool_changes.specs.Listed.{bucket_item_of, IsBucketOf, IsStatsOf, with_slot_stats};
 ghost use Rattle.pool_changes.specs.Writing.{option_list};
 
+use crate::key::Key;
 use crate::names::Names;
 use crate::slot::Slot;
 use crate::small::SmallSlot;
@@ -71,12 +72,12 @@ pub(crate) fn push_some<T: Drop>(items: &mut Vec<T>, item: Option<T>) -> Result<
 }
 
 /// What a cleaning sees of a name.
-fn bucket_item(id: PoolId, slot: &SmallSlot) -> Option<BucketItem>
-    ensures { result ≡ bucket_item_of id (Some slot.now) }
+fn bucket_item(id: &Key, slot: &SmallSlot) -> Option<BucketItem>
+    ensures { result ≡ bucket_item_of id.now (Some slot.now) }
 {
     match slot.to_slot() {
         Slot::Live { size, mark, claims } => Some(BucketItem {
-            id,
+            id: id.name(),
             size,
             mark,
             claimed: claims > 0,
@@ -95,7 +96,7 @@ pub fn bucket_items(alloc: Global, names: &Names, bucket: u8) -> Result<BucketIt
     }
     let first = bucket * 16;
     for (id, slot) in names.between(first, first + 15) {
-        match push_some(&mut inner, bucket_item(*id, slot)) {
+        match push_some(&mut inner, bucket_item(id, slot)) {
             Ok(()) => {}
             Err(fault) => return Err(fault),
         }

@@ -4,6 +4,7 @@ ghost use Rattle.std.specs.Prelude.{◌≡◌, ◌∷◌, None, Some, OnOk, OnEr
 ghost use Rattle.pool_changes.specs.Slots.{slots_in, least_of, greatest_of};
 ghost use Rattle.pool_changes.specs.Named.{IsName, AreNames, AreSized, NoneDoomed, NoneDoomedBelow};
 
+use crate::key::Key;
 use crate::slot::Slot;
 use crate::small::SmallSlot;
 use disk_trait::PoolId;
@@ -14,7 +15,7 @@ use std::collections::btree_map::Range;
 /// The used names of a pool in order, with what is known of each.
 #[derive(Drop)]
 pub struct Names {
-    pub(crate) map: BTreeMap<PoolId, SmallSlot>,
+    pub(crate) map: BTreeMap<Key, SmallSlot>,
     ghost named: { AreNames (slots_in map) },
     ghost sized: { AreSized (slots_in map) },
 }
@@ -74,7 +75,14 @@ impl Names {
     pub fn get(&self, id: PoolId) -> Option<Slot>
         ensures { result ≡ slots_of self.now id }
     {
-        match self.map.get(&id) {
+        self.find(&Key { id })
+    }
+
+    /// The slot of a key's name, `None` if it is unused.
+    pub(crate) fn find(&self, key: &Key) -> Option<Slot>
+        ensures { result ≡ slots_of self.now key.now }
+    {
+        match self.map.get(key) {
             Some(small) => Some(small.to_slot()),
             None => None,
         }
@@ -89,7 +97,7 @@ impl Names {
         ensures absent { OnErr result (slots_of self.old id ≡ None) }
     {
         is_name(id);
-        match self.map.insert(id, SmallSlot::of(slot)) {
+        match self.map.insert(Key { id }, SmallSlot::of(slot)) {
             Ok(_) => Ok(()),
             Err(_) => Err(AllocError),
         }
@@ -113,7 +121,7 @@ impl Names {
         ensures set { IsSet (slots_of self.old) (slots_of self.new) id None }
         ensures fewer { length self.new.map.entries < length self.old.map.entries }
     {
-        self.map.remove(&id);
+        self.map.remove(&Key { id });
     }
 
     /// The first doomed name from one on.
@@ -123,9 +131,9 @@ impl Names {
         ensures below { IfSome result (NoneDoomedBelow (slots_of self.now)) }
         ensures none { result ≡ None → NoneDoomed (slots_of self.now) }
     {
-        for (id, slot) in self.map.range(from..) {
+        for (id, slot) in self.map.range(Key { id: from }..) {
             match slot.to_slot() {
-                Slot::Doomed => return Some(*id),
+                Slot::Doomed => return Some(id.name()),
                 _ => {}
             }
         }
@@ -133,13 +141,19 @@ impl Names {
     }
 
     /// The entries of the names whose digest begins with a byte from one to another, in order.
-    pub(crate) fn between(&self, first: u8, last: u8) -> Range<'_, PoolId, SmallSlot>
+    pub(crate) fn between(&self, first: u8, last: u8) -> Range<'_, Key, SmallSlot>
         requires { first ≤ last }
         ensures between { result ≡ entries_between id_cmp (Included (least_of first)) (Included (greatest_of last)) self.now.map.entries }
         ensures in_range { IsRangeOf id_cmp (Included (least_of first)) (Included (greatest_of last)) self.now.map result }
         ensures ordered { IsOrdered id_cmp self.now.map }
     {
-        self.map.range(least_of(first)..=greatest_of(last))
+        let first = Key {
+            id: least_of(first),
+        };
+        let last = Key {
+            id: greatest_of(last),
+        };
+        self.map.range(first..=last)
     }
 
     /// The least used extension of a digest from one on.
@@ -149,14 +163,15 @@ impl Names {
         ensures before { IfSome result (λ used. (x : ℕ) → from ≤ x → x < used → slots_of self.now (id_of digest x) ≡ None) }
         ensures none { result ≡ None → (x : ℕ) → from ≤ x → x < 65536 → slots_of self.now (id_of digest x) ≡ None }
     {
-        let least = PoolId {
-            digest,
-            extension: from as u16,
+        let extension = from as u16;
+        let least = Key {
+            id: PoolId { digest, extension },
         };
         match self.map.range(least..).next() {
             Some((id, _)) => {
-                if id.digest == digest {
-                    Some(id.extension)
+                let found = id.name();
+                if found.digest == digest {
+                    Some(found.extension)
                 } else {
                     None
                 }

@@ -11,6 +11,7 @@ ghost use Rattle.pool_changes.specs.Listed.{item_of, index_of};
 ghost use Rattle.pool_changes.specs.Written.{IsCalled, LeadsIndex};
 ghost use Rattle.pool_changes.specs.Writing.{option_list, first_changes, slot_or, layered, IsOver, AreUnder, AreAlikeUnder, IsByteChange, IsFileOf};
 
+use crate::key::Key;
 use crate::listing::push_some;
 use crate::names::Names;
 use crate::slot::{Slot, Turn};
@@ -112,7 +113,7 @@ fn is_changed(names: &Names, over: &Names, byte: u8) -> bool
     ensures alike { result ≡ false → AreAlikeUnder byte (index_of (slots_of names.now)) (index_of (layered (slots_of names.now) (slots_of over.now))) }
 {
     for (id, slot) in over.between(byte, byte) {
-        if !is_same_item(slot, names.get(*id)) {
+        if !is_same_item(slot, names.find(id)) {
             return true;
         }
     }
@@ -120,21 +121,24 @@ fn is_changed(names: &Names, over: &Names, byte: u8) -> bool
 }
 
 /// The slot of a name that has this one, as it lies over it or as it is.
-fn slot_here(over: &Names, id: PoolId, slot: &SmallSlot) -> Slot
-    ensures { Some result ≡ slot_or (slots_of over.now id) (Some slot.now) }
+fn slot_here(over: &Names, id: &Key, slot: &SmallSlot) -> Slot
+    ensures { Some result ≡ slot_or (slots_of over.now id.now) (Some slot.now) }
 {
-    match over.get(id) {
+    match over.find(id) {
         Some(slot) => slot,
         None => slot.to_slot(),
     }
 }
 
 /// The item of a name that has this slot, as it lies over it.
-fn item_over(over: &Names, id: PoolId, slot: &SmallSlot) -> Option<IndexItem>
-    ensures { result ≡ item_of id (slot_or (slots_of over.now id) (Some slot.now)) }
+fn item_over(over: &Names, id: &Key, slot: &SmallSlot) -> Option<IndexItem>
+    ensures { result ≡ item_of id.now (slot_or (slots_of over.now id.now) (Some slot.now)) }
 {
     match slot_here(over, id, slot) {
-        Slot::Live { size, mark, .. } => Some(IndexItem { id, size, mark }),
+        Slot::Live { size, mark, .. } => {
+            let id = id.name();
+            Some(IndexItem { id, size, mark })
+        }
         _ => None,
     }
 }
@@ -151,7 +155,7 @@ fn items_over(
 {
     let mut items = Vec::new(alloc);
     for (id, slot) in names.between(byte, byte) {
-        match push_some(&mut items, item_over(over, *id, slot)) {
+        match push_some(&mut items, item_over(over, id, slot)) {
             Ok(()) => {}
             Err(fault) => return Err(fault),
         }

@@ -19,12 +19,12 @@ pub returns-then-not-is_same_item-clause-changed : goal.returns-then-not-is_same
 returns-then-not-is_same_item-clause-changed c = λ _.
     let entries = subst (λ (es : List (PoolId × Slot)). AllByRecursion (IsEntry c.args.over.now.map c.args.byte) es) c.in-Some.ensures.steps c.loop-id.invariant.entries in
     called_by c.args.names.now.map c.args.over.now.map c.args.byte c.in-Some.id.now c.in-Some.slot.now entries.0
-    (λ e. c.is_same_item.ensures.other c.if-not-is_same_item.true c.in-Some.id.now (e ∙ ap (item_of c.in-Some.id.now) (sym c.get.ensures)))
+    (λ e. c.is_same_item.ensures.other c.if-not-is_same_item.true c.in-Some.id.now (e ∙ ap (item_of c.in-Some.id.now) (sym c.find.ensures)))
 
 pub loop-id-preserved : goal.loop-id-preserved
 loop-id-preserved c =
     let entries = subst (λ (es : List (PoolId × Slot)). AllByRecursion (IsEntry c.args.over.now.map c.args.byte) es) c.in-Some.ensures.steps c.loop-id.invariant.entries in
-    let here = ap (item_of c.in-Some.id.now) (sym c.get.ensures) ∙ sym (c.is_same_item.ensures.same c.if-not-is_same_item.false c.in-Some.id.now) in
+    let here = ap (item_of c.in-Some.id.now) (sym c.find.ensures) ∙ sym (c.is_same_item.ensures.same c.if-not-is_same_item.false c.in-Some.id.now) in
     record {
       entries = entries.1;
       alike = λ rest. c.loop-id.invariant.alike (subst (λ (es : List (PoolId × Slot)). AreAlikeItems (slots_of c.args.names.now) es) (sym c.in-Some.ensures.steps) (here, rest));

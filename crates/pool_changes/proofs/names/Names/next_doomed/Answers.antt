@@ -5,6 +5,7 @@ use Rattle.std.specs.Map.{keys_of, lookup}
 use Rattle.std.specs.Ordering.{is_eq}
 use Rattle.pool_index.specs.Items.{id_cmp}
 use Rattle.pool_changes.specs.Kept.{slots_of}
+use Rattle.pool_changes.specs.Named.{NoneDoomedBelow}
 use Rattle.pool_changes.proofs.Ranging.{sorted_kept, found_from, doomed_below, left_more, sorted_rest, none_left}
 use Rattle.pool_changes.proofs.names.Names.next_doomed.Goals as goal
 
@@ -18,7 +19,8 @@ loop-id-init c =
 
 pub returns-in-Doomed-clause-below : goal.returns-in-Doomed-clause-below
 returns-in-Doomed-clause-below c =
-    doomed_below (slots_of c.args.self.now) c.args.from c.in-Some.id.now _ _ _ c.in-Some.ensures.steps c.loop-id.invariant.sorted c.loop-id.invariant.left c.requires
+    subst (NoneDoomedBelow (slots_of c.args.self.now)) (sym c.name.ensures)
+    (doomed_below (slots_of c.args.self.now) c.args.from c.in-Some.id.now _ _ _ c.in-Some.ensures.steps c.loop-id.invariant.sorted c.loop-id.invariant.left c.requires)
 
 pub loop-id-preserved : goal.loop-id-preserved
 loop-id-preserved c = record {
