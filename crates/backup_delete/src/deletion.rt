@@ -3,6 +3,7 @@
 ghost use Rattle.std.specs.Prelude.{◌≡◌, ◌+◌, ◌<◌, ◌^◌, ◌||◌, List, [], ◌∷◌, ℕ, length, IfOk, OnOk, if◌then◌else◌};
 ghost use Rattle.disk_trait.specs.declared.ids.PoolId.{PoolId};
 ghost use Rattle.merge_view.specs.Views.{Rows};
+ghost use Rattle.merge_view.specs.Tables.{AllInOrder};
 ghost use Rattle.stored_trees.specs.Occurrences.{occurrences};
 ghost use Rattle.ref_counts.specs.Numbers.{number, total, capped};
 ghost use Rattle.ref_counts.specs.Stored.{stored, AreWhole};
@@ -97,9 +98,18 @@ fn taken_counts(
     Ok(counts)
 }
 
+/// Each table is in order.
+fn in_order(tables: &[Table])
+    ensures { AllInOrder tables.now }
+{
+    for table in tables {
+        let _rows = table.rows();
+    }
+}
+
 /// What becomes of a host's backups, the oldest first, without those of some numbers; or want of memory. If the tables
 /// are what backups are stored as, the tables after it are what those that are left are stored as, the newest of them
-/// filled; and its two counts are by how much the numbers of ids change.
+/// filled; and its two counts are by how much the numbers of ids change, if the tables name none 2^64 times.
 pub fn fold(
     alloc: Global,
     lines: &[Line],
@@ -118,9 +128,10 @@ pub fn fold(
     ensures sound { IfOk result (λ folded. (next : ℕ) → IsSound next lines.now → IsSound next folded.lines) }
     ensures added { IfOk result (λ folded. (id : PoolId) → number folded.added id ≡ capped (total id (added_tables folded.tables.items))) }
     ensures taken { IfOk result (λ folded. (id : PoolId) → number folded.taken id ≡ capped (total id (taken_tables numbers.now lines.now tables.now))) }
-    ensures counted { IfOk result (λ folded. (id : PoolId) → total id tables.now < 2 ^ 64 → total id (added_tables folded.tables.items) < 2 ^ 64
+    ensures counted { IfOk result (λ folded. (id : PoolId) → total id tables.now < 2 ^ 64
         → total id (folded_tables numbers.now lines.now tables.now) + number folded.taken id ≡ total id tables.now + number folded.added id) }
 {
+    in_order(tables);
     let all = changes(alloc, lines, tables, numbers)?;
     let added = added_counts(alloc, all.as_slice())?;
     let taken = taken_counts(alloc, lines, tables, numbers)?;

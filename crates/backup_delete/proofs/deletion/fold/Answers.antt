@@ -10,6 +10,7 @@ use Rattle.backup_delete.specs.Folds.{left_trees, folded_tables, Change, change_
 use Rattle.backup_delete.specs.FoldLaws.{folded-stored}
 use Rattle.backup_delete.specs.Counted.{folded-total, taken-within}
 use Rattle.backup_delete.specs.TableLaws.{changed-left, left-sound}
+use Rattle.backup_delete.proofs.AddedLaws.{added-within}
 use Rattle.backup_delete.proofs.deletion.fold.Goals as goal
 
 pub returns-clause-stored : goal.returns-clause-stored
@@ -22,10 +23,15 @@ below : (a b : ℕ) → a ≤ b → b < 2 ^ 64 → a < 2 ^ 64
 below a b less small = omega (arith, less, small)
 
 pub returns-clause-counted : goal.returns-clause-counted
-returns-clause-counted c = λ id small few.
+returns-clause-counted c = λ id small.
     let taken = total id (taken_tables c.args.numbers.now c.args.lines.now c.args.tables.now) in
+    let less : taken < 2 ^ 64 =
+    below taken (total id c.args.tables.now) (taken-within id c.args.numbers.now c.args.lines.now c.args.tables.now) small in
+    let few : total id (added_tables c.in_ok-all.all.items) < 2 ^ 64 =
+    subst (λ (all : List Change). total id (added_tables all) < 2 ^ 64) (sym c.in_ok-all.ensures)
+    (below _ taken (added-within id c.args.numbers.now c.args.lines.now c.args.tables.now c.in_order.ensures) less) in
     ap (λ n. total id (folded_tables c.args.numbers.now c.args.lines.now c.args.tables.now) + n)
-    (c.in_ok-taken.ensures id ∙ capped-few taken (below taken (total id c.args.tables.now) (taken-within id c.args.numbers.now c.args.lines.now c.args.tables.now) small))
+    (c.in_ok-taken.ensures id ∙ capped-few taken less)
     ∙ folded-total id c.args.numbers.now c.args.lines.now c.args.tables.now c.requires
     ∙ ap (λ n. total id c.args.tables.now + n)
     (ap (λ (all : List Change). total id (added_tables all)) (sym c.in_ok-all.ensures) ∙ sym (capped-few (total id (added_tables c.in_ok-all.all.items)) few)
