@@ -2,8 +2,10 @@
 -- next newer tree, viewed through its table.
 --     tree_of lines tables      the tree of the first of them
 --     is_gone numbers number      the number is among those that are deleted
+--     AreSorted numbers sorted      the same numbers in their order
 use Rattle.std.specs.Prelude.{ℕ, ◌==◌, Bool, true, false, not, ◌&&◌, List, [], ◌∷◌, if◌then◌else◌}
 use Rattle.std.specs.List.{list_any}
+use Rattle.std.specs.List.Sorted.{IsPermutation, IsNonDecreasing}
 use Rattle.backup_rules.specs.declared.lines.Line.{Line}
 use Rattle.merge_view.specs.Views.{Rows, view}
 use Rattle.ref_counts.specs.Stored.{Backup}
@@ -28,6 +30,11 @@ backups (line ∷ lines) (tree ∷ trees) = record { filled = line.filled; rows 
 -- the number is among those that are deleted
 abbrev pub is_gone : List ℕ → ℕ → Bool
 is_gone numbers number = list_any (λ other. other == number) numbers
+
+-- the same numbers in their order
+pub record AreSorted (numbers sorted : List ℕ) : Type 0 where
+  pub same : IsPermutation numbers sorted
+  pub rise : IsNonDecreasing sorted
 
 -- all of the backups are deleted
 abbrev pub are_gone : List ℕ → List Line → Bool

@@ -4,6 +4,7 @@ ghost use Rattle.std.specs.Prelude.{◌≡◌, ◌++◌, length, IfOk, OnOk};
 ghost use Rattle.std.specs.Option.{option_copied, option_to_list};
 ghost use Rattle.backup_delete.specs.Folds.{changes};
 
+use crate::numbers::Gone;
 use crate::walk::{Walk, step};
 use attr_tables::Table;
 use backup_rules::Line;
@@ -69,7 +70,7 @@ pub(crate) fn changes(
     alloc: Global,
     lines: &[Line],
     tables: &[Table],
-    numbers: &[u32],
+    numbers: &Gone,
 ) -> Result<Vec<TableChange>, AllocError>
     requires { length tables.now ≡ length lines.now }
     ensures { IfOk result (λ all. all.items ≡ changes numbers.now lines.now tables.now) }

@@ -13,7 +13,7 @@ ghost use Rattle.backup_delete.specs.Folds.{left_lines, left_trees, folded_table
 
 use crate::changes::{TableChange, changes};
 use crate::lines::left_lines;
-use crate::numbers::{is_gone, needs_fold};
+use crate::numbers::{Gone, is_gone, needs_fold, sorted_numbers};
 use attr_tables::Table;
 use backup_index::LineList;
 use backup_rules::Line;
@@ -62,7 +62,7 @@ fn added_counts(alloc: Global, all: &[TableChange]) -> Result<Counts, AllocError
 /// Counts the table of a backup, if it is removed or replaced.
 fn count_taken(
     tally: &mut Tally,
-    numbers: &[u32],
+    numbers: &Gone,
     line: Line,
     table: &Table,
     newer: &[Line],
@@ -82,7 +82,7 @@ fn taken_counts(
     alloc: Global,
     lines: &[Line],
     tables: &[Table],
-    numbers: &[u32],
+    numbers: &Gone,
 ) -> Result<Counts, AllocError>
     requires { length tables.now ≡ length lines.now }
     ensures { IfOk result (λ counts. (id : PoolId) → number counts id ≡ capped (total id (taken_tables numbers.now lines.now tables.now))) }
@@ -132,10 +132,12 @@ pub fn fold(
         → total id (folded_tables numbers.now lines.now tables.now) + number folded.taken id ≡ total id tables.now + number folded.added id) }
 {
     in_order(tables);
-    let all = changes(alloc, lines, tables, numbers)?;
+    let sorted = sorted_numbers(alloc, numbers)?;
+    let gone = Gone { numbers, sorted };
+    let all = changes(alloc, lines, tables, &gone)?;
     let added = added_counts(alloc, all.as_slice())?;
-    let taken = taken_counts(alloc, lines, tables, numbers)?;
-    let left = left_lines(alloc, lines, numbers)?;
+    let taken = taken_counts(alloc, lines, tables, &gone)?;
+    let left = left_lines(alloc, lines, &gone)?;
     Ok(Folded {
         lines: left,
         tables: all,

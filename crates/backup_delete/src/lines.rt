@@ -3,13 +3,13 @@
 ghost use Rattle.std.specs.Prelude.{◌≡◌, ◌++◌, [], ◌∷◌, IfOk, OnOk};
 ghost use Rattle.backup_delete.specs.Folds.{kept_lines, last_filled, left_lines};
 
-use crate::numbers::is_gone;
+use crate::numbers::{Gone, is_gone};
 use backup_index::LineList;
 use backup_rules::Line;
 use std::alloc::{AllocError, Global};
 
 /// Appends a line, if its number isn't among those that are deleted.
-fn push_kept(kept: &mut LineList, line: Line, numbers: &[u32]) -> Result<(), AllocError>
+fn push_kept(kept: &mut LineList, line: Line, numbers: &Gone) -> Result<(), AllocError>
     ensures { OnOk result (kept.new ≡ kept.old ++ kept_lines numbers.now (line ∷ [])) }
 {
     if is_gone(numbers, line.number) {
@@ -20,7 +20,7 @@ fn push_kept(kept: &mut LineList, line: Line, numbers: &[u32]) -> Result<(), All
 }
 
 /// The lines of other numbers, or want of memory.
-fn kept_lines(alloc: Global, lines: &[Line], numbers: &[u32]) -> Result<LineList, AllocError>
+fn kept_lines(alloc: Global, lines: &[Line], numbers: &Gone) -> Result<LineList, AllocError>
     ensures { IfOk result (λ kept. kept ≡ kept_lines numbers.now lines.now) }
 {
     let mut kept = LineList::new(alloc);
@@ -47,7 +47,7 @@ fn fill_last(lines: &mut LineList)
 pub(crate) fn left_lines(
     alloc: Global,
     lines: &[Line],
-    numbers: &[u32],
+    numbers: &Gone,
 ) -> Result<LineList, AllocError>
     ensures { IfOk result (λ left. left ≡ left_lines numbers.now lines.now) }
 {

@@ -6,7 +6,7 @@ ghost use Rattle.backup_delete.specs.Folds.{changes};
 ghost use Rattle.backup_delete.specs.Walks.{IsWalk};
 
 use crate::changes::TableChange;
-use crate::numbers::{is_gone, needs_fold};
+use crate::numbers::{Gone, is_gone, needs_fold};
 use crate::trees::tree_at;
 use attr_tables::Table;
 use backup_rules::Line;
@@ -42,7 +42,7 @@ pub(crate) fn step(
     alloc: Global,
     lines: &[Line],
     tables: &[Table],
-    numbers: &[u32],
+    numbers: &Gone,
     index: usize,
     walk: &mut Walk,
 ) -> Result<Option<TableChange>, AllocError>
