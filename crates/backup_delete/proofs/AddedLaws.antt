@@ -1,13 +1,12 @@
 -- What is added was taken: each row of a new table comes from the backup's own table or from one of the deleted run behind it.
 --     few_of      rows that weigh no more than two tables at each path
 --     added-within      how often the tables that are written name an id
-use Rattle.std.specs.Prelude.{◌≡◌, ℕ, ◌+◌, ◌≤◌, ◌^◌, ◌<◌, Bool, true, false, not, ◌&&◌, ◌||◌, cond, List, [], ◌∷◌, ◌++◌, Option, Some, None, if◌then◌else◌}
+use Rattle.std.specs.Prelude.{◌≡◌, ℕ, ◌+◌, ◌≤◌, Bool, true, false, ◌||◌, cond, List, [], ◌∷◌, Option, Some, None, if◌then◌else◌}
 use Rattle.std.specs.Option.{option_to_list}
 use Rattle.std.specs.declared.cmp.Ordering.{Ordering}
 use Rattle.std.specs.declared.cmp.Ordering.TheVariants.{Less, Equal, Greater}
 use Rattle.std.specs.Ordering.{is_eq}
 use Rattle.std.specs.Cmp.{tied_itself, alike_right}
-use Rattle.std.specs.FinMap.Entries.{find}
 use Rattle.std.proofs.Common.{refl, sym, ap, ◌∙◌, subst, length, drop, arith}
 use Rattle.std.proofs.lemmas.List.{drop_all}
 use Rattle.disk_trait.specs.declared.ids.PoolId.{PoolId}
@@ -27,7 +26,7 @@ use Rattle.merge_view.specs.Tables.{AllInOrder}
 use Rattle.stored_trees.specs.Occurrences.{names, occurrences}
 use Rattle.ref_counts.specs.Numbers.{total}
 use Rattle.backup_delete.specs.Trees.{tree_of, is_gone, needs_fold}
-use Rattle.backup_delete.specs.Folds.{next_tree, new_table, Change, replaced, change_of, changes, added_tables, taken_tables}
+use Rattle.backup_delete.specs.Folds.{next_tree, replaced, change_of, changes, added_tables, taken_tables}
 use Rattle.backup_delete.specs.Counted.{added_total}
 
 -- ---- rows by paths

@@ -15,7 +15,7 @@ use Rattle.ref_counts.specs.Numbers.{total, capped}
 use Rattle.backup_delete.specs.declared.walk.Walk.{Walk}
 use Rattle.backup_delete.specs.Trees.{tree_of, is_gone, needs_fold}
 use Rattle.backup_delete.specs.Folds.{filled, last_filled, next_tree, new_table, Change, replaced, change_of, changes, added_tables, taken_tables}
-use Rattle.backup_delete.specs.Walks.{IsWalk}
+use Rattle.backup_delete.specs.Walks.{HasTree, IsWalk}
 use Rattle.backup_delete.specs.Counted.{added_total}
 
 pub one_at : {A : Type 0} (xs : List A) (i : ℕ) (x : A) → i < length xs → x ≡ get_or xs i x → drop i xs ≡ x ∷ drop (i + 1) xs
@@ -98,6 +98,15 @@ module _ (numbers : List ℕ) (lines : List Line) (tables : List Rows) (i : ℕ)
     order = omega (arith, w.within, w.order, at_is, next_is);
     end = omega (arith, w.end, at_is);
     tree = tree_is ∙ w.tree ∙ ap (λ n. tree_of (drop n lines) (drop n tables)) (sym at_is);
+    next = next_here is ∙ ap (λ n. tree_of (drop n lines) (drop n tables)) (sym next_is);
+  }
+
+  pub walk_has : (new : Walk) → HasTree lines tables new i → false ≡ is_gone numbers line.number → new.next ≡ i → IsWalk numbers lines tables new i
+  walk_has new h is next_is = record {
+    within = omega (arith, next_is);
+    order = let e = h.order in omega (arith, e, next_is);
+    end = h.end;
+    tree = h.tree;
     next = next_here is ∙ ap (λ n. tree_of (drop n lines) (drop n tables)) (sym next_is);
   }
 

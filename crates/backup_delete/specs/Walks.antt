@@ -13,3 +13,9 @@ pub record IsWalk (numbers : List ℕ) (lines : List Line) (tables : List Rows) 
   pub end : walk.at ≤ length lines
   pub tree : walk.tree ≡ tree_of (drop walk.at lines) (drop walk.at tables)
   pub next : next_tree numbers (drop index lines) (drop index tables) ≡ tree_of (drop walk.next lines) (drop walk.next tables)
+
+-- It has the tree of a backup that isn't older than the one at an index.
+pub record HasTree (lines : List Line) (tables : List Rows) (walk : Walk) (index : ℕ) : Type 0 where
+  pub order : index ≤ walk.at
+  pub end : walk.at ≤ length lines
+  pub tree : walk.tree ≡ tree_of (drop walk.at lines) (drop walk.at tables)

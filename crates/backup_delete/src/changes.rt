@@ -2,6 +2,7 @@
 
 ghost use Rattle.std.specs.Prelude.{◌≡◌, ◌++◌, length, IfOk, OnOk};
 ghost use Rattle.std.specs.Option.{option_copied, option_to_list};
+ghost use Rattle.merge_view.specs.Tables.{AllInOrder};
 ghost use Rattle.backup_delete.specs.Folds.{changes};
 
 use crate::numbers::Gone;
@@ -72,7 +73,8 @@ pub(crate) fn changes(
     tables: &[Table],
     numbers: &Gone,
 ) -> Result<Vec<TableChange>, AllocError>
-    requires { length tables.now ≡ length lines.now }
+    requires same { length tables.now ≡ length lines.now }
+    requires order { AllInOrder tables.now }
     ensures { IfOk result (λ all. all.items ≡ changes numbers.now lines.now tables.now) }
 {
     let mut all = Vec::new(alloc);

@@ -4,6 +4,11 @@
 //! filled, an unfilled backup whose next newer one is deleted becomes relative to the next newer one that is left, and
 //! an entry that is the same there is dropped.
 //!
+//! The first new table is made by tables alone: the entries of a run of deleted neighbours are laid over each other, and
+//! each is compared with the first newer table that has its path, no further than to the next filled one. What follows,
+//! and a run with a filled backup in it, takes the trees, each from the next newer one: so a deletion passes over the
+//! tables twice at most.
+//!
 //! ```text
 //! let folded = fold(alloc, index.lines(), tables.as_slice(), &[2])?;
 //! let counts = take(alloc, &add(alloc, &counts, &folded.added)?, &folded.taken)?;
@@ -12,8 +17,10 @@
 
 mod changes;
 mod deletion;
+mod entries;
 mod lines;
 mod numbers;
+mod runs;
 #[cfg(test)]
 mod tests;
 mod trees;

@@ -1,7 +1,7 @@
 -- What becomes of the table at the index, by whether it is deleted and whether it is relative to a deleted one.
-use Rattle.std.proofs.Common.{◌≡◌, ◌+◌, Some, None, sym, ap, ◌∙◌}
-use Rattle.backup_delete.specs.Trees.{needs_fold}
-use Rattle.backup_delete.proofs.Steps.{line_at, line_is, change_step, gone_change, same_change, new_change, walk_gone}
+use Rattle.std.proofs.Common.{◌≡◌, ◌+◌, Some, None, drop, refl, sym, ap, ◌∙◌}
+use Rattle.backup_delete.specs.Trees.{tree_of, needs_fold}
+use Rattle.backup_delete.proofs.Steps.{line_at, line_is, change_step, gone_change, same_change, new_change, walk_gone, walk_has}
 use Rattle.backup_delete.proofs.walk.step.Goals as goal
 
 pub returns-then-is_gone-clause-change : goal.returns-then-is_gone-clause-change
@@ -30,6 +30,12 @@ returns-clause-change c =
     let found = line_is c.args.lines.now c.args.index c.requires.within in
     change_step c.args.numbers.now c.args.lines.now c.args.tables.now c.args.index line c.requires.within c.requires.same found (Some c.new-2.result)
     (ap Some c.new-2.ensures ∙ new_change c.args.numbers.now c.args.lines.now c.args.tables.now c.args.index line c.requires.within c.requires.same found
-    c.in_ok-tree.tree c.in_ok-newer.newer c.in_ok-table.table c.if-is_gone.ensures
+    (tree_of (drop c.args.index c.args.lines.now) (drop c.args.index c.args.tables.now))
+    (tree_of (drop c.args.walk.now.next c.args.lines.now) (drop c.args.walk.now.next c.args.tables.now)) c.in_ok-table.table c.if-is_gone.ensures
     (c.if-not-needs_fold.ensures ∙ ap (needs_fold c.args.numbers.now line) c.split_at.ensures.back)
-    c.in_ok-tree.ensures (c.in_ok-newer.ensures ∙ sym c.requires.walk.next) c.in_ok-table.ensures.value)
+    refl (sym c.requires.walk.next) c.in_ok-table.ensures.table)
+
+pub returns-clause-walk : goal.returns-clause-walk
+returns-clause-walk c =
+    walk_has c.args.numbers.now c.args.lines.now c.args.tables.now c.args.index (line_at c.args.lines.now c.args.index) c.requires.within c.requires.same
+    (line_is c.args.lines.now c.args.index c.requires.within) _ c.in_ok-table.ensures.walk c.if-is_gone.ensures c.in_ok-table.ensures.next

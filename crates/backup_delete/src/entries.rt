@@ -1,0 +1,153 @@
+//! The entries of an older backup, beside the table of a newer one.
+
+ghost use Rattle.std.specs.Prelude.{◌≡◌, IfOk};
+ghost use Rattle.std.specs.Option.{option_copied};
+ghost use Rattle.ordered_lists.specs.Merge.{entry_at};
+ghost use Rattle.backup_delete.specs.RunFolds.{differing, elsewhere, resolved, remaining};
+
+use attr_tables::{Row, Table};
+use ordered_lists::{Rule, merge};
+use std::alloc::{AllocError, Global};
+use std::cmp::Ordering;
+
+/// An entry where a table has something else.
+fn differing_row(
+    alloc: Global,
+    entry: Option<&Row>,
+    base: Option<&Row>,
+) -> Result<Option<Row>, AllocError>
+    ensures { IfOk result (λ made. made ≡ entry_at differing (option_copied entry.entry) (option_copied base.entry)) }
+{
+    match entry {
+        None => match base {
+            None => Ok(None),
+            Some(_) => Ok(None),
+        },
+        Some(row) => match base {
+            None => Ok(None),
+            Some(other) => {
+                if row.node().is_same(other.node()) {
+                    Ok(None)
+                } else {
+                    Ok(Some(row.copy(alloc)?))
+                }
+            }
+        },
+    }
+}
+
+/// An entry where a table has nothing.
+fn elsewhere_row(
+    alloc: Global,
+    entry: Option<&Row>,
+    base: Option<&Row>,
+) -> Result<Option<Row>, AllocError>
+    ensures { IfOk result (λ made. made ≡ entry_at elsewhere (option_copied entry.entry) (option_copied base.entry)) }
+{
+    match entry {
+        None => match base {
+            None => Ok(None),
+            Some(_) => Ok(None),
+        },
+        Some(row) => match base {
+            None => Ok(Some(row.copy(alloc)?)),
+            Some(_) => Ok(None),
+        },
+    }
+}
+
+struct Differing;
+
+impl Rule for Differing {
+    ghost use Rattle.std.specs.Prelude.{List, ℕ};
+    ghost use Rattle.attr_records.specs.Paths.{path_cmp};
+    ghost use Rattle.attr_tables.specs.declared.records.Record.{Record};
+    ghost use Rattle.backup_delete.specs.RunFolds.{differing};
+
+    type Entry = Row;
+
+    ghost Key = { List ℕ };
+
+    ghost Held = { Record };
+
+    ghost entry = { λ row. row };
+
+    ghost order = { path_cmp };
+
+    ghost gives = { differing };
+
+    fn compare<'a>(left: &'a Row, right: &'a Row) -> Ordering {
+        left.path().cmp(right.path())
+    }
+
+    fn make<'a>(
+        alloc: Global,
+        left: Option<&'a Row>,
+        right: Option<&'a Row>,
+    ) -> Result<Option<Row>, AllocError> {
+        differing_row(alloc, left, right)
+    }
+}
+
+struct Elsewhere;
+
+impl Rule for Elsewhere {
+    ghost use Rattle.std.specs.Prelude.{List, ℕ};
+    ghost use Rattle.attr_records.specs.Paths.{path_cmp};
+    ghost use Rattle.attr_tables.specs.declared.records.Record.{Record};
+    ghost use Rattle.backup_delete.specs.RunFolds.{elsewhere};
+
+    type Entry = Row;
+
+    ghost Key = { List ℕ };
+
+    ghost Held = { Record };
+
+    ghost entry = { λ row. row };
+
+    ghost order = { path_cmp };
+
+    ghost gives = { elsewhere };
+
+    fn compare<'a>(left: &'a Row, right: &'a Row) -> Ordering {
+        left.path().cmp(right.path())
+    }
+
+    fn make<'a>(
+        alloc: Global,
+        left: Option<&'a Row>,
+        right: Option<&'a Row>,
+    ) -> Result<Option<Row>, AllocError> {
+        elsewhere_row(alloc, left, right)
+    }
+}
+
+fn resolved_rows(alloc: Global, entries: &[Row], table: &[Row]) -> Result<Vec<Row>, AllocError>
+    ensures { IfOk result (λ rows. rows.items ≡ resolved entries.now table.now) }
+{
+    merge::<Differing>(alloc, entries, table)
+}
+
+fn remaining_rows(alloc: Global, entries: &[Row], table: &[Row]) -> Result<Vec<Row>, AllocError>
+    ensures { IfOk result (λ rows. rows.items ≡ remaining entries.now table.now) }
+{
+    merge::<Elsewhere>(alloc, entries, table)
+}
+
+/// The entries at a table's paths that differ from it, or want of memory: one pass over both.
+#[tactic(auto, using(crate::specs::RunFolds::resolved_in_order))]
+pub(crate) fn resolved(alloc: Global, entries: &Table, table: &Table) -> Result<Table, AllocError>
+    ensures { IfOk result (λ here. here ≡ resolved entries.now table.now) }
+{
+    let rows = resolved_rows(alloc, entries.rows(), table.rows())?;
+    Ok(Table::from_rows(rows))
+}
+
+/// The entries at other paths than a table's, or want of memory: one pass over both.
+#[tactic(auto, using(crate::specs::RunFolds::remaining_in_order))]
+pub(crate) fn remaining(alloc: Global, entries: &Table, table: &Table) -> Result<Table, AllocError>
+    ensures { IfOk result (λ rest. rest ≡ remaining entries.now table.now) }
+{
+    let rows = remaining_rows(alloc, entries.rows(), table.rows())?;
+    Ok(Table::from_rows(rows))
+}
