@@ -1,7 +1,7 @@
 //! Requests, words and disks that are refused.
 
 use crate::ends::{Case, QUIET, Want, disk_of, expect_file, expect_run, expect_run_over, words_of};
-use admin_cli::{CommandLine, LineFault, parse};
+use command_line::{CommandLine, LineFault, USAGE, parse};
 use disk_trait::{Disk, FileId};
 use std::alloc::Global;
 use std::test::Fail;
@@ -99,7 +99,7 @@ fn expect_usage(alloc: Global, line: &str) -> Result<(), Fail> {
     };
     let want = Want {
         status: 2,
-        said: "usage: backup_server pipe --store DIR [--settings FILE]",
+        said: USAGE,
         output: &[],
     };
     let mut disk = expect_run(alloc, &case, &want)?;
@@ -116,6 +116,8 @@ fn faulty_words_are_refused(rt: HostRuntime) -> Result<(), Fail> {
         "backup_server pipe store --store",
         "backup_server pipe --store a --settings",
         "backup_server pipe --store a --zone b",
+        "backup_server pipe --store a --scheduled",
+        "backup_server night --scheduled",
     ] {
         expect_usage(rt.alloc(), line)?;
     }

@@ -1,9 +1,13 @@
 //! What the settings file turns, and how a run ends whose settings are refused.
 
 use crate::ends::{Case, QUIET, Want, expect_file, expect_run, expect_run_over};
+use command_line::USAGE;
 use disk_trait::FileId;
 use std::alloc::Global;
 use std::test::Fail;
+
+/// The command `night`.
+const NIGHT: &str = "backup_server night --store store";
 
 /// Adds a host, and asks what is due.
 const FIRST: &str =
@@ -138,6 +142,7 @@ fn expect_refused(
 fn bad_settings_open_no_store(rt: HostRuntime) -> Result<(), Fail> {
     for (settings, said) in REFUSED {
         expect_refused(rt.alloc(), QUIET.line, settings, 7, said)?;
+        expect_refused(rt.alloc(), NIGHT, settings, 7, said)?;
     }
     Ok(())
 }
@@ -145,11 +150,5 @@ fn bad_settings_open_no_store(rt: HostRuntime) -> Result<(), Fail> {
 /// The words are read first.
 #[test]
 fn faulty_words_come_before_bad_settings(rt: HostRuntime) -> Result<(), Fail> {
-    expect_refused(
-        rt.alloc(),
-        "backup_server frob",
-        "Zone",
-        2,
-        "usage: backup_server pipe --store DIR [--settings FILE]",
-    )
+    expect_refused(rt.alloc(), "backup_server frob", "Zone", 2, USAGE)
 }

@@ -1,2 +1,5 @@
+pub mod HeadlineLaws
+pub mod NightLaws
 pub mod RefusalLaws
 pub mod RunLaws
+pub mod StopLaws

@@ -1,6 +1,6 @@
 -- What the words and the settings let a run say.
 --     file_of, refused_for_memory      settings that were read are a settings file, which is refused for want of memory alone
---     tells_served, tells_refused, tells_unopened      when the statuses 2 and 7 come
+--     tells_served, tells_night, tells_refused, tells_unopened      when the statuses 2 and 7 come
 use Rattle.std.specs.Prelude.{IsSome, ◌⊎◌}
 use Rattle.std.proofs.Common.{◌≡◌, ℕ, Bool, true, false, List, Option, None, Some, refl, sym, ap, ◌∙◌, subst, inl, inr, arith}
 use Rattle.std.proofs.lemmas.Bool.{false≢true}
@@ -10,13 +10,19 @@ use Rattle.settings_file.specs.declared.read.Settings.{Settings}
 use Rattle.settings_file.specs.declared.fault.SettingsFault.{SettingsFault}
 use Rattle.settings_file.specs.declared.fault.SettingsFault.TheVariants as F
 use Rattle.settings_file.specs.Document.{first_wrong, has_unknowns, IsSettings, IsRefusal}
+use Rattle.office_model.specs.declared.refusal.Refusal.{Refusal}
+use Rattle.office_model.specs.declared.refusal.Refusal.TheVariants as R
+use Rattle.night_work.specs.declared.ends.NightEnd.{NightEnd}
+use Rattle.night_work.specs.declared.ends.NightEnd.TheVariants as N
 use Rattle.browse_http.specs.declared.end.End.{End}
 use Rattle.browse_http.specs.declared.end.End.TheVariants.{Ended, Truncated, BadRequest, LinkFault, Memory}
 use Rattle.admin_cli.specs.declared.note.Note.{Note}
 use Rattle.admin_cli.specs.declared.note.Note.TheVariants.{Usage, NoMemory}
 use Rattle.admin_cli.specs.Statuses.{status_of}
-use Rattle.admin_cli.specs.Command.{Line, Task, AsksFor}
+use Rattle.command_line.specs.Line.{Line, Task}
+use Rattle.admin_cli.specs.Command.{AsksFor}
 use Rattle.admin_cli.specs.Asked.{IsSettingsFile, note_of_settings, IsRefused, TellsRefusals}
+use Rattle.admin_cli.specs.Nights.{note_of_all, note_of_refused, note_of_night}
 use Rattle.admin_cli.specs.Run.{note_of, note_of_refusal}
 
 pub none_said : IsSome {T = Line} None → ⊥
@@ -68,6 +74,25 @@ served_other Truncated false = other (note_of Truncated false) 1 refl (λ e. ome
 served_other BadRequest true = other (note_of BadRequest true) 4 refl (λ e. omega (arith, e)) (λ e. omega (arith, e))
 served_other BadRequest false = other (note_of BadRequest false) 1 refl (λ e. omega (arith, e)) (λ e. omega (arith, e))
 
+all_other : (failed halted : Bool) → IsOther (note_of_all failed halted)
+all_other true halted = other (note_of_all true halted) 3 refl (λ e. omega (arith, e)) (λ e. omega (arith, e))
+all_other false true = other (note_of_all false true) 4 refl (λ e. omega (arith, e)) (λ e. omega (arith, e))
+all_other false false = other (note_of_all false false) 0 refl (λ e. omega (arith, e)) (λ e. omega (arith, e))
+
+refused_other : (refusal : Refusal) (halted : Bool) → IsOther (note_of_refused refusal halted)
+refused_other (R.Broken rule) halted = all_other false halted
+refused_other R.Halted halted = other (note_of_refused R.Halted halted) 4 refl (λ e. omega (arith, e)) (λ e. omega (arith, e))
+refused_other R.DiskFault halted = other (note_of_refused R.DiskFault halted) 4 refl (λ e. omega (arith, e)) (λ e. omega (arith, e))
+refused_other (R.Damaged file found) halted =
+    other (note_of_refused (R.Damaged file found) halted) 5 refl (λ e. omega (arith, e)) (λ e. omega (arith, e))
+refused_other R.Memory halted = other (note_of_refused R.Memory halted) 6 refl (λ e. omega (arith, e)) (λ e. omega (arith, e))
+
+night_other : (end : NightEnd) (failed halted : Bool) → IsOther (note_of_night end failed halted)
+night_other (N.Done night) failed halted = all_other failed halted
+night_other N.NotNow failed halted = all_other failed halted
+night_other (N.Refused refusal) failed halted = refused_other refusal halted
+night_other N.Memory failed halted = other NoMemory 6 refl (λ e. omega (arith, e)) (λ e. omega (arith, e))
+
 unopened_other : (refusal : OpenRefusal) → IsOther (note_of_refusal refusal)
 unopened_other (O.Foreign file found) = other (note_of_refusal (O.Foreign file found)) 5 refl (λ e. omega (arith, e)) (λ e. omega (arith, e))
 unopened_other O.EpochsSpent = other (note_of_refusal O.EpochsSpent) 5 refl (λ e. omega (arith, e)) (λ e. omega (arith, e))
@@ -89,6 +114,11 @@ pub tells_served : (line : Option Line) (settings : List ℕ) (read : Settings) 
     → IsSome line → IsSettings settings read → note ≡ note_of end halted → TellsRefusals line settings note
 tells_served line settings read note end halted said is note_is =
     tells_understood line settings note said (file_of settings read is) (subst IsOther (sym note_is) (served_other end halted))
+
+pub tells_night : (line : Option Line) (settings : List ℕ) (read : Settings) (note : Note) (end : NightEnd) (failed halted : Bool)
+    → IsSome line → IsSettings settings read → note ≡ note_of_night end failed halted → TellsRefusals line settings note
+tells_night line settings read note end failed halted said is note_is =
+    tells_understood line settings note said (file_of settings read is) (subst IsOther (sym note_is) (night_other end failed halted))
 
 pub tells_unopened : (line : Option Line) (settings : List ℕ) (note : Note) (refusal : OpenRefusal)
     → IsSome line → IsSettingsFile settings → note ≡ note_of_refusal refusal → TellsRefusals line settings note

@@ -1,5 +1,7 @@
--- A run of `pipe`, from what the layers below it say.
---     serves, refuses_early, refuses, tells, complete
+-- A run of `pipe`, and one that opened no store, from what the layers below it say.
+--     is_served      the calls lead from the disk that came in to that handed back
+--     serves, refuses_early, refuses
+--     serves_complete, refused_complete, refused_tells      how such runs end
 use Rattle.std.specs.Prelude.{◌≤◌, IsSome, ◌||◌, ◌⊎◌}
 use Rattle.std.proofs.Common.{◌≡◌, ℕ, ◌-◌, ◌^◌, ◌<◌, Bool, true, false, List, Option, None, Some, refl, sym, ap, ◌∙◌, subst, inl, inr, arith}
 use Rattle.fault_counts.specs.Counts.{Rose, Counted}
@@ -29,17 +31,18 @@ use Rattle.browse_http.specs.Talk.{ServesLink, calls_of}
 use Rattle.admin_cli.specs.declared.note.Note.{Note}
 use Rattle.admin_cli.specs.declared.note.Note.TheVariants.{NoMemory, EpochsSpent}
 use Rattle.admin_cli.specs.Statuses.{status_of}
-use Rattle.admin_cli.specs.Command.{Line, Pipe, AsksFor}
+use Rattle.command_line.specs.Line.{Line, Task, Pipe}
+use Rattle.admin_cli.specs.Command.{AsksFor}
 use Rattle.admin_cli.specs.Asked.{IsSettingsFile, defaults_of, IsRefused, TellsRefusals}
 use Rattle.admin_cli.specs.Run.{note_of, note_of_refusal, StandsForEither, IsServed, Serves, IsUnopened, IsNotOpened, Refuses, IsComplete}
-use Rattle.admin_cli.proofs.RefusalLaws.{none_said, said_task, file_of, refused_for_memory, tells_served, tells_refused, tells_unopened}
+use Rattle.admin_cli.proofs.RefusalLaws.{none_said, said_task, file_of, refused_for_memory, tells_refused, tells_unopened}
 
 module _ {D N S : Type 0} {d : DiskGhosts D} {n : NamerGhosts N S} (disk : D) (store store' : Store D N S d n)
     (opened : (a b : Office) → IsOf n.digest_of (d.files disk) (d.uncertain disk) a b → Opened a b store.parts)
     (begun : (a b : Office) → IsOf n.digest_of (d.files disk) (d.uncertain disk) a b
     → Leaves d.moment d.left_since disk store.parts.journal.disk (Finds (MayLeave n.digest_of a b)))
     (calm : d.fault_count store.parts.journal.disk ≡ d.fault_count disk) where
-  is_served : (calls : List Call) → Moves store calls store' → (a b : Office) → StandsForEither d n.digest_of disk a b
+  pub is_served : (calls : List Call) → Moves store calls store' → (a b : Office) → StandsForEither d n.digest_of disk a b
       → IsServed d n.digest_of disk store'.parts.journal.disk calls (store'.parts.halted || store'.parts.journal.halted) a b
   is_served calls moved a b stands =
       let o = opened a b stands in
@@ -129,12 +132,12 @@ refuses_early d digest_of disk line settings link moments note is =
 
 -- no store was opened
 pub refuses : {D : Type 0} (d : DiskGhosts D) (digest_of : List ℕ → List ℕ) (disk disk' : D) (line : Option Line) (settings : List ℕ)
-    (read : Settings) (link : LinkSeen) (moments : Option (List ℕ)) (refusal : OpenRefusal) (note : Note)
-    → AsksFor Pipe line → IsSettings settings read → note ≡ note_of_refusal refusal
+    (task : Task) (read : Settings) (link : LinkSeen) (moments : Option (List ℕ)) (refusal : OpenRefusal) (note : Note)
+    → AsksFor task line → IsSettings settings read → note ≡ note_of_refusal refusal
     → IsUnopened d digest_of disk disk' refusal → Refuses d digest_of disk disk' line settings link link moments moments note
-refuses d digest_of disk disk' line settings read link moments refusal note asked is_read note_is is = record {
+refuses d digest_of disk disk' line settings task read link moments refusal note asked is_read note_is is = record {
   cause = inr (record {
-    asked = said_task line Pipe asked;
+    asked = said_task line task asked;
     read = file_of settings read is_read;
     refusal = refusal;
     note_is = note_is;
@@ -145,7 +148,7 @@ refuses d digest_of disk disk' line settings read link moments refusal note aske
 }
 
 module _ {D : Type 0} (d : DiskGhosts D) (digest_of : List ℕ → List ℕ) (disk disk' : D) (linked linked' : ℕ) (note : Note) where
-  abbrev EndsWell : Note → Office → Office → Type 0
+  abbrev pub EndsWell : Note → Office → Office → Type 0
   EndsWell said a b =
       (status_of said ≡ 0) ⊎ ((status_of said ≡ 1) ⊎ ((status_of said ≡ 6) ⊎ ((said ≡ EpochsSpent) × HasLast a b)))
 
@@ -181,7 +184,7 @@ module _ {D : Type 0} (d : DiskGhosts D) (digest_of : List ℕ → List ℕ) (di
   early_complete a b (Some line) settings is said file =
       inr (inr (inl (ap status_of (is.1 ∙ refused_for_memory settings is.0 file is.2))))
 
-  refused_complete : (line : Option Line) (settings : List ℕ)
+  pub refused_complete : (line : Option Line) (settings : List ℕ)
       → (IsRefused line settings note × (disk' ≡ disk)) ⊎ IsNotOpened d digest_of disk disk' line settings note
       → IsComplete d digest_of disk disk' line settings linked linked' note
   refused_complete line settings (inl early) = λ a b stands said file m same l same_link.
@@ -189,27 +192,17 @@ module _ {D : Type 0} (d : DiskGhosts D) (digest_of : List ℕ → List ℕ) (di
   refused_complete line settings (inr at) = λ a b stands said file m same l same_link.
       subst (λ (told : Note). EndsWell told a b) (sym at.note_is) (unopened_complete a b at.refusal stands at.unopened m same)
 
-  pub complete : (line : Option Line) (settings : List ℕ) (link link' : LinkSeen) (moments moments' : Option (List ℕ))
+  pub serves_complete : (line : Option Line) (settings : List ℕ) (link link' : LinkSeen) (moments moments' : Option (List ℕ))
       → Serves d digest_of disk disk' line settings link link' moments moments' note
-      ⊎ Refuses d digest_of disk disk' line settings link link' moments moments' note
       → link.faults ≡ linked → link'.faults ≡ linked' → IsComplete d digest_of disk disk' line settings linked linked' note
-  complete line settings link link' moments moments' (inl s) is is' = λ a b stands said file m same l same_link.
+  serves_complete line settings link link' moments moments' s is is' = λ a b stands said file m same l same_link.
       subst (λ (told : Note). EndsWell told a b) (sym s.note_is)
       (served_complete a b s.end s.halted
       (λ e. subst (λ (k : ℕ). Rose k linked') is (subst (λ (k : ℕ). Rose link.faults k) is' (s.talk.counted.rose e)))
       (s.talk.talk.moved a b stands).rose m same l same_link)
-  complete line settings link link' moments moments' (inr r) is is' = refused_complete line settings r.cause
 
-  refused_tells : (line : Option Line) (settings : List ℕ)
+  pub refused_tells : (line : Option Line) (settings : List ℕ)
       → (IsRefused line settings note × (disk' ≡ disk)) ⊎ IsNotOpened d digest_of disk disk' line settings note
       → TellsRefusals line settings note
   refused_tells line settings (inl early) = tells_refused line settings note early.0
   refused_tells line settings (inr at) = tells_unopened line settings note at.refusal at.asked at.read at.note_is
-
-  pub tells : (line : Option Line) (settings : List ℕ) (link link' : LinkSeen) (moments moments' : Option (List ℕ))
-      → Serves d digest_of disk disk' line settings link link' moments moments' note
-      ⊎ Refuses d digest_of disk disk' line settings link link' moments moments' note
-      → TellsRefusals line settings note
-  tells line settings link link' moments moments' (inl s) =
-      tells_served line settings s.read note s.end s.halted (said_task line Pipe s.asked) s.is_read s.note_is
-  tells line settings link link' moments moments' (inr r) = refused_tells line settings r.cause

@@ -13,7 +13,8 @@ use Rattle.request_events.specs.declared.defaults.Defaults.{Defaults}
 use Rattle.admin_cli.specs.declared.note.Note.{Note}
 use Rattle.admin_cli.specs.declared.note.Note.TheVariants.{Usage, NoMemory, BadSettings}
 use Rattle.admin_cli.specs.declared.asked.Asked.{Asked}
-use Rattle.admin_cli.specs.Command.{Line, AsksFor, task_of}
+use Rattle.command_line.specs.Line.{Line, task_of}
+use Rattle.admin_cli.specs.Command.{AsksFor}
 use Rattle.admin_cli.specs.Statuses.{status_of}
 
 -- TOML, with each value right and no unknown key

@@ -1,4 +1,5 @@
 pub mod Asked
 pub mod Command
+pub mod Nights
 pub mod Run
 pub mod Statuses

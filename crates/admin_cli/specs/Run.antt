@@ -28,7 +28,8 @@ use Rattle.browse_http.specs.Talk.{ServesLink}
 use Rattle.admin_cli.specs.declared.note.Note.{Note}
 use Rattle.admin_cli.specs.declared.note.Note.TheVariants.{Nothing, InputEnded, NotUnderstood, LinkFailed, DiskFailed, Foreign, EpochsSpent, NoMemory}
 use Rattle.admin_cli.specs.Statuses.{status_of}
-use Rattle.admin_cli.specs.Command.{Line, Pipe, AsksFor}
+use Rattle.command_line.specs.Line.{Line, Pipe}
+use Rattle.admin_cli.specs.Command.{AsksFor}
 use Rattle.admin_cli.specs.Asked.{IsSettingsFile, defaults_of, IsRefused}
 
 -- what a run says that served its connection: want of memory first, then the link's fault, a halted store, and the connection's end

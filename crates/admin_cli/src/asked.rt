@@ -1,10 +1,10 @@
 ghost use Rattle.std.specs.Prelude.{◌≡◌, None, IfOk, IfErr, map};
 ghost use Rattle.std.specs.String.{string_bytes};
-ghost use Rattle.admin_cli.specs.Command.{line_of};
+ghost use Rattle.command_line.specs.Line.{line_of};
 ghost use Rattle.admin_cli.specs.Asked.{note_of_settings, defaults_of, IsAsked, IsRefused};
 
 use crate::note::Note;
-use crate::words::{LineFault, Work, parse};
+use command_line::{CommandLine, LineFault, Work, parse};
 use request_events::Defaults;
 use settings_file::{Settings, SettingsFault, read_settings};
 use std::alloc::Global;
@@ -55,15 +55,16 @@ pub fn read_asked(alloc: Global, words: &[String], settings: &[u8]) -> Result<As
     ensures ok { IfOk result (IsAsked (line_of (map string_bytes words.now)) settings.now) }
     ensures err { IfErr result (IsRefused (line_of (map string_bytes words.now)) settings.now) }
 {
-    let line = match parse(alloc, words) {
+    let CommandLine {
+        store: _,
+        settings: _,
+        work,
+    } = match parse(alloc, words) {
         Ok(line) => line,
         Err(fault) => return Err(note_of_line(fault)),
     };
     match read_settings(alloc, settings) {
-        Ok(settings) => Ok(Asked {
-            work: line.work,
-            settings,
-        }),
+        Ok(settings) => Ok(Asked { work, settings }),
         Err(fault) => Err(note_of_settings(fault)),
     }
 }

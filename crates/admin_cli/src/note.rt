@@ -1,4 +1,4 @@
-use crate::words::USAGE;
+use command_line::USAGE;
 use disk_trait::FileId;
 use settings_file::SettingsFault;
 use std::fmt;

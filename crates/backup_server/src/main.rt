@@ -13,8 +13,10 @@ use crate::folder_disk::FolderDisk;
 use crate::standard_streams::StandardStreams;
 use crate::store_folder::lock_folder;
 use crate::system_clock::SystemClock;
-use admin_cli::{CommandLine, Done, LineFault, Note, parse, run};
+use admin_cli::{Done, Note, run};
+use command_line::{CommandLine, LineFault, complaint, parse};
 use pool_name::Md5Namer;
+use std::alloc::AllocError;
 use std::io::{ErrorKind, Stdin, Stdout};
 use std::process::ExitCode;
 use std::{env, fmt, fs, io};
@@ -25,7 +27,7 @@ const NOT_MADE: u8 = 8;
 fn main(rt: HostRuntime) -> ExitCode {
     let status = match read_words(&rt) {
         Ok(words) => obey(&rt, words.as_slice()),
-        Err(fault) => refuse(&rt, fault),
+        Err(fault) => end(&rt, note_of(fault)),
     };
     ExitCode::from(status)
 }
@@ -45,7 +47,7 @@ fn read_words(rt: &HostRuntime) -> Result<Vec<String>, LineFault> {
 fn obey(rt: &HostRuntime, words: &[String]) -> u8 {
     let line = match parse(rt.alloc(), words) {
         Ok(line) => line,
-        Err(fault) => return refuse(rt, fault),
+        Err(fault) => return refuse(rt, words, fault),
     };
     let settings = match read_settings(rt, &line) {
         Ok(settings) => settings,
@@ -164,11 +166,26 @@ fn not_made(rt: &HostRuntime, error: io::Error, what: impl fmt::Display + Drop) 
     NOT_MADE
 }
 
-/// Says why nothing was done, and gives the status.
-fn refuse(rt: &HostRuntime, fault: LineFault) -> u8 {
+/// What is said of words that were not understood.
+fn note_of(fault: LineFault) -> Note {
     match fault {
-        LineFault::NoParse => end(rt, Note::Usage),
-        LineFault::Memory => end(rt, Note::NoMemory),
+        LineFault::NoParse => Note::Usage,
+        LineFault::Memory => Note::NoMemory,
+    }
+}
+
+/// Says what is wrong in the words, and how the program is called; and gives the status.
+fn refuse(rt: &HostRuntime, words: &[String], fault: LineFault) -> u8 {
+    let note = note_of(fault);
+    if note != Note::Usage {
+        return end(rt, note);
+    }
+    match complaint(rt.alloc(), words) {
+        Ok(text) => {
+            let _ = eprintln!(rt; "{text}");
+            note.status()
+        }
+        Err(AllocError) => end(rt, Note::NoMemory),
     }
 }
 

@@ -4,7 +4,7 @@ use Rattle.admin_cli.proofs.pipe.serve_pipe.Goals as goal
 
 pub returns-in-Err : goal.returns-in-Err
 returns-in-Err g c = λ line bytes asked is.
-    inr (refuses _ _ c.args.disk c.in-Err.disk line bytes c.args.settings _ _ c.in-Err.refusal c.note_of_refusal-note.result
+    inr (refuses _ _ c.args.disk c.in-Err.disk line bytes _ c.args.settings _ _ c.in-Err.refusal c.note_of_refusal-note.result
     asked is c.note_of_refusal-note.ensures (record {
       why = c.in-Err.ensures.foreign;
       counted = c.in-Err.ensures.left_counted;

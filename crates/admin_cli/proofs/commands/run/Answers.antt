@@ -1,6 +1,6 @@
 use Rattle.std.proofs.Common.{refl}
-use Rattle.admin_cli.proofs.RunLaws.{complete, tells}
-use Rattle.admin_cli.proofs.pipe.run.Goals as goal
+use Rattle.admin_cli.proofs.HeadlineLaws.{complete, tells}
+use Rattle.admin_cli.proofs.commands.run.Goals as goal
 
 pub returns-clause-refusals : goal.returns-clause-refusals
 returns-clause-refusals g c = tells _ _ _ _ 0 0 _ _ _ _ _ _ _ c.do_asked.ensures

@@ -1,0 +1,25 @@
+use Rattle.std.proofs.Common.{◌≡◌, Option, subst, inr}
+use Rattle.command_line.specs.declared.line.Work.{Work}
+use Rattle.command_line.specs.Line.{Line, task_of}
+use Rattle.admin_cli.specs.Command.{AsksFor}
+use Rattle.admin_cli.proofs.HeadlineLaws.{runs_pipe}
+use Rattle.admin_cli.proofs.NightLaws.{some_period}
+use Rattle.admin_cli.proofs.RunLaws.{refuses_early}
+use Rattle.admin_cli.proofs.commands.do_asked.Goals as goal
+
+asks : (asked work : Work) (line : Option Line) → asked ≡ work → AsksFor (task_of asked) line → AsksFor (task_of work) line
+asks asked work line is asks_for = subst (λ (w : Work). AsksFor (task_of w) line) is asks_for
+
+pub returns-in-Pipe : goal.returns-in-Pipe
+returns-in-Pipe g c =
+    runs_pipe _ _ _ _ 0 0 _ _ _ _ _ _ _
+    (c.serve_pipe.ensures _ _ (asks _ _ _ c.in-Pipe.is c.in-Ok.ensures.ok.work) c.in-Ok.ensures.ok.settings_are)
+
+pub run_night-requires-after_bounds : goal.run_night-requires-after_bounds
+run_night-requires-after_bounds g c κs within = some_period _ _ c.in-Ok.ensures.ok.settings_are
+
+pub returns-in-Night : goal.returns-in-Night
+returns-in-Night g c = inr (c.run_night.ensures _ _ (asks _ _ _ c.in-Night.is c.in-Ok.ensures.ok.work) c.in-Ok.ensures.ok.settings_are)
+
+pub returns-in-Err : goal.returns-in-Err
+returns-in-Err g c = inr (inr (refuses_early _ _ _ _ _ _ _ _ c.in-Err.ensures.err))

@@ -1,0 +1,21 @@
+use Rattle.std.proofs.Common.{inl, inr}
+use Rattle.admin_cli.proofs.RunLaws.{refuses}
+use Rattle.admin_cli.proofs.NightLaws.{does_night}
+use Rattle.admin_cli.proofs.nightly.run_night.Goals as goal
+
+pub returns-in-Err : goal.returns-in-Err
+returns-in-Err g c = λ line bytes asked is.
+    inr (refuses _ _ c.args.disk c.in-Err.disk line bytes _ c.args.settings.now _ _ c.in-Err.refusal c.note_of_refusal-note.result
+    asked is c.note_of_refusal-note.ensures (record {
+      why = c.in-Err.ensures.foreign;
+      counted = c.in-Err.ensures.left_counted;
+      left = c.in-Err.ensures.left;
+      crash = c.in-Err.ensures.left_crash;
+    }))
+
+pub returns : goal.returns
+returns g c = λ line bytes asked is.
+    inl (does_night c.args.disk c.in-Ok.store c.into_store-store.result c.in-Ok.ensures.opened c.in-Ok.ensures.crash c.in-Ok.ensures.counted
+    c.args.scheduled line bytes c.args.settings.now _ _ _ _ _ _ _ _ _ _ _ asked is c.new-port.ensures
+    (rw c.as_slice.ensures.value at c.night-end.ensures)
+    c.say-failed.ensures c.into_store-store.ensures c.close.ensures c.is_halted-halted.ensures c.note_of_night.ensures)
