@@ -56,16 +56,32 @@ hex() {
     od -An -v -tx1 "$1" | tr -d ' \n'
 }
 
-usage='usage: backup_server pipe --store DIR [--settings FILE]'
+usage='usage: backup_server pipe --store DIR [--settings FILE]
+       backup_server night [--scheduled] --store DIR [--settings FILE]'
 : >in
 : >want
 
 attempt frob
-judge 'a word that is no command' 2 "$usage"
+judge 'a word that is no command' 2 "error: unrecognized subcommand 'frob'
+
+Usage: backup_server <COMMAND>
+$usage"
 attempt
-judge 'no words' 2 "$usage"
+judge 'no words' 2 "error: 'backup_server' requires a subcommand but one was not provided
+
+Usage: backup_server <COMMAND>
+$usage"
 attempt pipe --store made more
-judge 'a word too many' 2 "$usage"
+judge 'a word too many' 2 "error: unexpected argument 'more' found
+
+Usage: backup_server pipe [OPTIONS] --store <store>
+$usage"
+attempt night --scheduled
+judge 'a night without its store' 2 "error: the following required arguments were not provided:
+  --store <store>
+
+Usage: backup_server night --store <store> --scheduled
+$usage"
 attempt pipe --store "made$(printf '\377')"
 judge 'a word that is not UTF-8' 2 "$usage"
 [ -z "$(ls -d made* 2>/dev/null)" ]
@@ -111,6 +127,30 @@ attempt pipe --store unread --settings .
 judge 'a settings file that is a folder' 8 "the settings file . can't be read: Is a directory (os error 21)"
 [ ! -e unread ]
 expect 'settings that cannot be read make nothing'
+
+# Nights of an empty store.
+printf 'BackupPCNightlyPeriod = 4\n' >settings
+today=$(($(date +%s) / 86400))
+attempt night --store nights --settings settings
+printf 'night %s: expired 0, marked 0, unmarked 0, removed 0\n' "$today" >want
+judge 'a night of an empty store' 0 ''
+[ "$(LC_ALL=C ls nights | tr '\n' ' ')" = 'gate head intent lock ' ]
+expect 'a night makes the store that is not there'
+minute=$(($(date +%s) / 60 % 1440))
+printf 'WakeupSchedule = [%s, %s]\n' $(((minute + 720) % 1440)) "$minute" >settings
+echo 'not now' >want
+attempt night --scheduled --store nights --settings settings
+judge 'a night that is not scheduled now' 0 ''
+: >want
+: >out
+"$program" night --store nights <in >/dev/full 2>err
+status=$?
+judge 'a night whose line cannot be written' 3 'link failed'
+printf '[Rules]\nFillCycle = -1\n' >settings
+attempt night --store unsettled --settings settings
+judge 'a night by settings with a wrong value' 7 'bad settings: FillCycle'
+[ "$(ls unsettled)" = lock ]
+expect 'a night by wrong settings opens no store'
 
 # The example has each setting with its default: a host that is added by it is the same as one without a settings file.
 printf 'PUT /hosts/pc1 HTTP/1.1\r\nHost: b\r\n\r\n' >in
@@ -277,6 +317,53 @@ expect 'a content that no backup holds is cleaned away'
 [ "$(LC_ALL=C ls kept | tr '\n' ' ')" = 'counts-0 gate head host-0 intent lock ' ]
 expect 'the names in the folder after a sweep'
 
+# Thirty days of one host, a dump at noon and a night at 23:00. Numbers that 7 divides stay filled, two of them are kept at a
+# week's distance, and the three newest of the others; the newest is no candidate. What an expiry leaves without a backup is
+# marked in the same night and removed in the next.
+if command -v faketime >/dev/null; then
+    printf '[Rules]\nFillCycle = 7\nFullKeepCnt = 2\nIncrKeepCnt = 3\n' >settings
+    ask PUT /hosts/pc1 >in
+    "$program" pipe --store office --settings settings <in >out 2>err
+    first=$(date -u -d 2026-01-05 +%s)
+    day=0
+    ended=''
+    while [ "$day" -lt 30 ]; do
+        kind=incr
+        [ $((day % 7)) != 0 ] || kind=full
+        epoch=$((day * 2 + 2))
+        {
+            ask POST "/hosts/pc1/dumps?kind=$kind"
+            ask PUT "/dumps/$epoch-0/entry?path=f&kind=file" "day $day"
+            ask POST "/dumps/$epoch-0/commit"
+        } >in
+        date=$(date -u -d "@$((first + day * 86400))" +%F)
+        TZ=UTC faketime "$date 12:00:00" "$program" pipe --store office --settings settings <in >out 2>err
+        ended="$ended$?"
+        TZ=UTC faketime "$date 23:00:00" "$program" night --store office --settings settings <in >>lines 2>err
+        ended="$ended$?"
+        day=$((day + 1))
+    done
+    [ -z "$(echo "$ended" | tr -d 0)" ] && [ "$(wc -l <lines)" = 30 ]
+    expect "thirty days of dumps and nights end well: $ended"
+    [ "$(tail -n 1 lines)" = "night $((first / 86400 + 29)): expired 1, marked 1, unmarked 0, removed 1" ]
+    expect "the last night's line: $(tail -n 1 lines)"
+    {
+        for number in 21 25 26 27 28 29; do
+            ask GET "/hosts/pc1/backups/$number/file?path=f"
+        done
+        ask GET /hosts/pc1/backups
+    } >in
+    attempt pipe --store office --settings settings
+    [ "$(grep -o '"number":[0-9]*' out | cut -d : -f 2 | tr '\n' ' ')" = '21 25 26 27 28 29 ' ]
+    expect 'what stays after thirty nights is what the rules name'
+    [ "$(grep -o 'day [0-9]*' out | tr '\n' ' ')" = 'day 21 day 25 day 26 day 27 day 28 day 29 ' ]
+    expect 'each backup that stays has its content'
+    [ "$(ls office | grep -c '^pool-[0-9a-f]\{32\}-')" = 7 ]
+    expect 'the pool has their contents, and the one that the last night marked'
+else
+    echo "skipped: thirty nights, since faketime isn't there"
+fi
+
 # No room: a limit on the size of a file stands for a full disk.
 ask PUT /hosts/pc1 >in
 : >want
@@ -339,6 +426,8 @@ done
 : >want
 attempt pipe --store taken
 judge 'a second process on one folder' 8 'the folder taken is in use'
+attempt night --store taken
+judge 'a night while another process has the folder' 8 'the folder taken is in use'
 exec 3>&-
 wait "$first"
 [ $? = 0 ] && [ ! -s first ] && [ ! -s first_err ]
