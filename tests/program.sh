@@ -68,6 +68,7 @@ Usage: backup_server <COMMAND>
 $usage"
 attempt
 judge 'no words' 2 "error: 'backup_server' requires a subcommand but one was not provided
+  [subcommands: pipe, night]
 
 Usage: backup_server <COMMAND>
 $usage"
