@@ -1,0 +1,15 @@
+//! Servers at several doors beside each other: each serves the links of its own door, over a port of its own.
+//!
+//! ```text
+//! let mut callers = vec![in alloc; Caller { port, worker: Worker { door, clock, gate } }]?;
+//! serve_doors(rt, alloc, callers.as_mut_slice(), &defaults);
+//! ```
+#![tactic(auto)]
+
+mod serving;
+#[cfg(test)]
+mod tests;
+mod worker;
+
+pub use serving::serve_doors;
+pub use worker::{Caller, Worker};
