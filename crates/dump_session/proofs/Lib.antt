@@ -3,3 +3,4 @@ mod EditLaws
 pub mod Maps
 mod RemovedLaws
 pub mod Sessions
+mod SubtreeLaws

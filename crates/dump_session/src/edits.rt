@@ -131,7 +131,7 @@ pub fn take_out(
 }
 
 /// Puts a row of this path and node behind the rows.
-fn push_row(
+pub fn push_row(
     alloc: Global,
     rows: &mut Vec<Row>,
     path: &PathName,

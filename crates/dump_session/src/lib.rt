@@ -7,6 +7,7 @@ mod edits;
 mod nodes;
 mod removed;
 mod session;
+mod subtree;
 #[cfg(test)]
 mod tests;
 

@@ -6,11 +6,13 @@ ghost use Rattle.attr_records.specs.declared.trees.PutRule.{PutRule};
 ghost use Rattle.attr_records.specs.Trees.{node_at, with_node, without, IsTree, is_dir_at, is_parent_in, broken_rule};
 ghost use Rattle.attr_tables.specs.Records.{IsSound, is_dir};
 ghost use Rattle.merge_view.specs.Views.{is_mark};
+ghost use Rattle.merge_view.specs.Runs.{within_rows};
 ghost use Rattle.dump_session.specs.Kinds.{is_dir_kind};
 ghost use Rattle.dump_session.specs.Rules.{IsReason, HasRoom, IsWholeTree, is_full};
 
 use crate::edits::{found_at, is_dir_above, merged, put_node, take_out};
 use crate::nodes::{Node, NodeKind};
+use crate::subtree::rows_within;
 use attr_records::{MAX_PATHS, PathName, PutRule};
 use attr_tables::{Record, Table};
 use std::alloc::{AllocError, Global};
@@ -234,6 +236,14 @@ impl Session {
         )?;
         self.count -= count;
         Ok(())
+    }
+
+    /// The rows of the tree within a path, or want of memory: linear in what the base and the puts have there.
+    pub fn within(&self, alloc: Global, path: &PathName) -> Result<Table, AllocError>
+        ensures { IfOk result (λ rows. rows ≡ within_rows path.now self.now) }
+    {
+        let rows = rows_within(alloc, self.base.rows(), &self.removed, &self.puts, path)?;
+        Ok(rows)
     }
 
     /// All rows of the tree, or want of memory: one merge.
