@@ -28,16 +28,13 @@ pub fn remove<D: Disk, N: Namer>(
         Some(at) => at,
         None => return Err(Refusal::Broken(BrokenRule::NoSession)),
     };
-    let tree = match parts.sessions.dumps[at].tree.tree(alloc) {
-        Ok(tree) => tree,
+    let removed = match parts.sessions.dumps[at].tree.within(alloc, path) {
+        Ok(removed) => removed,
         Err(_) => return Err(Refusal::Memory),
     };
     match parts.sessions.remove(alloc, at, path) {
         Ok(()) => {
-            release_rows(
-                &mut parts.pool,
-                merge_view::within(tree.rows(), path.as_slice()),
-            );
+            release_rows(&mut parts.pool, removed.rows());
             Ok(Answer::Done)
         }
         Err(RemoveFault::NoPath) => Err(Refusal::Broken(BrokenRule::NoPath)),

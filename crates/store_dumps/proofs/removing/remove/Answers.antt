@@ -1,6 +1,5 @@
 use Rattle.std.proofs.Common.{refl, ap, ◌∙◌}
 use Rattle.std.proofs.lemmas.Option.{slice_get_read}
-use Rattle.merge_view.specs.Runs.{within_rows}
 use Rattle.pool_changes.specs.Kept.{slots_of}
 use Rattle.store_parts.specs.RunLaws.{runs_refused, runs_memory, reads_still, counted_still}
 use Rattle.store_dumps.proofs.Running.{runs_alike_memory, runs_alike_refused}
@@ -20,8 +19,7 @@ returns-in-Ok-remove g c = runs_removed _ c.args.session c.args.path.now c.in-So
     (c.in-Ok-remove.ensures.ok c.index.result.now
     (slice_get_read _ _ _ _ refl c.in-Some.ensures.within c.index.ensures)) refl refl refl refl refl
     (go_alike (slots_of c.args.parts.now.pool.names) (slots_of c.release_rows.new.pool.names) _ _
-    (c.within.ensures ∙ (λ i. within_rows (c.as_slice.ensures.value i)
-    ((c.rows.ensures.rows ∙ c.in-Ok.ensures) i))) c.release_rows.ensures.go)
+    (c.rows.ensures.rows ∙ c.in-Ok.ensures) c.release_rows.ensures.go)
     c.release_rows.ensures.form
     (c.in-Ok-remove.ensures.remove c.index.result.now (slice_get_read _ _ _ _ refl c.in-Some.ensures.within c.index.ensures))
     (ap (λ v. v.items) c.in-Ok-remove.ensures.restores) c.in-Ok-remove.ensures.sequence
