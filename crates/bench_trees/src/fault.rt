@@ -7,7 +7,7 @@ use std::io;
 /// Why nothing more is measured.
 #[derive(Debug, Drop)]
 pub enum Fault {
-    /// The words are not `FOLDERS PUTS` or `FOLDERS PUTS time`.
+    /// The words are not `FOLDERS PUTS` or `fold BACKUPS FOLDERS`, and `time` or nothing behind them.
     Words,
     /// There was no memory.
     Memory,

@@ -1,0 +1,110 @@
+//! The deletion of one backup of many, beside reading the tables of all.
+
+use crate::corpus::{file_path, file_record};
+use crate::fault::Fault;
+use crate::report::Report;
+use crate::sizes::FoldSizes;
+use attr_tables::{Row, Table, read_table, write_table};
+use backup_delete::{Folded, TableChange, fold};
+use backup_rules::{Kind, Line};
+use std::alloc::Global;
+
+/// The files of a folder.
+const FILES: u32 = 100;
+
+/// Appends the files of a folder, which are others in each backup.
+fn push_files(alloc: Global, table: &mut Table, folder: u32, backup: u32) -> Result<(), Fault> {
+    for file in 0..FILES {
+        let number = folder.wrapping_mul(FILES).wrapping_add(file);
+        let path = file_path(alloc, folder, file)?;
+        table.push(Row::new(
+            path,
+            file_record(backup.wrapping_mul(7_919).wrapping_add(number)),
+        ))?;
+    }
+    Ok(())
+}
+
+/// The table of a backup in which each file is another than in the next newer one.
+fn build(alloc: Global, folders: u32, backup: u32) -> Result<Table, Fault> {
+    let mut table = Table::new(alloc);
+    for folder in 0..folders {
+        push_files(alloc, &mut table, folder, backup)?;
+    }
+    Ok(table)
+}
+
+/// A table as it is read from its file, and the microseconds that this took.
+fn read_back(report: &Report, table: &Table) -> Result<(Table, u64), Fault> {
+    let file = write_table(report.alloc(), table)?;
+    let begin = report.begin()?;
+    let read = read_table(report.alloc(), file.as_slice())?;
+    let micros = report.micros_since(begin)?;
+    Ok((read.table, micros))
+}
+
+/// The tables of backups, the oldest first, and the microseconds that reading them took.
+fn read_tables(report: &Report, sizes: FoldSizes) -> Result<(Vec<Table>, u64), Fault> {
+    let mut tables = Vec::new(report.alloc());
+    let mut total = 0u64;
+    for backup in 0..sizes.backups {
+        let made = build(report.alloc(), sizes.folders, backup)?;
+        let (table, micros) = read_back(report, &made)?;
+        tables.push(table)?;
+        total = total.wrapping_add(micros);
+    }
+    Ok((tables, total))
+}
+
+/// The lines of backups, of which the newest alone is filled.
+fn lines_of(alloc: Global, backups: u32) -> Result<Vec<Line>, Fault> {
+    let mut lines = Vec::new(alloc);
+    for number in 0..backups {
+        lines.push(Line {
+            number,
+            start: 1,
+            end: 2,
+            kind: Kind::Incr,
+            filled: number.wrapping_add(1) == backups,
+            keep: false,
+        })?;
+    }
+    Ok(lines)
+}
+
+/// How many entries the tables that are written have.
+fn count_written(changes: &[TableChange]) -> usize {
+    let mut rows = 0usize;
+    for change in changes {
+        if let Some(table) = change.table() {
+            rows = rows.wrapping_add(table.len());
+        }
+    }
+    rows
+}
+
+/// Folds the backups without number 1, whose tables reach from the oldest to the newest.
+fn fold_one(alloc: Global, lines: &[Line], tables: &[Table]) -> Result<Folded, Fault> {
+    if lines.len() != tables.len() {
+        return Err(Fault::Words);
+    }
+    Ok(fold(alloc, lines, tables, &[1])?)
+}
+
+/// Reads the tables of all backups, and deletes the oldest but one.
+pub fn measure(report: &Report, sizes: FoldSizes) -> Result<(), Fault> {
+    let (tables, read_micros) = read_tables(report, sizes)?;
+    report.say(
+        read_micros,
+        format_args!("read all: {} tables", tables.len()),
+    )?;
+    let lines = lines_of(report.alloc(), sizes.backups)?;
+    let begin = report.begin()?;
+    let folded = fold_one(report.alloc(), lines.as_slice(), tables.as_slice())?;
+    let micros = report.micros_since(begin)?;
+    let rows = count_written(folded.tables.as_slice());
+    report.say(
+        micros,
+        format_args!("fold: {} left, {rows} entries written", folded.lines.len()),
+    )
+}
