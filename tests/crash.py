@@ -288,25 +288,31 @@ def failing_syncs(score, program, room):
     print(f"80 syncs that failed, after {calls} commits", flush=True)
 
 
+def interrupted(run, kept):
+    """Ten dumps with a commit each, and reading them back: what is wrong with an answer."""
+    found = run.ask(request("PUT /hosts/pc1"))
+    for seed in range(10):
+        if found is None or found[0] != 201:
+            return f"a host or a commit was answered by {found}"
+        found = run.ask(request("POST /hosts/pc1/dumps?kind=full"))
+        if found is None or found[0] != 201:
+            return f"a dump was answered by {found}"
+        dump = found[1].decode().split('"')[3]
+        body = f"{seed} ".encode() * 5_000
+        run.ask(request(f"PUT /dumps/{dump}/entry?path=f&kind=file", body))
+        found = run.ask(request(f"POST /dumps/{dump}/commit"))
+        kept[seed] = body
+    return missing(run, kept, sorted(kept))
+
+
 def interrupts(score, program, room):
-    """Reads and writes are interrupted, again and again: they are tried again, and nobody sees it."""
-    rules = ["read:error=EINTR:when=4+{0}", "write:error=EINTR:when=1+{0}", "pread64,pwrite64:error=EINTR:when=9+{0}"]
+    """Reads and writes are interrupted, again and again, once the program's libraries are loaded: they are tried again, and
+    nobody sees it."""
+    rules = ["read:error=EINTR:when=16+{0}", "write:error=EINTR:when=1+{0}", "pread64,pwrite64:error=EINTR:when=32+{0}"]
     for step in range(2, 12):
         store, kept = os.path.join(room, f"interrupt-{step}"), {}
         run = Run(program, store, under=traced([rule.format(step) for rule in rules]))
-        found = run.ask(request("PUT /hosts/pc1"))
-        fault = None if found and found[0] == 201 else f"a host was answered by {found}"
-        for seed in range(10):
-            found = run.ask(request("POST /hosts/pc1/dumps?kind=full"))
-            dump = found[1].decode().split('"')[3]
-            body = f"{seed} ".encode() * 5_000
-            run.ask(request(f"PUT /dumps/{dump}/entry?path=f&kind=file", body))
-            found = run.ask(request(f"POST /dumps/{dump}/commit"))
-            if found is None or found[0] != 201:
-                fault = fault or f"a commit was answered by {found}"
-                break
-            kept[seed] = body
-        fault = fault or missing(run, kept, sorted(kept))
+        fault = interrupted(run, kept)
         status, said = run.end()
         fault = fault or (f"the run ended with {status}: {said}" if status or said else None)
         fault = fault or reopened(program, store, kept, sorted(kept))

@@ -1,8 +1,9 @@
 #!/bin/sh
 # Stops the program at random moments of a stream of commits on a real folder (kill -9, SIGTERM), lets its disk get full at the
-# first opening and later, fails a sync, interrupts reads and writes (both by strace, if it is there), starts two on one folder, and looks whether each backup whose commit was answered is read back whole
-# by the next run. Run it from anywhere after `make build`, or with another program's path and the numbers of kills, SIGTERMs
-# and pairs; it needs python3 and a few minutes. Small disks are mounted for itself alone, where that is allowed.
+# first opening and later, fails a sync, interrupts reads and writes (both by strace, if it is there), starts two on one folder,
+# and looks whether each backup whose commit was answered is read back whole by the next run. Run it from anywhere after
+# `make build`, or with another program's path and the numbers of kills, SIGTERMs and pairs; it needs python3 and a few minutes.
+# Small disks are mounted for itself alone, where that is allowed.
 # The last line is 'N passed, M failed'; the status is 0 if none failed.
 
 top=$(cd "$(dirname "$0")/.." && pwd)
