@@ -78,7 +78,7 @@ def measure_deletion(program, room, backups, entries):
         beside(f"deletion of {what}", taken, (label, time), (label, time))
     say("an expiry of ten")
     left = backups - 2
-    server.ask(request(f"PUT /hosts/pc1/rules?IncrKeepCnt={left - 11}&FullKeepCnt=1&IncrKeepCntMin=1&FullKeepCntMin=1"))
+    server.ask(request(f"PUT /hosts/pc1/rules?IncrKeepCnt={left - 12}&FullKeepCnt=1&IncrKeepCntMin=1&FullKeepCntMin=1"))
     before = tables_of(store)
     taken, answer = server.timed(server.ask, request("POST /hosts/pc1/expire"))
     time, label = read_and_written(room, store, before, tables_of(store))
@@ -153,7 +153,7 @@ def measure_restore(program, room, size, files):
 
 def main():
     words = argparse.ArgumentParser(description=__doc__, epilog="A size of 0 leaves a measurement out.")
-    words.add_argument("--backups", type=int, default=100, help="how many backups there are to delete some of; 14 at least")
+    words.add_argument("--backups", type=int, default=100, help="how many backups there are to delete some of; 16 at least")
     words.add_argument("--entries", type=int, default=100_000, help="the files of each")
     words.add_argument("--contents", type=int, default=1_000_000, help="how many contents are cleaned away")
     words.add_argument("--restore", type=int, default=500_000_000, help="the bytes that are restored, in ten files")
