@@ -1,16 +1,18 @@
--- One backup more of a run, and one table more of those that its entries are compared with.
-use Rattle.std.specs.Prelude.{◌≡◌, ℕ, zero, suc, ◌+◌, ◌-◌, ◌<◌, ◌≤◌, Bool, true, false, not, List, [], ◌∷◌, length, drop, Option, Some, IfSome, if◌then◌else◌}
-use Rattle.std.proofs.Common.{refl, sym, ap, subst, ◌∙◌, get_or, arith}
-use Rattle.std.proofs.lemmas.Option.{MatchOption-at_some}
-use Rattle.std.proofs.lemmas.List.{length-drop, drop_all, get_or_default}
+-- The entries of a run, by halves, and one block more of the tables that they are compared with.
+use Rattle.std.specs.Prelude.{◌≡◌, ℕ, zero, suc, ◌+◌, ◌-◌, ◌<◌, ◌≤◌, ◌==◌, Bool, true, false, not, List, [], ◌∷◌, length, drop, if◌then◌else◌}
+use Rattle.std.proofs.Common.{refl, sym, ap, ◌∙◌, get_or, arith}
+use Rattle.std.proofs.lemmas.Bool.{false≢true}
+use Rattle.std.proofs.lemmas.Bool.Decides.{nat_tests}
+use borrow.Author.Tests.{eqb-true}
+use Rattle.std.proofs.lemmas.List.{length-drop, drop_all}
 use Rattle.ordered_lists.specs.Order.{IsInOrder}
 use Rattle.attr_records.specs.Paths.{path_cmp}
 use Rattle.backup_rules.specs.declared.lines.Line.{Line}
 use Rattle.merge_view.specs.Views.{Rows, view, stacked, trimmed, reverse}
-use Rattle.merge_view.specs.ViewLaws.{IsInOrder-trimmed, view-stacked, trimmed-view}
+use Rattle.merge_view.specs.ViewLaws.{IsInOrder-trimmed, trimmed-view}
 use Rattle.merge_view.specs.Tables.{AllInOrder}
 use Rattle.merge_view.specs.TableLaws.{view-stack, none-stacked}
-use Rattle.backup_delete.specs.Trees.{tree_of, is_first_filled}
+use Rattle.backup_delete.specs.Trees.{tree_of, is_first_filled, AreUnfilled}
 use Rattle.backup_delete.specs.RunFolds.{resolved, remaining, goes_on, trimmed-further, trimmed-none}
 use Rattle.backup_delete.proofs.AddedLaws.{tree_order}
 use Rattle.backup_delete.proofs.Steps.{one_at, line_at, line_is}
@@ -20,12 +22,31 @@ order_drop zero tables all = all
 order_drop (suc n) [] all = tt
 order_drop (suc n) (table ∷ tables) all = order_drop n tables all.1
 
-pub same_read : (tables : List Rows) (i : ℕ) (a b : Rows) → i < length tables → a ≡ get_or tables i a → b ≡ get_or tables i b → a ≡ b
-same_read tables i a b within here there = here ∙ get_or_default tables i a b within ∙ sym there
+-- one backup more that isn't filled
+pub further : (lines : List Line) (index i n : ℕ) → n ≡ i + 1 → AreUnfilled lines index i → false ≡ is_first_filled (drop i lines)
+    → AreUnfilled lines index n
+further lines index i n next before here j after below = step (j == i) refl
+  where
+    less : (j == i) ≡ false → j < i
+    less e = grind (arith, nat_tests, e, below, next)
 
-pub table_order : (tables : List Rows) (i : ℕ) (table : Rows) → i < length tables → table ≡ get_or tables i table → AllInOrder tables
-    → IsInOrder path_cmp table
-table_order tables i table within is all = (subst AllInOrder (one_at tables i table within is) (order_drop i tables all)).0
+    step : (b : Bool) → (j == i) ≡ b → is_first_filled (drop j lines) ≡ false
+    step true e = ap (λ m. is_first_filled (drop m lines)) (eqb-true j i e) ∙ sym here
+    step false e = before j after (less e)
+
+-- the first filled one is behind one that isn't filled
+pub moves : (lines : List Line) (i at result : ℕ) → i ≤ result → i < at → false ≡ is_first_filled (drop i lines)
+    → (result < at → is_first_filled (drop result lines) ≡ true) → i < result
+moves lines i at result after more here filled = step (i == result) refl
+  where
+    less : (i == result) ≡ false → i < result
+    less e = grind (arith, nat_tests, e, after)
+
+    step : (b : Bool) → (i == result) ≡ b → i < result
+    step true e =
+        let same = eqb-true i result e in
+        absurd (false≢true (here ∙ ap (λ m. is_first_filled (drop m lines)) same ∙ filled (omega (arith, same, more))))
+    step false e = less e
 
 stops : (entries : Rows) (line : Line) (lines : List Line) → goes_on entries (line ∷ lines) ≡ false → (table tree : Rows)
     → trimmed table entries ≡ trimmed (if line.filled then table else tree) entries
@@ -89,18 +110,20 @@ module _ (lines : List Line) (tables : List Rows) where
       ∙ ap (λ b. if b then table else view (tree_from (i + 1)) table) (sym (stays ∙ ap is_first_filled at))
       ∙ ap (λ m. view (tree_from m) table) (sym next)
 
-  pub run_begun : (n : ℕ) (entries : Rows) → AllInOrder tables → entries ≡ [] → tree_from n ≡ view (tree_from n) entries
-  run_begun n entries all none = sym (ap (view (tree_from n)) none ∙ view-stack (tree_from n) [] (from_order n all) tt)
+  pub run_none : (i n : ℕ) (entries : Rows) → AllInOrder tables → i ≡ n → entries ≡ [] → tree_from i ≡ view (tree_from n) entries
+  run_none i n entries all same none =
+      ap tree_from same ∙ sym (ap (view (tree_from n)) none ∙ view-stack (tree_from n) [] (from_order n all) tt)
 
-  pub run_step : (i n next : ℕ) (table entries made : Rows) → n ≡ i + 1 → i < length lines → length tables ≡ length lines → AllInOrder tables
-      → table ≡ get_or tables i table → false ≡ is_first_filled (drop i lines) → IsInOrder path_cmp entries
-      → tree_from n ≡ view (tree_from next) entries → made ≡ stacked table entries → tree_from i ≡ view (tree_from next) made
-  run_step i n next table entries made after within same all is stays order told made_is =
-      let rows : i < length tables = omega (arith, within, same) in
-      unfilled_tree i n table after within same is stays
-      ∙ ap (λ t. view t table) told
-      ∙ sym (view-stacked (tree_from next) table entries (from_order next all) (table_order tables i table rows is all) order)
-      ∙ ap (view (tree_from next)) (sym made_is)
+  pub run_one : (i n : ℕ) (table entries : Rows) → n ≡ i + 1 → i < length lines → length tables ≡ length lines → table ≡ get_or tables i table
+      → is_first_filled (drop i lines) ≡ false → entries ≡ table → tree_from i ≡ view (tree_from n) entries
+  run_one i n table entries after within same is stays entries_are =
+      unfilled_tree i n table after within same is (sym stays) ∙ ap (view (tree_from n)) (sym entries_are)
+
+  pub run_halves : (i middle n : ℕ) (older newer made : Rows) → AllInOrder tables → tree_from i ≡ view (tree_from middle) older
+      → tree_from middle ≡ view (tree_from n) newer
+      → ((tree : Rows) → IsInOrder path_cmp tree → view tree made ≡ view (view tree newer) older) → tree_from i ≡ view (tree_from n) made
+  run_halves i middle n older newer made all upper lower seen =
+      upper ∙ ap (λ t. view t older) lower ∙ sym (seen (tree_from n) (from_order n all))
 
   pub fold_begun : (n : ℕ) (entries done rest : Rows) → AllInOrder tables → IsInOrder path_cmp entries → done ≡ [] → rest ≡ entries
       → trimmed (tree_from n) entries ≡ stacked done (trimmed (tree_from n) rest)
@@ -108,14 +131,13 @@ module _ (lines : List Line) (tables : List Rows) where
       sym ((λ k. stacked (done_is k) (trimmed (tree_from n) (rest_is k)))
       ∙ none-stacked (trimmed (tree_from n) entries) (IsInOrder-trimmed (tree_from n) entries (from_order n all) order))
 
-  pub fold_step : (i n : ℕ) (whole table done rest here later more : Rows) → n ≡ i + 1 → i < length lines → length tables ≡ length lines
-      → AllInOrder tables → table ≡ get_or tables i table → false ≡ is_first_filled (drop i lines) → IsInOrder path_cmp done
-      → IsInOrder path_cmp rest → whole ≡ stacked done (trimmed (tree_from i) rest) → here ≡ resolved rest table → later ≡ remaining rest table
+  pub fold_step : (i n : ℕ) (whole block done rest here later more : Rows) → AllInOrder tables → IsInOrder path_cmp block
+      → IsInOrder path_cmp done → IsInOrder path_cmp rest → tree_from i ≡ view (tree_from n) block
+      → whole ≡ stacked done (trimmed (tree_from i) rest) → here ≡ resolved rest block → later ≡ remaining rest block
       → more ≡ stacked done here → whole ≡ stacked more (trimmed (tree_from n) later)
-  fold_step i n whole table done rest here later more after within same all is stays d r told here_is later_is more_is =
-      let rows : i < length tables = omega (arith, within, same) in
-      trimmed-further whole (tree_from n) table done rest (from_order n all) (table_order tables i table rows is all) d r
-      (told ∙ ap (λ t. stacked done (trimmed t rest)) (unfilled_tree i n table after within same is stays))
+  fold_step i n whole block done rest here later more all b d r seen told here_is later_is more_is =
+      trimmed-further whole (tree_from n) block done rest (from_order n all) b d r
+      (told ∙ ap (λ t. stacked done (trimmed t rest)) seen)
       ∙ sym ((λ k. stacked ((more_is ∙ ap (stacked done) here_is) k) (trimmed (tree_from n) (later_is k))))
 
   -- the last of them is filled, or no entries are left
@@ -139,10 +161,3 @@ module _ (lines : List Line) (tables : List Rows) where
       → made ≡ trimmed (tree_from next) entries → made ≡ reverse (tree_from i) (tree_from next)
   folded_is i next entries made all order seen made_is =
       made_is ∙ trimmed-view (tree_from next) entries (from_order next all) order ∙ ap (λ t. reverse t (tree_from next)) (sym seen)
-
-  pub folded_found : (i next : ℕ) (found : Option Rows) (entries made : Rows) → AllInOrder tables → IsInOrder path_cmp entries
-      → IfSome found (λ (run : Rows). tree_from i ≡ view (tree_from next) run) → found ≡ Some entries
-      → made ≡ trimmed (tree_from next) entries → made ≡ reverse (tree_from i) (tree_from next)
-  folded_found i next found entries made all order seen is made_is =
-      folded_is i next entries made all order
-      (MatchOption-at_some _ (λ (run : Rows). tree_from i ≡ view (tree_from next) run) entries is seen) made_is

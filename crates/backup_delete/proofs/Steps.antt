@@ -1,6 +1,6 @@
 -- One backup more, on the way from the newest to the oldest.
 --     one_at      the items from an index on are the one there and those behind it
---     tree_step, change_step, taken_step      what the backup at an index adds
+--     change_step, taken_step      what the backup at an index adds
 use Rattle.std.proofs.Common.{◌≡◌, ◌+◌, ◌-◌, ◌<◌, ◌≤◌, ℕ, suc, Bool, true, false, not, ◌&&◌, ◌||◌, List, [], ◌∷◌, ◌++◌, Option, Some, None, length, take, drop, slice_set, get_or, refl, sym, ap, ◌∙◌, subst, if◌then◌else◌, add-one, arith}
 use Rattle.std.specs.Option.{option_to_list}
 use Rattle.std.specs.List.{cons_option}
@@ -9,13 +9,12 @@ use Rattle.std.proofs.lemmas.List.{drop_all, get_or_default, take_more}
 use Rattle.disk_trait.specs.declared.ids.PoolId.{PoolId}
 use Rattle.backup_rules.specs.declared.lines.Kind.TheVariants.{Full}
 use Rattle.backup_rules.specs.declared.lines.Line.{Line}
-use Rattle.merge_view.specs.Views.{Rows, view, reverse}
+use Rattle.merge_view.specs.Views.{Rows, reverse}
 use Rattle.stored_trees.specs.Occurrences.{occurrences}
 use Rattle.ref_counts.specs.Numbers.{total, capped}
-use Rattle.backup_delete.specs.declared.walk.Walk.{Walk}
 use Rattle.backup_delete.specs.Trees.{tree_of, is_gone, needs_fold}
 use Rattle.backup_delete.specs.Folds.{filled, last_filled, next_tree, new_table, Change, replaced, change_of, changes, added_tables, taken_tables}
-use Rattle.backup_delete.specs.Walks.{HasTree, IsWalk}
+use Rattle.backup_delete.specs.Walks.{IsNext}
 use Rattle.backup_delete.specs.Counted.{added_total}
 
 pub one_at : {A : Type 0} (xs : List A) (i : ℕ) (x : A) → i < length xs → x ≡ get_or xs i x → drop i xs ≡ x ∷ drop (i + 1) xs
@@ -30,15 +29,6 @@ line_at lines i = get_or lines i no_line
 
 pub line_is : (lines : List Line) (i : ℕ) → i < length lines → line_at lines i ≡ get_or lines i (line_at lines i)
 line_is lines i within = get_or_default lines i no_line (line_at lines i) within
-
--- the tree of the backup at an index
-pub tree_step : (lines : List Line) (tables : List Rows) (i n : ℕ) (line : Line) (table tree made : Rows) → n ≡ i + 1 → i < length lines → length tables ≡ length lines
-    → line ≡ get_or lines i line → table ≡ get_or tables i table → tree ≡ tree_of (drop n lines) (drop n tables)
-    → made ≡ (if line.filled then table else view tree table) → made ≡ tree_of (drop i lines) (drop i tables)
-tree_step lines tables i n line table tree made next within same found table_is tree_is made_is =
-    let rows : i < length tables = omega (arith, within, same) in
-    made_is ∙ ap (λ t. if line.filled then table else view t table) (tree_is ∙ ap (λ m. tree_of (drop m lines) (drop m tables)) next)
-    ∙ sym (λ k. tree_of (one_at lines i line within found k) (one_at tables i table rows table_is k))
 
 -- ---- changes
 
@@ -88,48 +78,24 @@ module _ (numbers : List ℕ) (lines : List Line) (tables : List Rows) (i : ℕ)
       ∙ ap (λ b. if b then next_tree numbers (drop (i + 1) lines) (drop (i + 1) tables) else tree_of (line ∷ drop (i + 1) lines) (table ∷ drop (i + 1) tables)) (sym is)
       ∙ sym (λ k. tree_of (lines_at k) (tables_at k))
 
-  pub walk_gone : (walk : Walk) → IsWalk numbers lines tables walk (i + 1) → true ≡ is_gone numbers line.number → IsWalk numbers lines tables walk i
-  walk_gone walk w is = record { within = omega (arith, w.within); order = w.order; end = w.end; tree = w.tree; next = next_gone is ∙ w.next }
+  pub walk_gone : (next : ℕ) → IsNext numbers lines tables next (i + 1) → true ≡ is_gone numbers line.number → IsNext numbers lines tables next i
+  walk_gone next w is = record { within = omega (arith, w.within); end = w.end; tree = next_gone is ∙ w.tree }
 
-  pub walk_same : (walk new : Walk) → IsWalk numbers lines tables walk (i + 1) → false ≡ is_gone numbers line.number → new.tree ≡ walk.tree → new.at ≡ walk.at → new.next ≡ i
-      → IsWalk numbers lines tables new i
-  walk_same walk new w is tree_is at_is next_is = record {
-    within = omega (arith, next_is);
-    order = omega (arith, w.within, w.order, at_is, next_is);
-    end = omega (arith, w.end, at_is);
-    tree = tree_is ∙ w.tree ∙ ap (λ n. tree_of (drop n lines) (drop n tables)) (sym at_is);
-    next = next_here is ∙ ap (λ n. tree_of (drop n lines) (drop n tables)) (sym next_is);
-  }
-
-  pub walk_has : (new : Walk) → HasTree lines tables new i → false ≡ is_gone numbers line.number → new.next ≡ i → IsWalk numbers lines tables new i
-  walk_has new h is next_is = record {
-    within = omega (arith, next_is);
-    order = let e = h.order in omega (arith, e, next_is);
-    end = h.end;
-    tree = h.tree;
-    next = next_here is ∙ ap (λ n. tree_of (drop n lines) (drop n tables)) (sym next_is);
-  }
-
-  pub walk_new : (new : Walk) → false ≡ is_gone numbers line.number → new.tree ≡ tree_of (drop i lines) (drop i tables) → new.at ≡ i → new.next ≡ i
-      → IsWalk numbers lines tables new i
-  walk_new new is tree_is at_is next_is = record {
-    within = omega (arith, next_is);
-    order = omega (arith, at_is, next_is);
-    end = omega (arith, within, at_is);
-    tree = tree_is ∙ ap (λ n. tree_of (drop n lines) (drop n tables)) (sym at_is);
-    next = next_here is ∙ ap (λ n. tree_of (drop n lines) (drop n tables)) (sym next_is);
+  pub walk_here : (next : ℕ) → false ≡ is_gone numbers line.number → next ≡ i → IsNext numbers lines tables next i
+  walk_here next is here = record {
+    within = omega (arith, here);
+    end = omega (arith, within, here);
+    tree = next_here is ∙ ap (λ n. tree_of (drop n lines) (drop n tables)) (sym here);
   }
 
 -- the walk before its first step
-pub walk_begun : (numbers : List ℕ) (lines : List Line) (tables : List Rows) (walk : Walk) → length tables ≡ length lines → walk.tree ≡ [] → walk.at ≡ length lines → walk.next ≡ length lines
-    → IsWalk numbers lines tables walk (length lines)
-walk_begun numbers lines tables walk same tree_is at_is next_is = record {
-  within = omega (arith, next_is);
-  order = omega (arith, at_is, next_is);
-  end = omega (arith, at_is);
-  tree = tree_is ∙ sym (ap (λ ls. tree_of ls (drop walk.at tables)) (drop_all walk.at lines (omega (arith, at_is))));
-  next = ap (λ ls. next_tree numbers ls (drop (length lines) tables)) (drop_all (length lines) lines (omega arith))
-      ∙ sym (ap (λ ls. tree_of ls (drop walk.next tables)) (drop_all walk.next lines (omega (arith, next_is))));
+pub walk_begun : (numbers : List ℕ) (lines : List Line) (tables : List Rows) (index next : ℕ) → index ≡ length lines → next ≡ length lines
+    → IsNext numbers lines tables next index
+walk_begun numbers lines tables index next at_is next_is = record {
+  within = omega (arith, at_is, next_is);
+  end = omega (arith, next_is);
+  tree = ap (λ ls. next_tree numbers ls (drop index tables)) (drop_all index lines (omega (arith, at_is)))
+      ∙ sym (ap (λ ls. tree_of ls (drop next tables)) (drop_all next lines (omega (arith, next_is))));
 }
 
 -- ---- counts

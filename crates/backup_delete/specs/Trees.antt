@@ -3,7 +3,7 @@
 --     tree_of lines tables      the tree of the first of them
 --     is_gone numbers number      the number is among those that are deleted
 --     AreSorted numbers sorted      the same numbers in their order
-use Rattle.std.specs.Prelude.{ℕ, ◌==◌, Bool, true, false, not, ◌&&◌, List, [], ◌∷◌, if◌then◌else◌}
+use Rattle.std.specs.Prelude.{◌≡◌, ◌<◌, ◌≤◌, ℕ, ◌==◌, Bool, true, false, not, ◌&&◌, List, [], ◌∷◌, drop, if◌then◌else◌}
 use Rattle.std.specs.List.{list_any}
 use Rattle.std.specs.List.Sorted.{IsPermutation, IsNonDecreasing}
 use Rattle.backup_rules.specs.declared.lines.Line.{Line}
@@ -20,6 +20,10 @@ tree_of (line ∷ lines) (table ∷ tables) = if line.filled then table else vie
 abbrev pub is_first_filled : List Line → Bool
 is_first_filled [] = false
 is_first_filled (line ∷ lines) = line.filled
+
+-- none of the backups from an index up to another is filled
+abbrev pub AreUnfilled : List Line → ℕ → ℕ → Type 0
+AreUnfilled lines index next = (i : ℕ) → index ≤ i → i < next → is_first_filled (drop i lines) ≡ false
 
 -- the backups of lines and trees
 abbrev pub backups : List Line → List Rows → List Backup

@@ -6,7 +6,7 @@ ghost use Rattle.merge_view.specs.Tables.{AllInOrder};
 ghost use Rattle.backup_delete.specs.Folds.{changes};
 
 use crate::numbers::Gone;
-use crate::walk::{Walk, step};
+use crate::walk::step;
 use attr_tables::Table;
 use backup_rules::Line;
 use std::alloc::{AllocError, Global};
@@ -66,7 +66,7 @@ fn push_change(all: &mut Vec<TableChange>, change: Option<TableChange>) -> Resul
     }
 }
 
-/// What becomes of the tables of backups, the newest first, or want of memory: one pass over them.
+/// What becomes of the tables of backups, the newest first, or want of memory.
 pub(crate) fn changes(
     alloc: Global,
     lines: &[Line],
@@ -78,11 +78,11 @@ pub(crate) fn changes(
     ensures { IfOk result (λ all. all.items ≡ changes numbers.now lines.now tables.now) }
 {
     let mut all = Vec::new(alloc);
-    let mut walk = Walk::new(alloc, lines.len());
+    let mut next = lines.len();
     let mut index = lines.len();
     'down: while index > 0 {
         index -= 1;
-        let change = step(alloc, lines, tables, numbers, index, &mut walk)?;
+        let change = step(alloc, lines, tables, numbers, index, &mut next)?;
         push_change(&mut all, change)?;
     }
     Ok(all)

@@ -4,10 +4,12 @@
 //! filled, an unfilled backup whose next newer one is deleted becomes relative to the next newer one that is left, and
 //! an entry that is the same there is dropped.
 //!
-//! The first new table is made by tables alone: the entries of a run of deleted neighbours are laid over each other, and
-//! each is compared with the first newer table that has its path, no further than to the next filled one. What follows,
-//! and a run with a filled backup in it, takes the trees, each from the next newer one: so a deletion passes over the
-//! tables twice at most.
+//! Each run of deleted neighbours is folded once, and by tables alone: the entries of the run are laid over each other in
+//! halves, and each is compared with the first newer table that has its path, no further than to the next filled one. The
+//! newer tables are laid over each other in blocks for this, each as large as those before it, so that a fold is linear in
+//! the entries of the tables that it touches, times how often these can be halved. Only a run with a filled backup in it
+//! takes the two trees beside it, each in one pass over a filled table. Further runs pass over newer tables again, as far
+//! as they lack their paths.
 //!
 //! ```text
 //! let folded = fold(alloc, index.lines(), tables.as_slice(), &[2])?;

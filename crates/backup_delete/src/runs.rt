@@ -1,52 +1,17 @@
-//! A new table by the tables of a run of deleted neighbours, without the trees.
+//! A new table, by the tables of a run of deleted neighbours and those of the newer backups.
 
-ghost use Rattle.std.specs.Prelude.{◌≡◌, ◌+◌, ◌<◌, ◌≤◌, Bool, true, false, [], length, drop, IfOk, IfSome};
-ghost use Rattle.merge_view.specs.Views.{view, reverse, trimmed};
+ghost use Rattle.std.specs.Prelude.{◌≡◌, ◌<◌, ◌≤◌, false, length, drop, IfOk};
+ghost use Rattle.merge_view.specs.Views.{reverse, trimmed};
 ghost use Rattle.merge_view.specs.Tables.{AllInOrder};
-ghost use Rattle.backup_delete.specs.Trees.{tree_of, is_first_filled};
+ghost use Rattle.backup_delete.specs.Trees.{tree_of};
 ghost use Rattle.backup_delete.specs.RunFolds.{goes_on};
 
 use crate::entries::{remaining, resolved};
+use crate::trees::{first_filled, is_filled, run_entries, tree_at};
 use attr_tables::Table;
 use backup_rules::Line;
-use merge_view::{stacked, trimmed};
+use merge_view::{reverse, stacked, trimmed};
 use std::alloc::{AllocError, Global};
-
-/// Whether the backup at an index is filled.
-fn is_filled(lines: &[Line], index: usize) -> bool
-    requires { index < length lines.now }
-    ensures { result ≡ is_first_filled (drop index lines.now) }
-{
-    lines[index].filled
-}
-
-/// The entries of the backups from an index up to another one, laid over each other; none if one of them is filled. Or
-/// want of memory.
-fn run_entries(
-    alloc: Global,
-    lines: &[Line],
-    tables: &[Table],
-    index: usize,
-    next: usize,
-) -> Result<Option<Table>, AllocError>
-    requires same { length tables.now ≡ length lines.now }
-    requires order { AllInOrder tables.now }
-    requires within { next ≤ length lines.now }
-    requires below { index ≤ next }
-    ensures { IfOk result (λ found. IfSome found (λ entries. tree_of (drop index lines.now) (drop index tables.now)
-        ≡ view (tree_of (drop next lines.now) (drop next tables.now)) entries)) }
-{
-    let mut entries = Table::new(alloc);
-    let mut i = next;
-    'down: while i > index {
-        i -= 1;
-        if is_filled(lines, i) {
-            return Ok(None);
-        }
-        entries = stacked(alloc, &tables[i], &entries)?;
-    }
-    Ok(Some(entries))
-}
 
 /// Whether the first backup behind an index isn't filled, and entries are left.
 fn goes_on(entries: &Table, lines: &[Line], index: usize) -> bool
@@ -60,6 +25,22 @@ fn goes_on(entries: &Table, lines: &[Line], index: usize) -> bool
         return false;
     }
     !is_filled(lines, index)
+}
+
+/// The end of the block of backups at an index: one more than there are from `start` up to it, or those that are there.
+fn block_end(lines: &[Line], start: usize, index: usize) -> usize
+    requires below { start ≤ index }
+    requires within { index ≤ length lines.now }
+    ensures after { index ≤ result }
+    ensures more { index < length lines.now → index < result }
+    ensures end { result ≤ length lines.now }
+{
+    let count = index - start;
+    if lines.len() - index <= count {
+        lines.len()
+    } else {
+        index + count + 1
+    }
 }
 
 /// The entries that change the tree of a backup that is filled or that comes after all, or if there are none.
@@ -82,7 +63,8 @@ fn last_trimmed(
 }
 
 /// The entries that change the tree of the backup at an index, or want of memory: one pass over the tables from there
-/// on, up to the first filled one, or until each entry's path was found.
+/// on, up to the first filled one, or until each entry's path was found. They are taken in blocks, each as large as all
+/// before it, so that the entries are passed over once for each time that the tables can be halved.
 fn trimmed_by(
     alloc: Global,
     lines: &[Line],
@@ -100,42 +82,41 @@ fn trimmed_by(
     let mut rest = entries.copy(alloc)?;
     let mut i = index;
     'up: while goes_on(&rest, lines, i) {
-        let here = resolved(alloc, &rest, &tables[i])?;
-        let later = remaining(alloc, &rest, &tables[i])?;
+        let end = first_filled(lines, i, block_end(lines, index, i));
+        let block = run_entries(alloc, lines, tables, i, end)?;
+        let _block_rows = block.rows();
+        let here = resolved(alloc, &rest, &block)?;
+        let later = remaining(alloc, &rest, &block)?;
         done = stacked(alloc, &done, &here)?;
         rest = later;
-        i += 1;
+        i = end;
     }
     let last = last_trimmed(alloc, lines, tables, i, &rest)?;
     Ok(stacked(alloc, &done, &last)?)
 }
 
-/// The new table of the backup at an index whose next newer one that stays is at another; none if `skip`, or if a
-/// backup between is filled. Or want of memory.
+/// The new table of the backup at an index whose next newer one that stays is at another, or want of memory. Only if a
+/// backup between is filled it takes both trees.
 pub(crate) fn folded_table(
     alloc: Global,
     lines: &[Line],
     tables: &[Table],
     index: usize,
     next: usize,
-    skip: bool,
-) -> Result<Option<Table>, AllocError>
+) -> Result<Table, AllocError>
     requires same { length tables.now ≡ length lines.now }
     requires order { AllInOrder tables.now }
     requires within { next ≤ length lines.now }
     requires below { index ≤ next }
-    ensures { IfOk result (λ found. IfSome found (λ table. table
-        ≡ reverse (tree_of (drop index lines.now) (drop index tables.now)) (tree_of (drop next lines.now) (drop next tables.now)))) }
+    ensures { IfOk result (λ table. table
+        ≡ reverse (tree_of (drop index lines.now) (drop index tables.now)) (tree_of (drop next lines.now) (drop next tables.now))) }
 {
-    if skip {
-        return Ok(None);
+    if first_filled(lines, index, next) == next {
+        let entries = run_entries(alloc, lines, tables, index, next)?;
+        let _rows = entries.rows();
+        return Ok(trimmed_by(alloc, lines, tables, next, &entries)?);
     }
-    match run_entries(alloc, lines, tables, index, next)? {
-        None => Ok(None),
-        Some(entries) => {
-            let _rows = entries.rows();
-            let table = trimmed_by(alloc, lines, tables, next, &entries)?;
-            Ok(Some(table))
-        }
-    }
+    let older = tree_at(alloc, lines, tables, index)?;
+    let newer = tree_at(alloc, lines, tables, next)?;
+    Ok(reverse(alloc, &older, &newer)?)
 }

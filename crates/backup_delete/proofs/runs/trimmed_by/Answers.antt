@@ -1,16 +1,17 @@
--- What one table more decides of the entries.
-use Rattle.std.proofs.Common.{◌+◌, ◌<◌, length, sym, ap, ◌∙◌, subst, refl, arith}
+-- What one block more decides of the entries.
+use Rattle.std.proofs.Common.{sym, ap, ◌∙◌, subst, arith}
 use Rattle.ordered_lists.specs.Order.{IsInOrder}
 use Rattle.attr_records.specs.Paths.{path_cmp}
 use Rattle.merge_view.specs.Views.{Rows, stacked}
 use Rattle.merge_view.specs.ViewLaws.{IsInOrder-stacked}
-use Rattle.backup_delete.specs.RunFolds.{remaining, resolved_in_order, remaining_in_order}
-use Rattle.backup_delete.proofs.RunSteps.{same_read, table_order, going, fold_begun, fold_step}
+use Rattle.backup_delete.specs.RunFolds.{resolved_in_order, remaining_in_order}
+use Rattle.backup_delete.proofs.RunSteps.{going, moves, fold_begun, fold_step}
 use Rattle.backup_delete.proofs.runs.trimmed_by.Goals as goal
 
 pub up-init : goal.up-init
 up-init c = record {
   within = c.requires.within;
+  after = omega arith;
   done = subst (λ (rows : Rows). IsInOrder path_cmp rows) (sym c.new-done.ensures) tt;
   rest = subst (λ (rows : Rows). IsInOrder path_cmp rows) (sym c.in_ok-rest.ensures) c.rows-rows.ensures.in_order;
   told = fold_begun c.args.lines.now c.args.tables.now c.args.index c.args.entries.now _ _ c.requires.order c.rows-rows.ensures.in_order
@@ -19,27 +20,27 @@ up-init c = record {
 
 pub up-preserved : goal.up-preserved
 up-preserved c =
-    let goes = going c.up.rest c.args.lines.now c.up.i c.up.invariant.within (sym c.goes_on.ensures ∙ c.up-test.true) in
-    let within : c.up.i < length c.args.lines.now = goes.1 in
-    let rows : c.up.i < length c.args.tables.now = omega (arith, within, c.requires.same) in
-    let again = same_read c.args.tables.now c.up.i c.index-tables-i-in-up.result c.index-tables-i.result rows c.index-tables-i-in-up.is
-    c.index-tables-i.is in
-    let table = table_order c.args.tables.now c.up.i c.index-tables-i.result rows
-    c.index-tables-i.is c.requires.order in
-    let here = resolved_in_order c.up.rest c.index-tables-i.result c.up.invariant.rest table in
+    let block = c.rows-block_rows.ensures.in_order in
     record {
-      within = omega (arith, within);
+      within = omega (arith, c.first_filled-end.ensures.before, c.block_end.ensures.end);
+      after = omega (arith, c.up.invariant.after, c.first_filled-end.ensures.after);
       done = subst (λ (rows : Rows). IsInOrder path_cmp rows) (sym c.in_ok-done.ensures.value)
           (IsInOrder-stacked c.up.done c.in_ok-here.here c.up.invariant.done
-          (subst (λ (rows : Rows). IsInOrder path_cmp rows) (sym c.in_ok-here.ensures) here));
+          (subst (λ (rows : Rows). IsInOrder path_cmp rows) (sym c.in_ok-here.ensures)
+          (resolved_in_order c.up.rest c.in_ok-block.block c.up.invariant.rest block)));
       rest = subst (λ (rows : Rows). IsInOrder path_cmp rows) (sym c.in_ok-later.ensures)
-          (remaining_in_order c.up.rest c.index-tables-i-in-up.result c.up.invariant.rest
-          (table_order c.args.tables.now c.up.i c.index-tables-i-in-up.result rows c.index-tables-i-in-up.is c.requires.order));
-      told = fold_step c.args.lines.now c.args.tables.now c.up.i (c.up.i + 1) _ c.index-tables-i.result c.up.done c.up.rest
-          c.in_ok-here.here c.in_ok-later.later c.in_ok-done.done
-          refl within c.requires.same c.requires.order c.index-tables-i.is goes.0 c.up.invariant.done c.up.invariant.rest
-          c.up.invariant.told c.in_ok-here.ensures (c.in_ok-later.ensures ∙ ap (remaining c.up.rest) again) c.in_ok-done.ensures.value;
+          (remaining_in_order c.up.rest c.in_ok-block.block c.up.invariant.rest block);
+      told = fold_step c.args.lines.now c.args.tables.now c.up.i c.first_filled-end.result _ c.in_ok-block.block c.up.done c.up.rest
+          c.in_ok-here.here c.in_ok-later.later c.in_ok-done.done c.requires.order block c.up.invariant.done c.up.invariant.rest
+          c.in_ok-block.ensures c.up.invariant.told c.in_ok-here.ensures c.in_ok-later.ensures c.in_ok-done.ensures.value;
     }
+
+pub up-smaller : goal.up-smaller
+up-smaller c =
+    let goes = going c.up.rest c.args.lines.now c.up.i c.up.invariant.within (sym c.goes_on.ensures ∙ c.up-test.true) in
+    let more = moves c.args.lines.now c.up.i c.block_end.result c.first_filled-end.result c.first_filled-end.ensures.after
+    (c.block_end.ensures.more goes.1) goes.0 c.first_filled-end.ensures.filled in
+    omega (arith, more, goes.1)
 
 pub returns : goal.returns
 returns c = c.in_ok-stacked.ensures.value ∙ ap (stacked c.up.done) c.in_ok-last.ensures ∙ sym c.up.invariant.told

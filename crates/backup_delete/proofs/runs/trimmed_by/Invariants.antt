@@ -8,6 +8,7 @@ use Rattle.backup_delete.proofs.runs.trimmed_by.Given as goal
 abbrev pub invariant-up : goal.invariant-up
 invariant-up l = record {
   within : l.i ≤ length l.lines;
+  after : l.index ≤ l.i;
   done : IsInOrder path_cmp l.done;
   rest : IsInOrder path_cmp l.rest;
   told : trimmed (tree_of (drop l.index l.lines) (drop l.index l.tables)) l.entries
