@@ -12,7 +12,7 @@ use Rattle.merge_view.specs.Views.{Rows, view, stacked, trimmed, reverse}
 use Rattle.merge_view.specs.ViewLaws.{IsInOrder-trimmed, trimmed-view}
 use Rattle.merge_view.specs.Tables.{AllInOrder}
 use Rattle.merge_view.specs.TableLaws.{view-stack, none-stacked}
-use Rattle.backup_delete.specs.Trees.{tree_of, is_first_filled, AreUnfilled}
+use Rattle.backup_delete.specs.Trees.{tree_of, is_first_filled}
 use Rattle.backup_delete.specs.RunFolds.{resolved, remaining, goes_on, trimmed-further, trimmed-none}
 use Rattle.backup_delete.proofs.AddedLaws.{tree_order}
 use Rattle.backup_delete.proofs.Steps.{one_at, line_at, line_is}
@@ -21,18 +21,6 @@ order_drop : (n : ℕ) (tables : List Rows) → AllInOrder tables → AllInOrder
 order_drop zero tables all = all
 order_drop (suc n) [] all = tt
 order_drop (suc n) (table ∷ tables) all = order_drop n tables all.1
-
--- one backup more that isn't filled
-pub further : (lines : List Line) (index i n : ℕ) → n ≡ i + 1 → AreUnfilled lines index i → false ≡ is_first_filled (drop i lines)
-    → AreUnfilled lines index n
-further lines index i n next before here j after below = step (j == i) refl
-  where
-    less : (j == i) ≡ false → j < i
-    less e = grind (arith, nat_tests, e, below, next)
-
-    step : (b : Bool) → (j == i) ≡ b → is_first_filled (drop j lines) ≡ false
-    step true e = ap (λ m. is_first_filled (drop m lines)) (eqb-true j i e) ∙ sym here
-    step false e = before j after (less e)
 
 -- the first filled one is behind one that isn't filled
 pub moves : (lines : List Line) (i at result : ℕ) → i ≤ result → i < at → false ≡ is_first_filled (drop i lines)

@@ -1,11 +1,11 @@
 -- One backup more, on the way from the newest to the oldest.
 --     one_at      the items from an index on are the one there and those behind it
 --     change_step, taken_step      what the backup at an index adds
-use Rattle.std.proofs.Common.{◌≡◌, ◌+◌, ◌-◌, ◌<◌, ◌≤◌, ℕ, suc, Bool, true, false, not, ◌&&◌, ◌||◌, List, [], ◌∷◌, ◌++◌, Option, Some, None, length, take, drop, slice_set, get_or, refl, sym, ap, ◌∙◌, subst, if◌then◌else◌, add-one, arith}
+use Rattle.std.proofs.Common.{◌≡◌, ◌+◌, ◌-◌, ◌<◌, ℕ, Bool, true, false, ◌||◌, List, [], ◌∷◌, ◌++◌, Option, Some, None, length, take, drop, slice_set, get_or, refl, sym, ap, ◌∙◌, if◌then◌else◌, add-one, arith}
 use Rattle.std.specs.Option.{option_to_list}
 use Rattle.std.specs.List.{cons_option}
 use Rattle.std.proofs.Math.Seq.{drop-cons}
-use Rattle.std.proofs.lemmas.List.{drop_all, get_or_default, take_more}
+use Rattle.std.proofs.lemmas.List.{get_or_default, take_more}
 use Rattle.disk_trait.specs.declared.ids.PoolId.{PoolId}
 use Rattle.backup_rules.specs.declared.lines.Kind.TheVariants.{Full}
 use Rattle.backup_rules.specs.declared.lines.Line.{Line}
@@ -87,16 +87,6 @@ module _ (numbers : List ℕ) (lines : List Line) (tables : List Rows) (i : ℕ)
     end = omega (arith, within, here);
     tree = next_here is ∙ ap (λ n. tree_of (drop n lines) (drop n tables)) (sym here);
   }
-
--- the walk before its first step
-pub walk_begun : (numbers : List ℕ) (lines : List Line) (tables : List Rows) (index next : ℕ) → index ≡ length lines → next ≡ length lines
-    → IsNext numbers lines tables next index
-walk_begun numbers lines tables index next at_is next_is = record {
-  within = omega (arith, at_is, next_is);
-  end = omega (arith, next_is);
-  tree = ap (λ ls. next_tree numbers ls (drop index tables)) (drop_all index lines (omega (arith, at_is)))
-      ∙ sym (ap (λ ls. tree_of ls (drop next tables)) (drop_all next lines (omega (arith, next_is))));
-}
 
 -- ---- counts
 

@@ -1,5 +1,5 @@
 -- What becomes of the table at the index, by whether it is deleted and whether it is relative to a deleted one.
-use Rattle.std.proofs.Common.{◌≡◌, ◌+◌, Some, None, drop, refl, sym, ap, ◌∙◌}
+use Rattle.std.proofs.Common.{Some, None, drop, refl, sym, ap, ◌∙◌}
 use Rattle.backup_delete.specs.Trees.{tree_of, needs_fold}
 use Rattle.backup_delete.proofs.Steps.{line_at, line_is, change_step, gone_change, same_change, new_change, walk_gone, walk_here}
 use Rattle.backup_delete.proofs.walk.step.Goals as goal
