@@ -1,8 +1,9 @@
 -- The program's command as a simple command of clap.
-use Rattle.std.specs.Prelude.{◌≡◌, ℕ, List, [], true, false, Some, codes}
+use Rattle.std.specs.Prelude.{◌≡◌, ℕ, pos, List, [], true, false, Some, codes}
 use Rattle.clap.specs.Walk.{Rule}
 use Rattle.clap.specs.Simple.{App, app_of, new_app, new_rule, new_shape, with_rule, with_subcommand}
 use Rattle.clap.specs.declared.builder.action.ArgAction.TheVariants.{SetTrue}
+use Rattle.clap.specs.declared.builder.value_parser.ValueParser.TheVariants as parser
 use Rattle.clap.specs.declared.builder.command.Command.{Command}
 use Rattle.clap.specs.declared.builder.command.Command.TheViews.{out-Command}
 
@@ -18,6 +19,10 @@ option_rule name = record (new_rule name) { long = Some name }
 abbrev pub required_rule : List ℕ → Rule
 required_rule name = record (new_rule name) { long = Some name; required = true }
 
+-- `--NAME NUMBER`, a number below 2 ^ 32 which may be left out
+abbrev pub number_rule : List ℕ → Rule
+number_rule name = record (new_rule name) { long = Some name; parser = Some (parser.Signed (pos 0) (pos 4294967295)) }
+
 -- `--NAME`
 abbrev pub flag_rule : List ℕ → Rule
 flag_rule name = record (new_rule name) { long = Some name; action = Some SetTrue }
@@ -29,6 +34,11 @@ common_app name = with_rule (with_rule (new_app name) (required_rule (codes "sto
 -- `pipe`
 abbrev pub pipe_app : App
 pipe_app = common_app (codes "pipe")
+
+-- `serve --listen ADDR [--connections N]`
+abbrev pub serve_app : App
+serve_app =
+    with_rule (with_rule (common_app (codes "serve")) (required_rule (codes "listen"))) (number_rule (codes "connections"))
 
 -- `night [--scheduled]`
 abbrev pub night_app : App
@@ -45,6 +55,10 @@ top_app = record {
   subs = [];
 }
 
+-- with the subcommands that serve links
+abbrev pub links_app : App
+links_app = with_subcommand (with_subcommand top_app pipe_app.top) serve_app.top
+
 -- the whole command
 abbrev pub program_app : App
-program_app = with_subcommand (with_subcommand top_app pipe_app.top) night_app.top
+program_app = with_subcommand links_app night_app.top

@@ -2,9 +2,13 @@
 --     Line, Task   a line, and what it asks for
 --     line_of      the line of some words
 --     meaning      the line that the program's own value stands for
-use Rattle.std.specs.Prelude.{ℕ, Bool, List, ◌++◌, Option, Some, None, false, if◌then◌else◌, bytes_eq, codes, option_map, option_and_then}
+use Rattle.std.specs.Prelude.{ℕ, ◌^◌, Bool, List, ◌++◌, Option, Some, None, false, ◌&&◌, nat_lt, length}
+use Rattle.std.specs.Prelude.{if◌then◌else◌, bytes_eq, codes, option_map, option_and_then}
 use Rattle.std.specs.String.{string_bytes}
 use Rattle.std.specs.Option.{option_map_or}
+use Rattle.std.specs.List.{list_all}
+use Rattle.std.specs.Char.{digit_value}
+use Rattle.std.specs.Str.Parse.{digits_value, without_leading_plus}
 use Rattle.clap.specs.Walk.{Row, first_of, is_empty, rows_of}
 use Rattle.clap.specs.Matches.{found_of}
 use Rattle.clap.specs.Faults.{fault_of}
@@ -15,9 +19,10 @@ use Rattle.command_line.specs.declared.line.CommandLine.{CommandLine}
 use Rattle.command_line.specs.declared.line.Work.{Work}
 use Rattle.command_line.specs.declared.line.Work.TheVariants as work
 
--- what a line asks for; of Night, whether only where the schedule says so
+-- what a line asks for; of Serve, the address and the number of links, and of Night, whether only where the schedule says so
 pub data Task : Type 0 where
   Pipe : Task
+  Serve : List ℕ → Option ℕ → Task
   Night : Bool → Task
 
 -- a line: the store's folder, the settings' file and what it asks for
@@ -30,11 +35,33 @@ pub record Line : Type 0 where
 abbrev pub flag_of : List ℕ → List Row → Bool
 flag_of id rows = option_map_or (λ text. bytes_eq text (codes "true")) (first_of id rows) false
 
+-- one decimal digit or more, and what they write is below 2 ^ 32
+abbrev pub is_number : List ℕ → Bool
+is_number digits =
+    nat_lt 0 (length digits)
+    && (list_all (λ byte. nat_lt (digit_value byte) 10) digits && nat_lt (digits_value 10 digits) (2 ^ 32))
+
+-- the number below 2 ^ 32 that a text writes, where a plus may stand first
+unfoldable pub number_of : List ℕ → Option ℕ
+number_of text =
+    let digits = without_leading_plus text in if is_number digits then Some (digits_value 10 digits) else None
+
+-- the number of an option, Some None where that was left out
+abbrev pub number_in : List ℕ → List Row → Option (Option ℕ)
+number_in id rows =
+    option_map_or (λ text. option_map (λ number. Some number) (number_of text)) (first_of id rows) (Some None)
+
+-- what `serve` asks for with these matches
+abbrev pub serve_in : List Row → Option Task
+serve_in rows = option_and_then (λ listen. option_map (λ connections. Serve listen connections)
+    (number_in (codes "connections") rows)) (first_of (codes "listen") rows)
+
 -- what the subcommand of this name asks for with these matches
 abbrev pub task_in : List ℕ → List Row → Option Task
 task_in name rows =
     if bytes_eq name (codes "pipe") then Some Pipe
-    else (if bytes_eq name (codes "night") then Some (Night (flag_of (codes "scheduled") rows)) else None)
+    else (if bytes_eq name (codes "serve") then serve_in rows
+    else (if bytes_eq name (codes "night") then Some (Night (flag_of (codes "scheduled") rows)) else None))
 
 -- the line of a subcommand with its matches
 abbrev pub line_in : List ℕ × List Row → Option Line
@@ -53,7 +80,8 @@ line_of words =
 abbrev pub usage : List ℕ
 usage =
     codes "usage: backup_server pipe --store DIR [--settings FILE]\n"
-    ++ codes "       backup_server night [--scheduled] --store DIR [--settings FILE]"
+    ++ (codes "       backup_server serve --listen ADDR [--connections N] --store DIR [--settings FILE]\n"
+    ++ codes "       backup_server night [--scheduled] --store DIR [--settings FILE]")
 
 -- the matches of a subcommand
 abbrev pub rows_in : ArgMatches → List Row
@@ -62,6 +90,7 @@ rows_in found = rows_of (found_of found)
 -- what the program's own values stand for
 abbrev pub task_of : Work → Task
 task_of work.Pipe = Pipe
+task_of (work.Serve listen connections) = Serve (string_bytes listen) connections
 task_of (work.Night scheduled) = Night scheduled
 
 abbrev pub meaning : CommandLine → Line

@@ -1,9 +1,9 @@
 //! The command as clap takes it.
 ghost use Rattle.std.specs.Prelude.{◌≡◌, false, IfOk};
 ghost use Rattle.clap.specs.Walk.{rule_of};
-ghost use Rattle.command_line.specs.Commands.{IsCommandOf, option_rule, required_rule, flag_rule, common_app, pipe_app, night_app, top_app, program_app};
+ghost use Rattle.command_line.specs.Commands.{IsCommandOf, option_rule, required_rule, number_rule, flag_rule, common_app, pipe_app, serve_app, night_app, top_app, links_app, program_app};
 
-use clap::{Arg, ArgAction, Command};
+use clap::{Arg, ArgAction, Command, value_parser};
 use std::alloc::{AllocError, Global};
 
 /// An option that takes a text and has to be there.
@@ -20,6 +20,16 @@ fn optional<'a>(alloc: Global, name: &'a str) -> Arg<'a>
     ensures local { result.global ≡ false }
 {
     Arg::new(alloc, name).long(name)
+}
+
+/// An option that takes a `u32` and may be left out.
+fn number_option<'a>(alloc: Global, name: &'a str) -> Arg<'a>
+    ensures rule { rule_of result ≡ number_rule name.now }
+    ensures local { result.global ≡ false }
+{
+    Arg::new(alloc, name)
+        .long(name)
+        .value_parser(value_parser!(u32))
 }
 
 /// An option that takes nothing.
@@ -46,6 +56,15 @@ fn pipe<'a>(alloc: Global) -> Result<Command<'a>, AllocError>
     subcommand(alloc, "pipe")
 }
 
+/// `serve`.
+fn serve<'a>(alloc: Global) -> Result<Command<'a>, AllocError>
+    ensures { IfOk result (λ c. IsCommandOf serve_app c) }
+{
+    subcommand(alloc, "serve")?
+        .arg(required_option(alloc, "listen"))?
+        .arg(number_option(alloc, "connections"))
+}
+
 /// `night`.
 fn night<'a>(alloc: Global) -> Result<Command<'a>, AllocError>
     ensures { IfOk result (λ c. IsCommandOf night_app c) }
@@ -63,11 +82,18 @@ fn top<'a>(alloc: Global) -> Command<'a>
         .subcommand_required(true)
 }
 
+/// The subcommands that serve links.
+fn links<'a>(alloc: Global) -> Result<Command<'a>, AllocError>
+    ensures { IfOk result (λ c. IsCommandOf links_app c) }
+{
+    top(alloc)
+        .subcommand(pipe(alloc)?)?
+        .subcommand(serve(alloc)?)
+}
+
 /// The program's command, with its subcommands.
 pub(crate) fn program<'a>(alloc: Global) -> Result<Command<'a>, AllocError>
     ensures { IfOk result (λ c. IsCommandOf program_app c) }
 {
-    top(alloc)
-        .subcommand(pipe(alloc)?)?
-        .subcommand(night(alloc)?)
+    links(alloc)?.subcommand(night(alloc)?)
 }

@@ -2,9 +2,9 @@
 ghost use Rattle.std.specs.Prelude.{◌≡◌, None, Some, IfErr, IfOk, map, option_and_then, option_map};
 ghost use Rattle.std.specs.String.{string_bytes};
 ghost use Rattle.clap.specs.Simple.{subcommand_rows_of};
-ghost use Rattle.command_line.specs.Line.{line_in, line_of, meaning, rows_in, task_in, task_of};
+ghost use Rattle.command_line.specs.Line.{line_in, line_of, meaning, rows_in, serve_in, task_in, task_of};
 
-use crate::matches::{flag_in, matches_of, subcommand_in, text_in};
+use crate::matches::{flag_in, matches_of, number_in, subcommand_in, text_in};
 use crate::usage::USAGE;
 use clap::ArgMatches;
 use std::alloc::{AllocError, Global};
@@ -16,8 +16,15 @@ use std::fmt;
 pub enum Work {
     /// Serves one connection over standard input and output.
     Pipe,
+    /// Serves the links that come to an address, several beside each other. Each worker leaves after so many links, if a number is given.
+    Serve {
+        listen: String,
+        connections: Option<u32>,
+    },
     /// Does what is done each night. With `scheduled`, only where the schedule says so.
-    Night { scheduled: bool },
+    Night {
+        scheduled: bool,
+    },
 }
 
 /// The words of a command line, understood.
@@ -58,17 +65,38 @@ impl From<AllocError> for LineFault {
     }
 }
 
+/// What `serve` asks for, by its options.
+fn serve_in(alloc: Global, found: &ArgMatches<'_>) -> Result<Work, LineFault>
+    ensures ok { IfOk result (λ work. serve_in (rows_in found.now) ≡ Some (task_of work)) }
+    ensures none { IfErr result (λ fault. fault ≡ LineFault.NoParse → serve_in (rows_in found.now) ≡ None) }
+{
+    let Some(listen) = text_in(found, "listen") else {
+        return Err(LineFault::NoParse);
+    };
+    let Some(connections) = number_in(found, "connections") else {
+        return Err(LineFault::NoParse);
+    };
+    let listen = String::from_str(alloc, listen)?;
+    Ok(Work::Serve {
+        listen,
+        connections,
+    })
+}
+
 /// What a subcommand asks for, by its name and its options.
-fn work_in(name: &str, found: &ArgMatches<'_>) -> Option<Work>
-    ensures { option_map task_of result ≡ task_in name.now (rows_in found.now) }
+fn work_in(alloc: Global, name: &str, found: &ArgMatches<'_>) -> Result<Work, LineFault>
+    ensures ok { IfOk result (λ work. task_in name.now (rows_in found.now) ≡ Some (task_of work)) }
+    ensures none { IfErr result (λ fault. fault ≡ LineFault.NoParse → task_in name.now (rows_in found.now) ≡ None) }
 {
     if name == "pipe" {
-        Some(Work::Pipe)
+        Ok(Work::Pipe)
+    } else if name == "serve" {
+        serve_in(alloc, found)
     } else if name == "night" {
         let scheduled = flag_in(found, "scheduled");
-        Some(Work::Night { scheduled })
+        Ok(Work::Night { scheduled })
     } else {
-        None
+        Err(LineFault::NoParse)
     }
 }
 
@@ -87,9 +115,7 @@ fn line_in(alloc: Global, name: &str, found: &ArgMatches<'_>) -> Result<CommandL
     ensures ok { IfOk result (λ line. line_in (name.now, rows_in found.now) ≡ Some (meaning line)) }
     ensures none { IfErr result (λ fault. fault ≡ LineFault.NoParse → line_in (name.now, rows_in found.now) ≡ None) }
 {
-    let Some(work) = work_in(name, found) else {
-        return Err(LineFault::NoParse);
-    };
+    let work = work_in(alloc, name, found)?;
     let Some(store) = text_in(found, "store") else {
         return Err(LineFault::NoParse);
     };

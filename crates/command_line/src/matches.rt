@@ -5,7 +5,7 @@ ghost use Rattle.clap.specs.Simple.{subcommand_of, subcommand_rows_of};
 ghost use Rattle.clap.specs.Faults.{fault_of};
 ghost use Rattle.clap.specs.Walk.{first_of};
 ghost use Rattle.command_line.specs.Commands.{program_app};
-ghost use Rattle.command_line.specs.Line.{rows_in, flag_of};
+ghost use Rattle.command_line.specs.Line.{rows_in, flag_of, number_of, number_in};
 
 use crate::commands::program;
 use crate::line::LineFault;
@@ -52,6 +52,29 @@ pub(crate) fn text_in<'a>(found: &ArgMatches<'a>, id: &str) -> Option<&'a str>
     ensures { option_map (λ text. text.now) result ≡ first_of id.now (rows_in found.now) }
 {
     found.get_str(id)
+}
+
+/// The number that a text writes.
+fn number_of(text: &str) -> Option<u32>
+    ensures { result ≡ number_of text.now }
+{
+    match text.parse::<u32>() {
+        Ok(number) => Some(number),
+        Err(_) => None,
+    }
+}
+
+/// The number of an option, and `Some(None)` where the option was left out.
+pub(crate) fn number_in(found: &ArgMatches<'_>, id: &str) -> Option<Option<u32>>
+    ensures { result ≡ number_in id.now (rows_in found.now) }
+{
+    match text_in(found, id) {
+        Some(text) => match number_of(text) {
+            Some(number) => Some(Some(number)),
+            None => None,
+        },
+        None => Some(None),
+    }
 }
 
 /// Whether a flag is set: clap then keeps the text `true` for it.

@@ -8,7 +8,7 @@ struct Taken {
     says: &'static str,
 }
 
-static TAKEN: [Taken; 14] = [
+static TAKEN: [Taken; 20] = [
     Taken {
         words: "b pipe --store S",
         says: "Pipe S None",
@@ -46,6 +46,30 @@ static TAKEN: [Taken; 14] = [
         says: "Pipe S Some(\"F\")",
     },
     Taken {
+        words: "b serve --store S --listen A",
+        says: "Serve { listen: \"A\", connections: None } S None",
+    },
+    Taken {
+        words: "b serve --listen=127.0.0.1:8080 --settings F --connections 4 --store S",
+        says: "Serve { listen: \"127.0.0.1:8080\", connections: Some(4) } S Some(\"F\")",
+    },
+    Taken {
+        words: "b serve --store S --listen A --connections 0",
+        says: "Serve { listen: \"A\", connections: Some(0) } S None",
+    },
+    Taken {
+        words: "b serve --store S --listen A --connections 4294967295",
+        says: "Serve { listen: \"A\", connections: Some(4294967295) } S None",
+    },
+    Taken {
+        words: "b serve --store S --listen A --connections +4",
+        says: "Serve { listen: \"A\", connections: Some(4) } S None",
+    },
+    Taken {
+        words: "b serve --store S --listen A --connections 004",
+        says: "Serve { listen: \"A\", connections: Some(4) } S None",
+    },
+    Taken {
         words: "b night --store S",
         says: "Night { scheduled: false } S None",
     },
@@ -67,7 +91,7 @@ static TAKEN: [Taken; 14] = [
     },
 ];
 
-static REFUSED: [&str; 33] = [
+static REFUSED: [&str; 44] = [
     "b",
     "b frob",
     "b frob --store S",
@@ -101,6 +125,17 @@ static REFUSED: [&str; 33] = [
     "b pipe -store S",
     "b --store S pipe",
     "b pipe night --store S",
+    "b serve --store S",
+    "b serve --listen A",
+    "b serve --store S --listen",
+    "b serve --store S --listen A --listen B",
+    "b serve --store S --listen A --connections",
+    "b serve --store S --listen A --connections 4 --connections 4",
+    "b serve --store S --listen A --connections 4294967296",
+    "b serve --store S --listen A --connections -5",
+    "b serve --store S --listen A --connections=",
+    "b serve --store S --listen A --connections 4x",
+    "b pipe --store S --listen A",
 ];
 
 fn words_of(alloc: Global, line: &str) -> Result<Vec<String>, AllocError> {

@@ -9,7 +9,7 @@ use std::alloc::{AllocError, Global};
 
 /// How the program is called.
 pub const USAGE: &str =
-    "usage: backup_server pipe --store DIR [--settings FILE]\n       backup_server night [--scheduled] --store DIR [--settings FILE]";
+    "usage: backup_server pipe --store DIR [--settings FILE]\n       backup_server serve --listen ADDR [--connections N] --store DIR [--settings FILE]\n       backup_server night [--scheduled] --store DIR [--settings FILE]";
 
 /// clap's own message of what is wrong in the words, and nothing of words that are a line.
 fn message_of(alloc: Global, words: &[String]) -> Result<String, AllocError> {
