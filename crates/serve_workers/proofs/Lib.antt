@@ -1,0 +1,3 @@
+mod SeatedLaws
+mod Sent
+mod WorkersLaws

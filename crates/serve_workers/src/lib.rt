@@ -1,0 +1,18 @@
+//! Workers at doors of their own, who serve one store beside each other.
+//!
+//! ```text
+//! let workers = vec![in alloc; Worker { door, clock, gate }]?;
+//! match serve_workers(rt, alloc, store, workers, &defaults) {
+//!     Ok(served) => served.store,
+//!     Err(failed) => failed.value.store,
+//! }
+//! ```
+#![tactic(auto)]
+
+mod seating;
+mod serving;
+#[cfg(test)]
+mod tests;
+
+pub use serve_doors::Worker;
+pub use serving::{StoreAndWorkers, serve_workers};
