@@ -1,9 +1,8 @@
 //! Stops of the machine, and files that were altered.
 
-use crate::ends::{Case, QUIET, Want, disk_of, expect_run_over, run_over};
+use crate::ends::{Case, Machine, QUIET, Want, disk_of, expect_run_over, run_over};
 use crate::files::{COMMIT, COMMITTED};
 use disk_trait::{Choice, Disk, FileId, MemoryDisk, PoolId};
-use std::alloc::Global;
 use std::test::Fail;
 
 /// Asks for the backups, as the last request.
@@ -17,7 +16,7 @@ const LISTS: [&str; 3] = [
 ];
 
 /// The disk after the first commit.
-fn committed(alloc: Global) -> Result<MemoryDisk, Fail> {
+fn committed(rt: &impl Machine) -> Result<MemoryDisk, Fail> {
     let case = Case {
         input: &[COMMIT],
         ..QUIET
@@ -27,16 +26,16 @@ fn committed(alloc: Global) -> Result<MemoryDisk, Fail> {
         said: "",
         output: &[COMMITTED],
     };
-    expect_run_over(alloc, &case, disk_of(alloc, &case)?, &want)
+    expect_run_over(rt, &case, disk_of(rt.alloc(), &case)?, &want)
 }
 
 /// Fails if a run on this disk doesn't end with 0, or gives none of the three answers.
-fn expect_one_of_three(alloc: Global, disk: MemoryDisk) -> Result<(), Fail> {
+fn expect_one_of_three(rt: &impl Machine, disk: MemoryDisk) -> Result<(), Fail> {
     let case = Case {
         input: &[LIST],
         ..QUIET
     };
-    let done = run_over(alloc, &case, disk)?;
+    let done = run_over(rt, &case, disk)?;
     for text in LISTS {
         if done.link.output() == text.as_bytes() && done.note.status() == 0 {
             return Ok(());
@@ -48,12 +47,11 @@ fn expect_one_of_three(alloc: Global, disk: MemoryDisk) -> Result<(), Fail> {
 /// Whatever a stop at a moment of the first run leaves, the next one finds no host, a host without backups, or the backup.
 #[test]
 fn each_stop_leaves_what_was_before_or_after(rt: HostRuntime) -> Result<(), Fail> {
-    let alloc = rt.alloc();
-    let disk = committed(alloc)?;
+    let disk = committed(&rt)?;
     for moment in 0..disk.moment() {
         for choice in [Choice::Written, Choice::Absent] {
-            let image = disk.image(alloc, moment, choice)?;
-            expect_one_of_three(alloc, image)?;
+            let image = disk.image(rt.alloc(), moment, choice)?;
+            expect_one_of_three(&rt, image)?;
         }
     }
     Ok(())
@@ -71,8 +69,7 @@ const DAMAGED: &str =
 
 #[test]
 fn an_altered_content_is_not_given(rt: HostRuntime) -> Result<(), Fail> {
-    let alloc = rt.alloc();
-    let mut disk = committed(alloc)?;
+    let mut disk = committed(&rt)?;
     disk.write(HELLO, b"hallo")?;
     let case = Case {
         input: &[crate::files::READ],
@@ -83,6 +80,6 @@ fn an_altered_content_is_not_given(rt: HostRuntime) -> Result<(), Fail> {
         said: "",
         output: &[DAMAGED],
     };
-    let _ = expect_run_over(alloc, &case, disk, &want)?;
+    let _ = expect_run_over(&rt, &case, disk, &want)?;
     Ok(())
 }

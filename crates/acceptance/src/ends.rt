@@ -1,11 +1,22 @@
 //! A run of the program over ends in memory.
 
 use admin_cli::{Done, run};
+use caller_doors::ListDoor;
 use disk_trait::{Disk, DiskRoom, FileId, MemoryDisk};
 use pool_name::Md5Namer;
-use std::alloc::{AllocError, Global};
+use std::alloc::{AllocError, AllocGlobal, Global};
+use std::sync::Wait;
 use std::test::Fail;
-use stream_traits::{FixedClock, MemoryLink, Moment};
+use std::thread::Threads;
+use stream_traits::{FixedClock, MemoryLink, Moment, OpenGate};
+
+/// The allocator, the threads and the waiting that a run takes.
+pub trait Machine: AllocGlobal + Threads + Wait + Sync {}
+
+impl<R: AllocGlobal + Threads + Wait + Sync> Machine for R {}
+
+/// How a run over ends in memory ended, which has no workers.
+pub type Ran = Done<MemoryDisk, MemoryLink, ListDoor, FixedClock, OpenGate>;
 
 /// What a run is made of.
 #[derive(Clone, Copy)]
@@ -82,16 +93,14 @@ pub fn new_clock() -> FixedClock {
     FixedClock::new(Moment::new(1_700_000_000).unwrap_or(Moment::first()))
 }
 
-/// Runs a case over this disk.
-pub fn run_over(
-    alloc: Global,
-    case: &Case<'_>,
-    disk: MemoryDisk,
-) -> Result<Done<MemoryDisk, MemoryLink>, AllocError> {
+/// Runs a case over this disk, without workers.
+pub fn run_over(rt: &impl Machine, case: &Case<'_>, disk: MemoryDisk) -> Result<Ran, AllocError> {
+    let alloc = rt.alloc();
     let words = words_of(alloc, case.line)?;
     let link = link_of(alloc, case)?;
     let mut clock = new_clock();
     Ok(run(
+        rt,
         alloc,
         words.as_slice(),
         case.settings.as_bytes(),
@@ -99,15 +108,12 @@ pub fn run_over(
         Md5Namer,
         &mut clock,
         link,
+        Vec::new(alloc),
     ))
 }
 
 /// Whether a run ended as it was to.
-fn is_wanted<D: Disk>(
-    alloc: Global,
-    done: &Done<D, MemoryLink>,
-    want: &Want<'_>,
-) -> Result<bool, AllocError> {
+fn is_wanted(alloc: Global, done: &Ran, want: &Want<'_>) -> Result<bool, AllocError> {
     let note = done.note;
     let said = format!(in alloc; "{note}")?;
     let wanted = joined(alloc, want.output)?;
@@ -116,11 +122,7 @@ fn is_wanted<D: Disk>(
 }
 
 /// Fails where a run didn't end as it was to.
-pub fn expect_end<D: Disk>(
-    alloc: Global,
-    done: &Done<D, MemoryLink>,
-    want: &Want<'_>,
-) -> Result<(), Fail> {
+pub fn expect_end(alloc: Global, done: &Ran, want: &Want<'_>) -> Result<(), Fail> {
     if is_wanted(alloc, done, want) == Ok(true) {
         return Ok(());
     }
@@ -132,20 +134,20 @@ pub fn expect_end<D: Disk>(
 
 /// Runs a case over this disk, fails where it doesn't end so, and gives the disk back.
 pub fn expect_run_over(
-    alloc: Global,
+    rt: &impl Machine,
     case: &Case<'_>,
     disk: MemoryDisk,
     want: &Want<'_>,
 ) -> Result<MemoryDisk, Fail> {
-    let done = run_over(alloc, case, disk)?;
-    expect_end(alloc, &done, want)?;
+    let done = run_over(rt, case, disk)?;
+    expect_end(rt.alloc(), &done, want)?;
     Ok(done.disk)
 }
 
 /// Runs a case, fails where it doesn't end so, and gives the disk back.
-pub fn expect_run(alloc: Global, case: &Case<'_>, want: &Want<'_>) -> Result<MemoryDisk, Fail> {
-    let disk = disk_of(alloc, case)?;
-    expect_run_over(alloc, case, disk, want)
+pub fn expect_run(rt: &impl Machine, case: &Case<'_>, want: &Want<'_>) -> Result<MemoryDisk, Fail> {
+    let disk = disk_of(rt.alloc(), case)?;
+    expect_run_over(rt, case, disk, want)
 }
 
 /// Fails where a file of the disk doesn't hold these bytes, or isn't absent where there are none.

@@ -1,21 +1,20 @@
 //! Disks and links that fail.
 
-use crate::ends::{Case, QUIET, Want, disk_of, expect_run, run_over};
+use crate::ends::{Case, Machine, QUIET, Want, disk_of, expect_run, run_over};
 use crate::files::{COMMIT, READ};
-use std::alloc::Global;
 use std::test::Fail;
 
 /// Fails where a run on whose disk this call fails ends otherwise than by its status, or leaves a disk that can't be opened.
 /// Returns whether the disk failed in the run.
-fn ends_by_its_status(alloc: Global, disk_fails: u64) -> Result<bool, Fail> {
+fn ends_by_its_status(rt: &impl Machine, disk_fails: u64) -> Result<bool, Fail> {
     let case = Case {
         input: &[COMMIT, READ],
         disk_fails,
         ..QUIET
     };
-    let done = run_over(alloc, &case, disk_of(alloc, &case)?)?;
+    let done = run_over(rt, &case, disk_of(rt.alloc(), &case)?)?;
     let status = done.note.status();
-    let again = run_over(alloc, &QUIET, done.disk)?;
+    let again = run_over(rt, &QUIET, done.disk)?;
     if (status != 0 && status != 4) || again.note.status() != 0 {
         return Err(Fail::new(format_args!(
             "call {disk_fails}: status {status}, then {:?}",
@@ -31,7 +30,7 @@ fn ends_by_its_status(alloc: Global, disk_fails: u64) -> Result<bool, Fail> {
 fn a_fault_of_the_disk_has_its_status(rt: HostRuntime) -> Result<(), Fail> {
     let mut halted = 0u32;
     for disk_fails in 0..CALLS {
-        if ends_by_its_status(rt.alloc(), disk_fails)? {
+        if ends_by_its_status(&rt, disk_fails)? {
             halted = halted.saturating_add(1);
         }
     }
@@ -53,7 +52,7 @@ const ADDED: &str =
 
 /// Fails where two requests over such a link don't end with its fault and this output.
 fn expect_link_fault(
-    alloc: Global,
+    rt: &impl Machine,
     link_fails: u64,
     link_room: usize,
     output: &[&str],
@@ -69,7 +68,7 @@ fn expect_link_fault(
         said: "link failed",
         output,
     };
-    let _ = expect_run(alloc, &case, &want)?;
+    let _ = expect_run(rt, &case, &want)?;
     Ok(())
 }
 
@@ -93,7 +92,7 @@ const LINK_FAULTS: [(u64, usize, &[&str]); 7] = [
 #[test]
 fn a_fault_of_the_link_has_its_status(rt: HostRuntime) -> Result<(), Fail> {
     for (link_fails, link_room, output) in LINK_FAULTS {
-        expect_link_fault(rt.alloc(), link_fails, link_room, output)?;
+        expect_link_fault(&rt, link_fails, link_room, output)?;
     }
     Ok(())
 }

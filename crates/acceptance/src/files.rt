@@ -100,7 +100,7 @@ fn a_committed_file_is_given_back(rt: HostRuntime) -> Result<(), Fail> {
         said: "",
         output: &[COMMITTED, CONTENT],
     };
-    let mut disk = expect_run(alloc, &case, &want)?;
+    let mut disk = expect_run(&rt, &case, &want)?;
     expect_file(alloc, &mut disk, HELLO, Some(b"hello"))?;
     expect_file(alloc, &mut disk, FileId::Table(0, 0), Some(TABLE))
 }
@@ -108,7 +108,6 @@ fn a_committed_file_is_given_back(rt: HostRuntime) -> Result<(), Fail> {
 /// The second run opens the store that the first one left: its sessions are of the next epoch.
 #[test]
 fn a_second_run_reads_what_the_first_committed(rt: HostRuntime) -> Result<(), Fail> {
-    let alloc = rt.alloc();
     let first = Case {
         input: &[COMMIT],
         ..QUIET
@@ -118,7 +117,7 @@ fn a_second_run_reads_what_the_first_committed(rt: HostRuntime) -> Result<(), Fa
         said: "",
         output: &[COMMITTED],
     };
-    let disk = expect_run(alloc, &first, &committed)?;
+    let disk = expect_run(&rt, &first, &committed)?;
     let second = Case {
         input: &[INCR, READ],
         ..QUIET
@@ -128,7 +127,7 @@ fn a_second_run_reads_what_the_first_committed(rt: HostRuntime) -> Result<(), Fa
         said: "",
         output: &[NEXT_DUMP, CONTENT],
     };
-    let _ = expect_run_over(alloc, &second, disk, &read)?;
+    let _ = expect_run_over(&rt, &second, disk, &read)?;
     Ok(())
 }
 
@@ -145,14 +144,13 @@ fn an_incremental_changes_what_it_says_alone(rt: HostRuntime) -> Result<(), Fail
         said: "",
         output: &[COMMITTED, CHANGED, TOLD, CONTENT],
     };
-    let _ = expect_run(rt.alloc(), &case, &want)?;
+    let _ = expect_run(&rt, &case, &want)?;
     Ok(())
 }
 
 /// A backup goes, and its content with the second cleaning and the sweep.
 #[test]
 fn what_nothing_holds_leaves_the_pool(rt: HostRuntime) -> Result<(), Fail> {
-    let alloc = rt.alloc();
     let case = Case {
         input: &[COMMIT, NIGHT],
         ..QUIET
@@ -162,8 +160,8 @@ fn what_nothing_holds_leaves_the_pool(rt: HostRuntime) -> Result<(), Fail> {
         said: "",
         output: &[COMMITTED, CLEANED],
     };
-    let mut disk = expect_run(alloc, &case, &want)?;
-    expect_file(alloc, &mut disk, HELLO, None)
+    let mut disk = expect_run(&rt, &case, &want)?;
+    expect_file(rt.alloc(), &mut disk, HELLO, None)
 }
 
 /// The same file on a second host, and an empty one.
@@ -195,7 +193,7 @@ fn a_content_of_two_hosts_is_kept_once(rt: HostRuntime) -> Result<(), Fail> {
         said: "",
         output: &[COMMITTED, KEPT_ONCE],
     };
-    let _ = expect_run(rt.alloc(), &case, &want)?;
+    let _ = expect_run(&rt, &case, &want)?;
     Ok(())
 }
 
@@ -211,7 +209,7 @@ fn truncated_put_is_not_stored(rt: HostRuntime) -> Result<(), Fail> {
         said: "input ended inside a request",
         output: &[COMMITTED, SECOND_DUMP],
     };
-    let mut disk = expect_run(alloc, &case, &want)?;
+    let mut disk = expect_run(&rt, &case, &want)?;
     expect_file(alloc, &mut disk, FileId::Table(0, 0), Some(TABLE))?;
     expect_file(alloc, &mut disk, FileId::Table(0, 1), None)
 }
@@ -223,6 +221,6 @@ fn empty_input_ends_quietly(rt: HostRuntime) -> Result<(), Fail> {
         said: "",
         output: &[],
     };
-    let _ = expect_run(rt.alloc(), &QUIET, &want)?;
+    let _ = expect_run(&rt, &QUIET, &want)?;
     Ok(())
 }

@@ -1,9 +1,8 @@
 //! The command `night`: what it does, what it says, and how it ends.
 
-use crate::ends::{Case, QUIET, Want, disk_of, expect_run, expect_run_over, run_over};
+use crate::ends::{Case, Machine, QUIET, Want, disk_of, expect_run, expect_run_over, run_over};
 use crate::files::{COMMIT, COMMITTED};
 use disk_trait::{Disk, FileId};
-use std::alloc::Global;
 use std::test::Fail;
 
 /// The command over an empty link.
@@ -59,7 +58,7 @@ fn a_night_says_what_it_did(rt: HostRuntime) -> Result<(), Fail> {
             said: "",
             output: &[said],
         };
-        let _ = expect_run(rt.alloc(), &case, &want)?;
+        let _ = expect_run(&rt, &case, &want)?;
     }
     Ok(())
 }
@@ -94,7 +93,6 @@ const NIGHTS: [(&str, &str); 4] = [
 /// A content that nothing holds is marked by one night and removed by another, if they clean its bucket.
 #[test]
 fn nights_clean_what_nothing_holds(rt: HostRuntime) -> Result<(), Fail> {
-    let alloc = rt.alloc();
     let first = Case {
         input: &[COMMIT, DELETE],
         ..QUIET
@@ -104,14 +102,14 @@ fn nights_clean_what_nothing_holds(rt: HostRuntime) -> Result<(), Fail> {
         said: "",
         output: &[COMMITTED, DONE],
     };
-    let mut disk = expect_run(alloc, &first, &deleted)?;
+    let mut disk = expect_run(&rt, &first, &deleted)?;
     for (settings, said) in NIGHTS {
         let want = Want {
             status: 0,
             said: "",
             output: &[said],
         };
-        disk = expect_run_over(alloc, &Case { settings, ..NIGHT }, disk, &want)?;
+        disk = expect_run_over(&rt, &Case { settings, ..NIGHT }, disk, &want)?;
     }
     Ok(())
 }
@@ -135,19 +133,18 @@ const DUMPS: &str = "PUT /hosts/pc1 HTTP/1.1\r\nHost: b\r\n\r\n\
 /// Each host is expired, the last one, too.
 #[test]
 fn a_night_expires_each_host(rt: HostRuntime) -> Result<(), Fail> {
-    let alloc = rt.alloc();
     let case = Case {
         settings: "[Rules]\nIncrKeepCnt = 0\nIncrKeepCntMin = 0",
         input: &[DUMPS],
         ..QUIET
     };
-    let done = run_over(alloc, &case, disk_of(alloc, &case)?)?;
+    let done = run_over(&rt, &case, disk_of(rt.alloc(), &case)?)?;
     let want = Want {
         status: 0,
         said: "",
         output: &["night 19675: expired 2, marked 0, unmarked 0, removed 0\n"],
     };
-    let _ = expect_run_over(alloc, &NIGHT, done.disk, &want)?;
+    let _ = expect_run_over(&rt, &NIGHT, done.disk, &want)?;
     Ok(())
 }
 
@@ -175,22 +172,22 @@ fn a_night_says_that_the_link_failed(rt: HostRuntime) -> Result<(), Fail> {
             said: "link failed",
             output: &[said],
         };
-        let _ = expect_run(rt.alloc(), &case, &want)?;
+        let _ = expect_run(&rt, &case, &want)?;
     }
     Ok(())
 }
 
 /// Fails where a night on whose disk this call fails ends otherwise than by its status, says its line after a fault, or leaves a
 /// disk that can't be opened. Returns whether the disk failed in the run.
-fn ends_by_its_status(alloc: Global, disk_fails: u64) -> Result<bool, Fail> {
+fn ends_by_its_status(rt: &impl Machine, disk_fails: u64) -> Result<bool, Fail> {
     let case = Case {
         disk_fails,
         ..NIGHT
     };
-    let done = run_over(alloc, &case, disk_of(alloc, &case)?)?;
+    let done = run_over(rt, &case, disk_of(rt.alloc(), &case)?)?;
     let status = done.note.status();
     let is_said = !done.link.output().is_empty();
-    let again = run_over(alloc, &QUIET, done.disk)?;
+    let again = run_over(rt, &QUIET, done.disk)?;
     if (status != 0 && status != 4) || is_said != (status == 0) || again.note.status() != 0 {
         return Err(Fail::new(format_args!(
             "call {disk_fails}: status {status}, then {:?}",
@@ -204,7 +201,7 @@ fn ends_by_its_status(alloc: Global, disk_fails: u64) -> Result<bool, Fail> {
 fn a_night_ends_by_the_status_of_its_disk(rt: HostRuntime) -> Result<(), Fail> {
     let mut failed = 0u32;
     for disk_fails in 0..24 {
-        if ends_by_its_status(rt.alloc(), disk_fails)? {
+        if ends_by_its_status(&rt, disk_fails)? {
             failed = failed.saturating_add(1);
         }
     }
@@ -216,14 +213,13 @@ fn a_night_ends_by_the_status_of_its_disk(rt: HostRuntime) -> Result<(), Fail> {
 
 #[test]
 fn a_night_names_a_foreign_file(rt: HostRuntime) -> Result<(), Fail> {
-    let alloc = rt.alloc();
-    let mut disk = disk_of(alloc, &NIGHT)?;
+    let mut disk = disk_of(rt.alloc(), &NIGHT)?;
     disk.write(FileId::Head, b"abc")?;
     let want = Want {
         status: 5,
         said: "foreign head",
         output: &[],
     };
-    let _ = expect_run_over(alloc, &NIGHT, disk, &want)?;
+    let _ = expect_run_over(&rt, &NIGHT, disk, &want)?;
     Ok(())
 }

@@ -1,9 +1,10 @@
 //! Requests, words and disks that are refused.
 
-use crate::ends::{Case, QUIET, Want, disk_of, expect_file, expect_run, expect_run_over, words_of};
+use crate::ends::{
+    Case, Machine, QUIET, Want, disk_of, expect_file, expect_run, expect_run_over, words_of,
+};
 use command_line::{CommandLine, LineFault, USAGE, parse};
 use disk_trait::{Disk, FileId};
-use std::alloc::Global;
 use std::test::Fail;
 
 const ADD: &str = "PUT /hosts/pc1 HTTP/1.1\r\nHost: b\r\n\r\n";
@@ -27,7 +28,7 @@ const TOO_LARGE: &str =
 
 /// Fails where a run on this input doesn't end so.
 fn expect_on(
-    alloc: Global,
+    rt: &impl Machine,
     input: &[&str],
     status: u8,
     said: &str,
@@ -38,14 +39,14 @@ fn expect_on(
         said,
         output,
     };
-    let _ = expect_run(alloc, &Case { input, ..QUIET }, &want)?;
+    let _ = expect_run(rt, &Case { input, ..QUIET }, &want)?;
     Ok(())
 }
 
 #[test]
 fn a_bad_head_ends_the_run(rt: HostRuntime) -> Result<(), Fail> {
     expect_on(
-        rt.alloc(),
+        &rt,
         &[ADD, BAD, ADD],
         1,
         "request not understood",
@@ -57,9 +58,9 @@ fn a_bad_head_ends_the_run(rt: HostRuntime) -> Result<(), Fail> {
 fn too_large_a_head_ends_the_run(rt: HostRuntime) -> Result<(), Fail> {
     let text = String::from_utf8(vec![in rt.alloc(); b'x'; 16_383]?)?;
     let short = text.as_str();
-    expect_on(rt.alloc(), &[short], 1, "input ended inside a request", &[])?;
+    expect_on(&rt, &[short], 1, "input ended inside a request", &[])?;
     expect_on(
-        rt.alloc(),
+        &rt,
         &[short, "x"],
         1,
         "request not understood",
@@ -69,7 +70,7 @@ fn too_large_a_head_ends_the_run(rt: HostRuntime) -> Result<(), Fail> {
 
 #[test]
 fn a_host_added_twice_is_refused(rt: HostRuntime) -> Result<(), Fail> {
-    expect_on(rt.alloc(), &[ADD, ADD], 0, "", &[ADDED, EXISTS])
+    expect_on(&rt, &[ADD, ADD], 0, "", &[ADDED, EXISTS])
 }
 
 /// Requests for what isn't there. The first one's name has 64 characters.
@@ -83,11 +84,12 @@ const NOT_FOUND: &str =
 
 #[test]
 fn what_is_absent_keeps_the_connection(rt: HostRuntime) -> Result<(), Fail> {
-    expect_on(rt.alloc(), &[ABSENT, ADD], 0, "", &[NOT_FOUND, ADDED])
+    expect_on(&rt, &[ABSENT, ADD], 0, "", &[NOT_FOUND, ADDED])
 }
 
 /// Fails where words are taken, or the run on them does anything.
-fn expect_usage(alloc: Global, line: &str) -> Result<(), Fail> {
+fn expect_usage(rt: &impl Machine, line: &str) -> Result<(), Fail> {
+    let alloc = rt.alloc();
     let words = words_of(alloc, line)?;
     if !matches!(parse(alloc, words.as_slice()), Err(LineFault::NoParse)) {
         return Err(Fail::new("words were parsed"));
@@ -102,7 +104,7 @@ fn expect_usage(alloc: Global, line: &str) -> Result<(), Fail> {
         said: USAGE,
         output: &[],
     };
-    let mut disk = expect_run(alloc, &case, &want)?;
+    let mut disk = expect_run(rt, &case, &want)?;
     expect_file(alloc, &mut disk, FileId::Head, None)
 }
 
@@ -118,8 +120,13 @@ fn faulty_words_are_refused(rt: HostRuntime) -> Result<(), Fail> {
         "backup_server pipe --store a --zone b",
         "backup_server pipe --store a --scheduled",
         "backup_server night --scheduled",
+        "backup_server serve --store a",
+        "backup_server serve --listen 127.0.0.1:8080",
+        "backup_server serve --store a --listen 127.0.0.1:8080 --connections x",
+        "backup_server serve --store a --listen 127.0.0.1:8080 --scheduled",
+        "backup_server pipe --store a --listen 127.0.0.1:8080",
     ] {
-        expect_usage(rt.alloc(), line)?;
+        expect_usage(&rt, line)?;
     }
     Ok(())
 }
@@ -168,6 +175,6 @@ fn a_head_on_the_disk_is_foreign(rt: HostRuntime) -> Result<(), Fail> {
         said: "foreign head",
         output: &[],
     };
-    let mut disk = expect_run_over(alloc, &case, disk, &want)?;
+    let mut disk = expect_run_over(&rt, &case, disk, &want)?;
     expect_file(alloc, &mut disk, FileId::Head, Some(b"abc"))
 }

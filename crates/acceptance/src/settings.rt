@@ -1,13 +1,15 @@
 //! What the settings file turns, and how a run ends whose settings are refused.
 
-use crate::ends::{Case, QUIET, Want, expect_file, expect_run, expect_run_over};
+use crate::ends::{Case, Machine, QUIET, Want, expect_file, expect_run, expect_run_over};
 use command_line::USAGE;
 use disk_trait::FileId;
-use std::alloc::Global;
 use std::test::Fail;
 
 /// The command `night`.
 const NIGHT: &str = "backup_server night --store store";
+
+/// The command `serve`.
+const SERVE: &str = "backup_server serve --listen 127.0.0.1:8080 --store store";
 
 /// Adds a host, and asks what is due.
 const FIRST: &str =
@@ -63,7 +65,7 @@ fn the_settings_decide_what_is_due(rt: HostRuntime) -> Result<(), Fail> {
             said: "",
             output: &[FIRST_ADDED, due],
         };
-        let _ = expect_run(rt.alloc(), &case, &want)?;
+        let _ = expect_run(&rt, &case, &want)?;
     }
     Ok(())
 }
@@ -71,7 +73,6 @@ fn the_settings_decide_what_is_due(rt: HostRuntime) -> Result<(), Fail> {
 /// A host keeps the rules of the settings under which it was added; the zone is that of the run.
 #[test]
 fn a_host_keeps_the_rules_that_it_was_added_with(rt: HostRuntime) -> Result<(), Fail> {
-    let alloc = rt.alloc();
     let first = Case {
         settings: "[Rules]\nBlackoutGoodCnt = 0",
         input: &[FIRST],
@@ -82,7 +83,7 @@ fn a_host_keeps_the_rules_that_it_was_added_with(rt: HostRuntime) -> Result<(), 
         said: "",
         output: &[FIRST_ADDED, OPEN],
     };
-    let disk = expect_run(alloc, &first, &added)?;
+    let disk = expect_run(&rt, &first, &added)?;
     let second = Case {
         settings: "Zone = \"-06:00\"",
         input: &[SECOND],
@@ -93,7 +94,7 @@ fn a_host_keeps_the_rules_that_it_was_added_with(rt: HostRuntime) -> Result<(), 
         said: "",
         output: &[SECOND_ADDED, BLACKED_OUT, OPEN],
     };
-    let _ = expect_run_over(alloc, &second, disk, &asked)?;
+    let _ = expect_run_over(&rt, &second, disk, &asked)?;
     Ok(())
 }
 
@@ -117,7 +118,7 @@ const REFUSED: [(&str, &str); 8] = [
 
 /// Fails where a run with these settings doesn't end so, or touches the link or the disk.
 fn expect_refused(
-    alloc: Global,
+    rt: &impl Machine,
     line: &str,
     settings: &str,
     status: u8,
@@ -134,15 +135,16 @@ fn expect_refused(
         said,
         output: &[],
     };
-    let mut disk = expect_run(alloc, &case, &want)?;
-    expect_file(alloc, &mut disk, FileId::Head, None)
+    let mut disk = expect_run(rt, &case, &want)?;
+    expect_file(rt.alloc(), &mut disk, FileId::Head, None)
 }
 
 #[test]
 fn bad_settings_open_no_store(rt: HostRuntime) -> Result<(), Fail> {
     for (settings, said) in REFUSED {
-        expect_refused(rt.alloc(), QUIET.line, settings, 7, said)?;
-        expect_refused(rt.alloc(), NIGHT, settings, 7, said)?;
+        expect_refused(&rt, QUIET.line, settings, 7, said)?;
+        expect_refused(&rt, NIGHT, settings, 7, said)?;
+        expect_refused(&rt, SERVE, settings, 7, said)?;
     }
     Ok(())
 }
@@ -150,5 +152,5 @@ fn bad_settings_open_no_store(rt: HostRuntime) -> Result<(), Fail> {
 /// The words are read first.
 #[test]
 fn faulty_words_come_before_bad_settings(rt: HostRuntime) -> Result<(), Fail> {
-    expect_refused(rt.alloc(), "backup_server frob", "Zone", 2, USAGE)
+    expect_refused(&rt, "backup_server frob", "Zone", 2, USAGE)
 }

@@ -1,8 +1,9 @@
 //! Runs and stores in threads.
 
-use crate::ends::{Case, QUIET, Want, disk_of, expect_end, link_of, new_clock, words_of};
+use crate::ends::{Case, Machine, QUIET, Want, disk_of, expect_end, link_of, new_clock, words_of};
 use crate::files::{COMMIT, COMMITTED, CONTENT, READ};
 use admin_cli::{Done, run};
+use caller_doors::ListDoor;
 use disk_trait::{Disk, MemoryDisk};
 use office_model::{Answer, Event, Refusal};
 use office_store::Store;
@@ -10,20 +11,23 @@ use pool_name::Md5Namer;
 use std::alloc::Global;
 use std::test::Fail;
 use std::thread::{Threads, join};
-use stream_traits::{Clock, Link};
+use stream_traits::{Clock, Link, OpenGate};
 
-/// Takes a disk, a clock and a link into a thread, where the program runs over them, and gives back
-/// how it ended.
+/// How a run without workers ended.
+type Alone<D, L, C> = Done<D, L, ListDoor, C, OpenGate>;
+
+/// Takes a disk, a clock and a link into a thread, where the program runs over them without workers, and gives back how it ended.
 fn run_apart<D: Disk + Send + Drop, C: Clock + Drop, L: Link + Drop>(
-    rt: &impl Threads,
-    alloc: Global,
+    rt: &impl Machine,
     words: Vec<String>,
     disk: D,
     mut clock: C,
     link: L,
-) -> Done<D, L> {
+) -> Alone<D, L, C> {
+    let alloc = rt.alloc();
     let work = move || {
         run(
+            rt,
             alloc,
             words.as_slice(),
             &[],
@@ -31,6 +35,7 @@ fn run_apart<D: Disk + Send + Drop, C: Clock + Drop, L: Link + Drop>(
             Md5Namer,
             &mut clock,
             link,
+            Vec::new(alloc),
         )
     };
     let (seen, ()) = join(rt, work, || ());
@@ -53,16 +58,12 @@ fn apply_apart<D: Disk + Send + Drop>(
 }
 
 /// Fails where a run in a thread doesn't end as it was to.
-fn expect_apart(
-    rt: &impl Threads,
-    alloc: Global,
-    case: &Case<'_>,
-    want: &Want<'_>,
-) -> Result<(), Fail> {
+fn expect_apart(rt: &impl Machine, case: &Case<'_>, want: &Want<'_>) -> Result<(), Fail> {
+    let alloc = rt.alloc();
     let words = words_of(alloc, case.line)?;
     let disk = disk_of(alloc, case)?;
     let link = link_of(alloc, case)?;
-    let done = run_apart(rt, alloc, words, disk, new_clock(), link);
+    let done = run_apart(rt, words, disk, new_clock(), link);
     expect_end(alloc, &done, want)
 }
 
@@ -77,7 +78,7 @@ fn a_run_serves_within_a_thread(rt: HostRuntime) -> Result<(), Fail> {
         said: "",
         output: &[COMMITTED, CONTENT],
     };
-    expect_apart(&rt, rt.alloc(), &case, &want)
+    expect_apart(&rt, &case, &want)
 }
 
 /// Asks a store for its hosts, in a thread.

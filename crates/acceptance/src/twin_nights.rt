@@ -1,6 +1,6 @@
 //! Nights over three hosts, by the store and by the office in memory: both say the same of them, and keep the same.
 
-use crate::ends::{Case, QUIET, disk_of, link_of, new_clock, run_over};
+use crate::ends::{Case, Machine, QUIET, disk_of, link_of, new_clock, run_over};
 use browse_http::{Served, serve_connection};
 use disk_trait::MemoryDisk;
 use night_work::night;
@@ -64,7 +64,7 @@ fn requests(alloc: Global) -> Result<String, AllocError> {
 
 /// What the program says to a line and its input, over this disk, which is given back.
 fn told(
-    alloc: Global,
+    rt: &impl Machine,
     line: &str,
     input: &str,
     disk: MemoryDisk,
@@ -75,7 +75,7 @@ fn told(
         input: &[input],
         ..QUIET
     };
-    let done = run_over(alloc, &case, disk)?;
+    let done = run_over(rt, &case, disk)?;
     if done.note.status() != 0 {
         return Err(Fail::new(format_args!("{:?}", done.note)));
     }
@@ -150,12 +150,12 @@ fn nights_of_the_store_are_those_of_the_office(rt: HostRuntime) -> Result<(), Fa
     let alloc = rt.alloc();
     let asked = requests(alloc)?;
     let mut office = TreeOffice::new(alloc, Md5Namer);
-    let (link, mut disk) = told(alloc, QUIET.line, asked.as_str(), disk_of(alloc, &QUIET)?)?;
+    let (link, mut disk) = told(&rt, QUIET.line, asked.as_str(), disk_of(alloc, &QUIET)?)?;
     expect_same(&link, &answered(alloc, &mut office, asked.as_str())?)?;
     for said in SAID {
-        let (link, left) = told(alloc, "backup_server night --store store", "", disk)?;
+        let (link, left) = told(&rt, "backup_server night --store store", "", disk)?;
         expect_night(alloc, &mut office, &link, said)?;
-        let (link, left) = told(alloc, QUIET.line, QUESTIONS, left)?;
+        let (link, left) = told(&rt, QUIET.line, QUESTIONS, left)?;
         expect_same(&link, &answered(alloc, &mut office, QUESTIONS)?)?;
         disk = left;
     }

@@ -1,8 +1,8 @@
 -- A run of `night`, from what the layers below it say.
 --     some_nights      a period of settings isn't 0
 --     does_night, night_complete
-use Rattle.std.specs.Prelude.{◌≤◌, ◌||◌, if◌then◌else◌, option_and_then}
-use Rattle.std.proofs.Common.{◌≡◌, ℕ, zero, suc, ℤ, ◌-◌, ◌^◌, ◌<◌, Bool, true, false, List, [], ◌∷◌, Option, None, Some, Ok, Err, refl, sym, ap, ◌∙◌, subst, inl, inr, arith}
+use Rattle.std.specs.Prelude.{◌||◌, if◌then◌else◌, option_and_then}
+use Rattle.std.proofs.Common.{◌≡◌, ℕ, zero, suc, ℤ, ◌-◌, ◌^◌, ◌<◌, Bool, true, false, List, Option, None, Some, refl, sym, subst, inl, inr, arith}
 use Rattle.toml.specs.Data.{Data}
 use Rattle.fault_counts.specs.Counts.{Rose}
 use Rattle.wake_schedule.specs.Clock.{local_of}
@@ -22,7 +22,7 @@ use Rattle.office_store.specs.declared.port.DirectPort.{DirectPort}
 use Rattle.office_store.specs.Moves.{Moves}
 use Rattle.stream_traits.specs.Seen.{LinkSeen}
 use Rattle.settings_file.specs.declared.read.Settings.{Settings}
-use Rattle.settings_file.specs.Values.{if_nights, number_in, nightly_in}
+use Rattle.settings_file.specs.Values.{if_nights, number_in}
 use Rattle.settings_file.specs.declared.key.Key.TheVariants.{BackupPCNightlyPeriod}
 use Rattle.settings_file.specs.Document.{value_at, nights_in, IsSettings}
 use Rattle.night_work.specs.declared.ends.NightEnd.{NightEnd}
@@ -35,7 +35,7 @@ use Rattle.admin_cli.specs.declared.note.Note.{Note}
 use Rattle.command_line.specs.Line.{Line, Night}
 use Rattle.admin_cli.specs.Command.{AsksFor}
 use Rattle.admin_cli.specs.Nights.{note_of_all, note_of_refused, note_of_night, IsRefusedFor, HasCause, Says, DoesNight}
-use Rattle.admin_cli.specs.Run.{StandsForEither, IsServed, IsComplete}
+use Rattle.admin_cli.specs.Run.{IsServed, IsComplete}
 use Rattle.admin_cli.proofs.RunLaws.{is_served, EndsWell}
 use Rattle.admin_cli.proofs.StopLaws.{later_by, night_stops}
 
@@ -157,10 +157,10 @@ module _ {D : Type 0} (d : DiskGhosts D) (digest_of : List ℕ → List ℕ) (di
       refused_ends a b refusal halted cause m same
   night_ends a b N.Memory failed halted link link' is is' says rose cause m same l same_link = inr (inr (inl refl))
 
-  pub night_complete : (line : Option Line) (settings : List ℕ) (link link' : LinkSeen) (moments moments' : Option (List ℕ))
+  pub night_complete : (doors doors' : List ℕ) (line : Option Line) (settings : List ℕ) (link link' : LinkSeen) (moments moments' : Option (List ℕ))
       → DoesNight d digest_of disk disk' line settings link link' moments moments' note
-      → link.faults ≡ linked → link'.faults ≡ linked' → IsComplete d digest_of disk disk' line settings linked linked' note
-  night_complete line settings link link' moments moments' s is is' = λ a b stands said file m same l same_link.
+      → link.faults ≡ linked → link'.faults ≡ linked' → IsComplete d digest_of disk disk' line settings linked linked' doors doors' note
+  night_complete doors doors' line settings link link' moments moments' s is is' = λ a b stands said file m same l same_link calm.
       subst (λ (told : Note). EndsWell d digest_of disk disk' linked linked' note told a b) (sym s.note_is)
       (night_ends a b s.end s.failed s.halted link link' is is' s.says (s.works.moved a b stands).rose (s.cause a b stands)
       m same l same_link)

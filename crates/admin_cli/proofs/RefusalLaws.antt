@@ -1,6 +1,6 @@
 -- What the words and the settings let a run say.
 --     file_of, refused_for_memory      settings that were read are a settings file, which is refused for want of memory alone
---     tells_served, tells_night, tells_refused, tells_unopened      when the statuses 2 and 7 come
+--     tells_served, tells_night, tells_doors, tells_nobody, tells_refused, tells_unopened      when the statuses 2 and 7 come
 use Rattle.std.specs.Prelude.{IsSome, ◌⊎◌}
 use Rattle.std.proofs.Common.{◌≡◌, ℕ, Bool, true, false, List, Option, None, Some, refl, sym, ap, ◌∙◌, subst, inl, inr, arith}
 use Rattle.std.proofs.lemmas.Bool.{false≢true}
@@ -24,6 +24,7 @@ use Rattle.admin_cli.specs.Command.{AsksFor}
 use Rattle.admin_cli.specs.Asked.{IsSettingsFile, note_of_settings, IsRefused, TellsRefusals}
 use Rattle.admin_cli.specs.Nights.{note_of_all, note_of_refused, note_of_night}
 use Rattle.admin_cli.specs.Run.{note_of, note_of_refusal}
+use Rattle.admin_cli.specs.Servers.{note_of_served}
 
 pub none_said : IsSome {T = Line} None → ⊥
 none_said said = false≢true said
@@ -93,6 +94,11 @@ night_other N.NotNow failed halted = all_other failed halted
 night_other (N.Refused refusal) failed halted = refused_other refusal halted
 night_other N.Memory failed halted = other NoMemory 6 refl (λ e. omega (arith, e)) (λ e. omega (arith, e))
 
+doors_other : (failed halted : Bool) → IsOther (note_of_served failed halted)
+doors_other true halted = other (note_of_served true halted) 3 refl (λ e. omega (arith, e)) (λ e. omega (arith, e))
+doors_other false true = other (note_of_served false true) 4 refl (λ e. omega (arith, e)) (λ e. omega (arith, e))
+doors_other false false = other (note_of_served false false) 0 refl (λ e. omega (arith, e)) (λ e. omega (arith, e))
+
 unopened_other : (refusal : OpenRefusal) → IsOther (note_of_refusal refusal)
 unopened_other (O.Foreign file found) = other (note_of_refusal (O.Foreign file found)) 5 refl (λ e. omega (arith, e)) (λ e. omega (arith, e))
 unopened_other O.EpochsSpent = other (note_of_refusal O.EpochsSpent) 5 refl (λ e. omega (arith, e)) (λ e. omega (arith, e))
@@ -119,6 +125,17 @@ pub tells_night : (line : Option Line) (settings : List ℕ) (read : Settings) (
     → IsSome line → IsSettings settings read → note ≡ note_of_night end failed halted → TellsRefusals line settings note
 tells_night line settings read note end failed halted said is note_is =
     tells_understood line settings note said (file_of settings read is) (subst IsOther (sym note_is) (night_other end failed halted))
+
+pub tells_doors : (line : Option Line) (settings : List ℕ) (read : Settings) (note : Note) (failed halted : Bool)
+    → IsSome line → IsSettings settings read → note ≡ note_of_served failed halted → TellsRefusals line settings note
+tells_doors line settings read note failed halted said is note_is =
+    tells_understood line settings note said (file_of settings read is) (subst IsOther (sym note_is) (doors_other failed halted))
+
+pub tells_nobody : (line : Option Line) (settings : List ℕ) (read : Settings) (note : Note)
+    → IsSome line → IsSettings settings read → note ≡ NoMemory → TellsRefusals line settings note
+tells_nobody line settings read note said is note_is =
+    tells_understood line settings note said (file_of settings read is)
+    (subst IsOther (sym note_is) (other NoMemory 6 refl (λ e. omega (arith, e)) (λ e. omega (arith, e))))
 
 pub tells_unopened : (line : Option Line) (settings : List ℕ) (note : Note) (refusal : OpenRefusal)
     → IsSome line → IsSettingsFile settings → note ≡ note_of_refusal refusal → TellsRefusals line settings note

@@ -1,10 +1,10 @@
 -- A run of `pipe`, and one that opened no store, from what the layers below it say.
 --     is_served      the calls lead from the disk that came in to that handed back
---     serves, refuses_early, refuses
+--     serves, refuses_early, is_cause, refuses
 --     serves_complete, refused_complete, refused_tells      how such runs end
-use Rattle.std.specs.Prelude.{◌≤◌, IsSome, ◌||◌, ◌⊎◌}
+use Rattle.std.specs.Prelude.{IsSome, ◌||◌, ◌⊎◌}
 use Rattle.std.proofs.Common.{◌≡◌, ℕ, ◌-◌, ◌^◌, ◌<◌, Bool, true, false, List, Option, None, Some, refl, sym, ap, ◌∙◌, subst, inl, inr, arith}
-use Rattle.fault_counts.specs.Counts.{Rose, Counted}
+use Rattle.fault_counts.specs.Counts.{Rose}
 use Rattle.disk_trait.specs.declared.disk.Disk.{Ghosts as DiskGhosts}
 use Rattle.disk_trait.specs.Files.{Files}
 use Rattle.disk_trait.specs.Images.{Leaves, leaves_then, leaves_wider}
@@ -12,7 +12,7 @@ use Rattle.pool_name.specs.declared.namer.Namer.{Ghosts as NamerGhosts}
 use Rattle.journal_view.specs.Found.{Finds}
 use Rattle.journal_view.specs.FoundLaws.{finds_wider}
 use Rattle.office_model.specs.Office.{Office, reopened}
-use Rattle.office_model.specs.Step.{Call, State, Running}
+use Rattle.office_model.specs.Step.{Call, Running}
 use Rattle.store_opening.specs.declared.fault.OpenRefusal.{OpenRefusal}
 use Rattle.store_opening.specs.declared.fault.OpenRefusal.TheVariants as O
 use Rattle.store_opening.specs.Begins.{MayLeave}
@@ -29,12 +29,12 @@ use Rattle.browse_http.specs.declared.end.End.{End}
 use Rattle.browse_http.specs.declared.end.End.TheVariants.{Ended, Truncated, BadRequest, LinkFault, Memory}
 use Rattle.browse_http.specs.Talk.{ServesLink, calls_of}
 use Rattle.admin_cli.specs.declared.note.Note.{Note}
-use Rattle.admin_cli.specs.declared.note.Note.TheVariants.{NoMemory, EpochsSpent}
+use Rattle.admin_cli.specs.declared.note.Note.TheVariants.{EpochsSpent}
 use Rattle.admin_cli.specs.Statuses.{status_of}
 use Rattle.command_line.specs.Line.{Line, Task, Pipe}
 use Rattle.admin_cli.specs.Command.{AsksFor}
 use Rattle.admin_cli.specs.Asked.{IsSettingsFile, defaults_of, IsRefused, TellsRefusals}
-use Rattle.admin_cli.specs.Run.{note_of, note_of_refusal, StandsForEither, IsServed, Serves, IsUnopened, IsNotOpened, Refuses, IsComplete}
+use Rattle.admin_cli.specs.Run.{note_of, note_of_refusal, StandsForEither, IsServed, Serves, IsUnopened, IsNotOpened, IsCause, Refuses, IsComplete}
 use Rattle.admin_cli.proofs.RefusalLaws.{none_said, said_task, file_of, refused_for_memory, tells_refused, tells_unopened}
 
 module _ {D N S : Type 0} {d : DiskGhosts D} {n : NamerGhosts N S} (disk : D) (store store' : Store D N S d n)
@@ -131,18 +131,24 @@ refuses_early d digest_of disk line settings link moments note is =
     record { cause = inl (is, refl); untouched = refl; unasked = refl }
 
 -- no store was opened
+pub is_cause : {D : Type 0} (d : DiskGhosts D) (digest_of : List ℕ → List ℕ) (disk disk' : D) (line : Option Line) (settings : List ℕ)
+    (task : Task) (read : Settings) (refusal : OpenRefusal) (note : Note)
+    → AsksFor task line → IsSettings settings read → note ≡ note_of_refusal refusal
+    → IsUnopened d digest_of disk disk' refusal → IsCause d digest_of disk disk' line settings note
+is_cause d digest_of disk disk' line settings task read refusal note asked is_read note_is is = inr (record {
+  asked = said_task line task asked;
+  read = file_of settings read is_read;
+  refusal = refusal;
+  note_is = note_is;
+  unopened = is;
+})
+
 pub refuses : {D : Type 0} (d : DiskGhosts D) (digest_of : List ℕ → List ℕ) (disk disk' : D) (line : Option Line) (settings : List ℕ)
     (task : Task) (read : Settings) (link : LinkSeen) (moments : Option (List ℕ)) (refusal : OpenRefusal) (note : Note)
     → AsksFor task line → IsSettings settings read → note ≡ note_of_refusal refusal
     → IsUnopened d digest_of disk disk' refusal → Refuses d digest_of disk disk' line settings link link moments moments note
 refuses d digest_of disk disk' line settings task read link moments refusal note asked is_read note_is is = record {
-  cause = inr (record {
-    asked = said_task line task asked;
-    read = file_of settings read is_read;
-    refusal = refusal;
-    note_is = note_is;
-    unopened = is;
-  });
+  cause = is_cause d digest_of disk disk' line settings task read refusal note asked is_read note_is is;
   untouched = refl;
   unasked = refl;
 }
@@ -184,18 +190,18 @@ module _ {D : Type 0} (d : DiskGhosts D) (digest_of : List ℕ → List ℕ) (di
   early_complete a b (Some line) settings is said file =
       inr (inr (inl (ap status_of (is.1 ∙ refused_for_memory settings is.0 file is.2))))
 
-  pub refused_complete : (line : Option Line) (settings : List ℕ)
+  pub refused_complete : (doors doors' : List ℕ) (line : Option Line) (settings : List ℕ)
       → (IsRefused line settings note × (disk' ≡ disk)) ⊎ IsNotOpened d digest_of disk disk' line settings note
-      → IsComplete d digest_of disk disk' line settings linked linked' note
-  refused_complete line settings (inl early) = λ a b stands said file m same l same_link.
+      → IsComplete d digest_of disk disk' line settings linked linked' doors doors' note
+  refused_complete doors doors' line settings (inl early) = λ a b stands said file m same l same_link calm.
       early_complete a b line settings early.0 said file
-  refused_complete line settings (inr at) = λ a b stands said file m same l same_link.
+  refused_complete doors doors' line settings (inr at) = λ a b stands said file m same l same_link calm.
       subst (λ (told : Note). EndsWell told a b) (sym at.note_is) (unopened_complete a b at.refusal stands at.unopened m same)
 
-  pub serves_complete : (line : Option Line) (settings : List ℕ) (link link' : LinkSeen) (moments moments' : Option (List ℕ))
+  pub serves_complete : (doors doors' : List ℕ) (line : Option Line) (settings : List ℕ) (link link' : LinkSeen) (moments moments' : Option (List ℕ))
       → Serves d digest_of disk disk' line settings link link' moments moments' note
-      → link.faults ≡ linked → link'.faults ≡ linked' → IsComplete d digest_of disk disk' line settings linked linked' note
-  serves_complete line settings link link' moments moments' s is is' = λ a b stands said file m same l same_link.
+      → link.faults ≡ linked → link'.faults ≡ linked' → IsComplete d digest_of disk disk' line settings linked linked' doors doors' note
+  serves_complete doors doors' line settings link link' moments moments' s is is' = λ a b stands said file m same l same_link calm.
       subst (λ (told : Note). EndsWell told a b) (sym s.note_is)
       (served_complete a b s.end s.halted
       (λ e. subst (λ (k : ℕ). Rose k linked') is (subst (λ (k : ℕ). Rose link.faults k) is' (s.talk.counted.rose e)))

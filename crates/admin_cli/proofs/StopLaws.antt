@@ -1,8 +1,8 @@
 -- Why a night of a store at work stops: no call of it breaks a rule, since its hosts are those of the office, and stay.
 --     later_by, night_stops
-use Rattle.std.specs.Prelude.{◌+◌, nat_le, bytes_eq, slice_get, slice_set, map, count_by, ◌⊎◌}
-use Rattle.std.specs.List.{All, filter, range_with_len}
-use Rattle.std.proofs.Common.{◌≡◌, ℕ, zero, suc, ℤ, ◌<◌, ◌≤◌, Bool, true, false, List, [], ◌∷◌, ◌++◌, length, Option, None, Some, Ok, Err, refl, sym, ap, ◌∙◌, subst, inl, inr, arith}
+use Rattle.std.specs.Prelude.{nat_le, bytes_eq, slice_get, slice_set, map, count_by, ◌⊎◌}
+use Rattle.std.specs.List.{All, range_with_len}
+use Rattle.std.proofs.Common.{◌≡◌, ℕ, zero, suc, ℤ, ◌<◌, ◌≤◌, Bool, true, false, List, [], ◌∷◌, ◌++◌, Some, Ok, Err, refl, sym, ap, ◌∙◌, subst, inl, inr, arith}
 use Rattle.std.proofs.lemmas.Bool.Decides.{nat_tests}
 use Rattle.std.proofs.lemmas.List.Elements.{All-nil, All-cons, All-head, All-tail, All-append, All-map, All-filter, All-weaker}
 use Rattle.std.proofs.lemmas.List.FromFn.{length-range_with_len, get_or-range_with_len}
@@ -18,10 +18,10 @@ use Rattle.office_model.specs.declared.refusal.Refusal.TheVariants as R
 use Rattle.office_model.specs.declared.refusal.BrokenRule.TheVariants.{BadBucket}
 use Rattle.office_model.specs.Meaning.{Carried, Reply, Judged, breaks, ◌>>◌}
 use Rattle.office_model.specs.Office.{Office, Host, Names}
-use Rattle.office_model.specs.Parts.{At, host_at}
+use Rattle.office_model.specs.Parts.{host_at}
 use Rattle.office_model.specs.Places.{position-found, position-some}
 use Rattle.office_model.specs.Step.{Call, State, Running, Halted, IsStep, meaning_of}
-use Rattle.office_model.specs.History.{Entry, GoesOn, IsUndamaged, IsHistory, calls_of, last_faults}
+use Rattle.office_model.specs.History.{Entry, IsUndamaged, IsHistory, calls_of, last_faults}
 use Rattle.office_model.specs.events.Hosts.{names as names_in}
 use Rattle.office_model.specs.events.Expire.{named_of, without_named}
 use Rattle.browse_http.specs.Scripts.{FollowsAfter, Follows}

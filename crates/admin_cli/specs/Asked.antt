@@ -2,7 +2,7 @@
 --     IsSettingsFile      the bytes are a settings file
 --     IsAsked, IsRefused      the words and the settings were understood; they were refused
 --     TellsRefusals      when the statuses 2 and 7 come
-use Rattle.std.specs.Prelude.{◌≡◌, ℕ, Bool, false, List, IsUtf8, Option, None, Some, IsSome, ◌⊎◌}
+use Rattle.std.specs.Prelude.{◌≡◌, ℕ, false, List, IsUtf8, Option, None, Some, IsSome, ◌⊎◌}
 use Rattle.toml.specs.Data.{Members}
 use Rattle.toml.specs.Parse.{parse_document}
 use Rattle.settings_file.specs.declared.read.Settings.{Settings}

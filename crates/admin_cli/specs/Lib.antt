@@ -2,4 +2,5 @@ pub mod Asked
 pub mod Command
 pub mod Nights
 pub mod Run
+pub mod Servers
 pub mod Statuses

@@ -3,7 +3,7 @@
 --     HasCause      why a night of a store at work is refused
 --     Says      what is said on the link
 --     DoesNight      the store was opened, and the night's calls were made
---     Runs      what the program promises of a run
+--     RunsOnLink      what the program promises of a run over the one link
 use Rattle.std.specs.Prelude.{◌≡◌, ℕ, ◌≤◌, Bool, true, false, if◌then◌else◌, List, Option, None, Some, ◌⊎◌}
 use Rattle.fault_counts.specs.Counts.{Rose, Counted}
 use Rattle.disk_trait.specs.declared.disk.Disk.{Ghosts as DiskGhosts}
@@ -86,10 +86,10 @@ module _ {D : Type 0} (d : DiskGhosts D) (digest_of : List ℕ → List ℕ) whe
     pub later : d.fault_count disk ≤ d.fault_count disk'
     pub note_is : note ≡ note_of_night end failed halted
 
-  -- the command was carried out, or no store was opened
-  abbrev pub Runs : (disk disk' : D) → Option Line → (settings : List ℕ) → (link link' : LinkSeen) → (moments moments' : Option (List ℕ))
+  -- the command was carried out over the one link, or no store was opened
+  abbrev pub RunsOnLink : (disk disk' : D) → Option Line → (settings : List ℕ) → (link link' : LinkSeen) → (moments moments' : Option (List ℕ))
       → Note → Type 0
-  Runs disk disk' line settings link link' moments moments' note =
+  RunsOnLink disk disk' line settings link link' moments moments' note =
       Serves d digest_of disk disk' line settings link link' moments moments' note
       ⊎ (DoesNight disk disk' line settings link link' moments moments' note
       ⊎ Refuses d digest_of disk disk' line settings link link' moments moments' note)

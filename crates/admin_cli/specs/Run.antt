@@ -3,10 +3,9 @@
 --     IsServed      one legal history of the calls, from one of the offices that the disk stood for, and what the disk is left with
 --     Serves, Refuses      a connection was served; no store was opened
 --     IsComplete      how a run ends if nothing failed
-use Rattle.std.specs.Prelude.{◌≡◌, ℕ, ◌-◌, ◌^◌, ◌<◌, ◌≤◌, Bool, true, false, List, Option, None, Some, IsSome, ◌⊎◌, if◌then◌else◌}
+use Rattle.std.specs.Prelude.{◌≡◌, ℕ, ◌-◌, ◌^◌, ◌<◌, ◌≤◌, Bool, true, false, List, Option, IsSome, ◌⊎◌, if◌then◌else◌}
 use Rattle.fault_counts.specs.Counts.{Rose, Counted}
 use Rattle.disk_trait.specs.declared.disk.Disk.{Ghosts as DiskGhosts}
-use Rattle.disk_trait.specs.Files.{Files}
 use Rattle.disk_trait.specs.Images.{Leaves}
 use Rattle.stream_traits.specs.Seen.{LinkSeen}
 use Rattle.journal_view.specs.Found.{Finds}
@@ -119,10 +118,12 @@ module _ {D : Type 0} (d : DiskGhosts D) (digest_of : List ℕ → List ℕ) whe
     pub untouched : link' ≡ link
     pub unasked : moments' ≡ moments
 
-  -- If the words are a command line, the settings are a settings file, the disk stands for an office, whatever a crash leaves, and neither
-  -- count rose (nor stands at its type's end), the run ended with 0, with 1, for want of memory, or because the office had its last epoch.
-  abbrev pub IsComplete : D → D → Option Line → List ℕ → (linked linked' : ℕ) → Note → Type 0
-  IsComplete disk disk' line settings linked linked' note =
+  -- If the words are a command line, the settings are a settings file, the disk stands for an office, whatever a crash leaves, and no
+  -- count rose (nor does the disk's or the link's stand at its type's end), the run ended with 0, with 1, for want of memory, or because
+  -- the office had its last epoch.
+  abbrev pub IsComplete : D → D → Option Line → List ℕ → (linked linked' : ℕ) → (doors doors' : List ℕ) → Note → Type 0
+  IsComplete disk disk' line settings linked linked' doors doors' note =
       (a b : Office) → StandsForEither disk a b → IsSome line → IsSettingsFile settings
       → d.fault_count disk < 2 ^ 64 - 1 → d.fault_count disk' ≡ d.fault_count disk → linked < 2 ^ 64 - 1 → linked' ≡ linked
+      → doors' ≡ doors
       → (status_of note ≡ 0) ⊎ ((status_of note ≡ 1) ⊎ ((status_of note ≡ 6) ⊎ ((note ≡ EpochsSpent) × HasLast a b)))

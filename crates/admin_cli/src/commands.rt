@@ -3,28 +3,45 @@ ghost use Rattle.std.specs.String.{string_bytes};
 ghost use Rattle.stream_traits.specs.Seen.{seen_of};
 ghost use Rattle.command_line.specs.Line.{line_of};
 ghost use Rattle.admin_cli.specs.Asked.{TellsRefusals};
-ghost use Rattle.admin_cli.specs.Nights.{Runs};
 ghost use Rattle.admin_cli.specs.Run.{IsComplete};
+ghost use Rattle.admin_cli.specs.Servers.{counts_of, Runs};
 
 use crate::asked::{Asked, read_asked};
 use crate::done::Done;
 use crate::nightly::run_night;
 use crate::pipe::serve_pipe;
+use crate::servers::serve_store;
+use caller_doors::Door;
 use command_line::Work;
 use disk_trait::Disk;
 use pool_name::Namer;
+use serve_workers::Worker;
 use std::alloc::Global;
-use stream_traits::{Clock, Faults, Link};
+use std::sync::Wait;
+use std::thread::Threads;
+use stream_traits::{Clock, Faults, Gate, Link};
 
-/// Does what the words ask. The first word is the program's name; `pipe --store DIR [--settings FILE]` serves one connection over
-/// the link from the store on the disk, which a disk without files is, too; `night [--scheduled] --store DIR [--settings FILE]` does
-/// a night's work on it, and says what came of it on the link. The settings are the bytes of the file, and empty without one: a host
+/// Does what the words ask. The first word is the program's name. From the store on the disk, which a disk without files is, too,
+/// `pipe --store DIR [--settings FILE]` serves one connection over the link; `serve --listen ADDR [--connections N]` has all workers
+/// serve the links of their doors beside each other, until each door is closed or failed; and `night [--scheduled]` does a night's
+/// work on it, and says what came of it on the link. The settings are the bytes of the file, and empty without one: a host
 /// that is added has their rules, what is due is decided by their zone's clock, and so are the night's buckets and its time. The words
-/// are read first, then the settings; a disk, a link and a clock whose words or settings are refused are left alone.
+/// are read first, then the settings; a disk, a link, a clock and doors whose words or settings are refused are left alone. Doors serve
+/// nobody but for `serve`, and then the link and the clock are left alone; each worker asks its own clock. A link of a door that fails, or
+/// want of memory in a connection there, ends that connection alone. Without workers `serve` serves nobody and ends.
 ///
 /// After each note but `Usage` and `BadSettings` the disk stands for an office as an event or the opening left it, and can be opened
 /// again.
-pub fn run<D: Disk, N: Namer, C: Clock, L: Link>(
+pub fn run<
+    D: Disk + Drop + Send,
+    N: Namer + Send,
+    C: Clock + Drop,
+    L: Link,
+    T: Door + Drop,
+    G: Gate + Drop,
+    R: Threads + Wait + Sync,
+>(
+    rt: &R,
     alloc: Global,
     words: &[String],
     settings: &[u8],
@@ -32,18 +49,34 @@ pub fn run<D: Disk, N: Namer, C: Clock, L: Link>(
     namer: N,
     clock: &mut C,
     link: L,
-) -> Done<D, L>
-    ensures headline { Runs ⟦<D as Disk>⟧ N.digest_of disk result.disk (line_of (map string_bytes words.now)) settings.now
-        (seen_of ⟦<L as Faults>⟧ link) (seen_of ⟦<L as Faults>⟧ result.link) (C.moments clock.old) (C.moments clock.new) result.note }
+    workers: Vec<Worker<T, C, G>>,
+) -> Done<D, L, T, C, G>
+where
+    N::State: Send,
+    ensures headline { Runs ⟦<D as Disk>⟧ N.digest_of ⟦<T::Link as Faults>⟧ T.coming T.given_back T.faults C.moments
+        disk result.disk (line_of (map string_bytes words.now)) settings.now
+        (seen_of ⟦<L as Faults>⟧ link) (seen_of ⟦<L as Faults>⟧ result.link) (C.moments clock.old) (C.moments clock.new)
+        workers.items result.workers.items result.note }
     ensures refusals { TellsRefusals (line_of (map string_bytes words.now)) settings.now result.note }
     ensures complete { IsComplete ⟦<D as Disk>⟧ N.digest_of disk result.disk (line_of (map string_bytes words.now)) settings.now
-        (L.faults link) (L.faults result.link) result.note }
+        (L.faults link) (L.faults result.link) (counts_of T.faults workers.items) (counts_of T.faults result.workers.items) result.note }
 {
-    do_asked(alloc, words, settings, disk, namer, clock, link)
+    do_asked(
+        rt, alloc, words, settings, disk, namer, clock, link, workers,
+    )
 }
 
 /// Does what the words ask, if they and the settings are understood.
-fn do_asked<D: Disk, N: Namer, C: Clock, L: Link>(
+fn do_asked<
+    D: Disk + Drop + Send,
+    N: Namer + Send,
+    C: Clock + Drop,
+    L: Link,
+    T: Door + Drop,
+    G: Gate + Drop,
+    R: Threads + Wait + Sync,
+>(
+    rt: &R,
     alloc: Global,
     words: &[String],
     settings: &[u8],
@@ -51,18 +84,27 @@ fn do_asked<D: Disk, N: Namer, C: Clock, L: Link>(
     namer: N,
     clock: &mut C,
     link: L,
-) -> Done<D, L>
-    ensures { Runs ⟦<D as Disk>⟧ N.digest_of disk result.disk (line_of (map string_bytes words.now)) settings.now
-        (seen_of ⟦<L as Faults>⟧ link) (seen_of ⟦<L as Faults>⟧ result.link) (C.moments clock.old) (C.moments clock.new) result.note }
+    workers: Vec<Worker<T, C, G>>,
+) -> Done<D, L, T, C, G>
+where
+    N::State: Send,
+    ensures { Runs ⟦<D as Disk>⟧ N.digest_of ⟦<T::Link as Faults>⟧ T.coming T.given_back T.faults C.moments
+        disk result.disk (line_of (map string_bytes words.now)) settings.now
+        (seen_of ⟦<L as Faults>⟧ link) (seen_of ⟦<L as Faults>⟧ result.link) (C.moments clock.old) (C.moments clock.new)
+        workers.items result.workers.items result.note }
 {
     let Asked { work, settings } = match read_asked(alloc, words, settings) {
         Ok(asked) => asked,
-        Err(note) => return Done { note, disk, link },
+        Err(note) => return Done::new(note, disk, link, workers),
     };
     match work {
-        Work::Pipe => serve_pipe(alloc, settings, disk, namer, clock, link),
+        Work::Pipe => serve_pipe(alloc, settings, disk, namer, clock, link).with_workers(workers),
         Work::Night { scheduled } => run_night(
             alloc, &settings, scheduled, disk, namer, clock, link,
-        ),
+        ).with_workers(workers),
+        Work::Serve {
+            listen: _,
+            connections: _,
+        } => serve_store(rt, alloc, settings, disk, namer, workers).with_link(link),
     }
 }

@@ -1,8 +1,8 @@
-//! The command line and its commands over a disk, a clock and a link: `run`, whose clauses are the headline. It knows
+//! The command line and its commands over a disk, a clock, a link and workers at doors: `run`, whose clauses are the headline. It knows
 //! notes with their statuses, and the layers below by their public clauses alone; no bytes of a store's file.
 //!
 //! ```text
-//! let Done { note, disk, link } = run(alloc, &words, settings, disk, namer, &mut clock, link);
+//! let Done { note, disk, link, workers } = run(rt, alloc, &words, settings, disk, namer, &mut clock, link, workers);
 //! ```
 #![tactic(auto)]
 
@@ -12,7 +12,9 @@ mod done;
 mod nightly;
 mod note;
 mod pipe;
+mod servers;
 
 pub use commands::run;
 pub use done::Done;
 pub use note::Note;
+pub use serve_workers::Worker;

@@ -9,7 +9,7 @@ ghost use Rattle.admin_cli.specs.Command.{AsksFor};
 ghost use Rattle.admin_cli.specs.Nights.{note_of_all, note_of_refused, note_of_night, Says, DoesNight};
 ghost use Rattle.admin_cli.specs.Run.{Refuses};
 
-use crate::done::{Done, note_of_refusal};
+use crate::done::{DoneOnLink, note_of_refusal};
 use crate::note::Note;
 use disk_trait::Disk;
 use night_work::{NightEnd, night};
@@ -93,7 +93,7 @@ pub fn run_night<D: Disk, N: Namer, C: Clock, L: Link>(
     namer: N,
     clock: &mut C,
     mut link: L,
-) -> Done<D, L>
+) -> DoneOnLink<D, L>
     requires { 0 < settings.now.period }
     ensures { (line : Option Line) → (bytes : List ℕ) → AsksFor (Night scheduled) line → IsSettings bytes settings.now
         → DoesNight ⟦<D as Disk>⟧ N.digest_of disk result.disk line bytes
@@ -105,7 +105,7 @@ pub fn run_night<D: Disk, N: Namer, C: Clock, L: Link>(
         Ok(store) => store,
         Err((disk, refusal)) => {
             let note = note_of_refusal(&refusal);
-            return Done { note, disk, link };
+            return DoneOnLink { note, disk, link };
         }
     };
     let mut port = DirectPort::new(store);
@@ -121,7 +121,7 @@ pub fn run_night<D: Disk, N: Namer, C: Clock, L: Link>(
     let failed = say(&mut link, &end);
     let store = port.into_store();
     let halted = store.is_halted();
-    Done {
+    DoneOnLink {
         note: note_of_night(&end, failed, halted),
         disk: store.close(),
         link,

@@ -16,6 +16,8 @@ pub enum Note {
     Usage,
     /// The link failed; its count of faults rose.
     LinkFailed,
+    /// A door failed; its count of faults rose.
+    DoorFailed,
     /// The disk failed; its count of faults rose.
     DiskFailed,
     /// This file isn't one of the store's.
@@ -41,7 +43,7 @@ impl Note {
             Note::InputEnded => 1,
             Note::NotUnderstood => 1,
             Note::Usage => 2,
-            Note::LinkFailed => 3,
+            Note::LinkFailed | Note::DoorFailed => 3,
             Note::DiskFailed => 4,
             Note::Foreign(_) | Note::EpochsSpent => 5,
             Note::NoMemory => 6,
@@ -58,6 +60,7 @@ impl fmt::Display for Note {
             Note::NotUnderstood => write!(f, "request not understood"),
             Note::Usage => write!(f, "{USAGE}"),
             Note::LinkFailed => write!(f, "link failed"),
+            Note::DoorFailed => write!(f, "door failed"),
             Note::DiskFailed => write!(f, "disk failed"),
             Note::Foreign(file) => write!(f, "foreign {file}"),
             Note::EpochsSpent => write!(f, "epochs spent"),

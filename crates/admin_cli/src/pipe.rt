@@ -6,7 +6,7 @@ ghost use Rattle.admin_cli.specs.Command.{AsksFor};
 ghost use Rattle.admin_cli.specs.Run.{note_of, Serves, Refuses};
 
 use crate::asked::defaults_of;
-use crate::done::{Done, note_of_refusal};
+use crate::done::{DoneOnLink, note_of_refusal};
 use crate::note::Note;
 use browse_http::{End, Served, serve_connection};
 use disk_trait::Disk;
@@ -38,7 +38,7 @@ pub fn serve_pipe<D: Disk, N: Namer, C: Clock, L: Link>(
     namer: N,
     clock: &mut C,
     link: L,
-) -> Done<D, L>
+) -> DoneOnLink<D, L>
     ensures { (line : Option Line) → (bytes : List ℕ) → AsksFor Pipe line → IsSettings bytes settings
         → Serves ⟦<D as Disk>⟧ N.digest_of disk result.disk line bytes
         (seen_of ⟦<L as Faults>⟧ link) (seen_of ⟦<L as Faults>⟧ result.link) (C.moments clock.old) (C.moments clock.new) result.note
@@ -49,7 +49,7 @@ pub fn serve_pipe<D: Disk, N: Namer, C: Clock, L: Link>(
         Ok(store) => store,
         Err((disk, refusal)) => {
             let note = note_of_refusal(&refusal);
-            return Done { note, disk, link };
+            return DoneOnLink { note, disk, link };
         }
     };
     let defaults = defaults_of(settings);
@@ -64,7 +64,7 @@ pub fn serve_pipe<D: Disk, N: Namer, C: Clock, L: Link>(
     );
     let store = port.into_store();
     let halted = store.is_halted();
-    Done {
+    DoneOnLink {
         note: note_of(end, halted),
         disk: store.close(),
         link,

@@ -5,28 +5,34 @@ mod disk_fault;
 mod fault_count;
 mod folder_disk;
 mod pending;
+mod serving;
 mod standard_streams;
 mod store_folder;
 mod system_clock;
+mod tcp_door;
+mod tcp_link;
 
 use crate::folder_disk::FolderDisk;
+use crate::serving::{TcpWorker, explain_doors, listen_on, workers_at};
 use crate::standard_streams::StandardStreams;
 use crate::store_folder::lock_folder;
 use crate::system_clock::SystemClock;
 use admin_cli::{Done, Note, run};
-use command_line::{CommandLine, LineFault, complaint, parse};
+use command_line::{CommandLine, LineFault, Work, complaint, parse};
 use pool_name::Md5Namer;
 use std::alloc::AllocError;
 use std::io::{ErrorKind, Stdin, Stdout};
 use std::process::ExitCode;
+use std::sync::Wait;
+use std::thread::Threads;
 use std::{env, fmt, fs, io};
 
-/// The status where the settings file, the store's folder or the standard streams can't be had.
+/// The status where the settings file, the store's folder, the address or the standard streams can't be had.
 const NOT_MADE: u8 = 8;
 
 fn main(rt: HostRuntime) -> ExitCode {
     let status = match read_words(&rt) {
-        Ok(words) => obey(&rt, words.as_slice()),
+        Ok(words) => obey(&rt, &rt, words.as_slice()),
         Err(fault) => end(&rt, note_of(fault)),
     };
     ExitCode::from(status)
@@ -44,7 +50,7 @@ fn read_words(rt: &HostRuntime) -> Result<Vec<String>, LineFault> {
 }
 
 /// Does what the words ask, and gives the status.
-fn obey(rt: &HostRuntime, words: &[String]) -> u8 {
+fn obey<H: Threads + Wait + Sync>(rt: &HostRuntime, threads: &H, words: &[String]) -> u8 {
     let line = match parse(rt.alloc(), words) {
         Ok(line) => line,
         Err(fault) => return refuse(rt, words, fault),
@@ -55,7 +61,7 @@ fn obey(rt: &HostRuntime, words: &[String]) -> u8 {
     };
     let folder = line.store.as_str();
     match FolderDisk::open(*rt, folder) {
-        Ok(disk) => serve_alone(rt, words, settings.as_slice(), folder, disk),
+        Ok(disk) => obey_alone(rt, threads, words, settings.as_slice(), &line, disk),
         Err(error) => not_made(
             rt,
             error,
@@ -80,16 +86,18 @@ fn read_settings(rt: &HostRuntime, line: &CommandLine) -> Result<Vec<u8>, u8> {
 }
 
 /// Does what the words ask while no other process works on the folder, and gives the status.
-fn serve_alone(
+fn obey_alone<H: Threads + Wait + Sync>(
     rt: &HostRuntime,
+    threads: &H,
     words: &[String],
     settings: &[u8],
-    folder: &str,
+    line: &CommandLine,
     disk: FolderDisk<HostRuntime>,
 ) -> u8 {
+    let folder = line.store.as_str();
     match lock_folder(rt, folder) {
         Ok(Some(lock)) => {
-            let status = serve(rt, words, settings, folder, disk);
+            let status = obey_work(rt, threads, words, settings, line, disk);
             drop(lock);
             status
         }
@@ -105,14 +113,57 @@ fn serve_alone(
     }
 }
 
-/// Does what the words ask, over the standard streams and the system's clock, and gives the status.
-/// What was given to the link goes out before it returns.
-fn serve(
+/// Does what the words ask, with workers at an address if they ask for one, and gives the status.
+fn obey_work<H: Threads + Wait + Sync>(
     rt: &HostRuntime,
+    threads: &H,
+    words: &[String],
+    settings: &[u8],
+    line: &CommandLine,
+    disk: FolderDisk<HostRuntime>,
+) -> u8 {
+    let folder = line.store.as_str();
+    let (listen, connections) = match &line.work {
+        Work::Serve {
+            listen,
+            connections,
+        } => (listen.as_str(), *connections),
+        Work::Pipe | Work::Night { .. } => {
+            return do_asked(
+                rt,
+                threads,
+                words,
+                settings,
+                folder,
+                disk,
+                Vec::new(rt.alloc()),
+            );
+        }
+    };
+    let listener = match listen_on(rt, listen) {
+        Ok(listener) => listener,
+        Err(error) => return not_made(
+            rt,
+            error,
+            format_args!("the address {listen} can't be listened on"),
+        ),
+    };
+    match workers_at(rt, &listener, connections) {
+        Ok(workers) => do_asked(rt, threads, words, settings, folder, disk, workers),
+        Err(AllocError) => end(rt, Note::NoMemory),
+    }
+}
+
+/// Does what the words ask, over these workers, the standard streams and the system's clock, and gives the status.
+/// What was given to a link goes out before it returns.
+fn do_asked<H: Threads + Wait + Sync>(
+    rt: &HostRuntime,
+    threads: &H,
     words: &[String],
     settings: &[u8],
     folder: &str,
     disk: FolderDisk<HostRuntime>,
+    workers: Vec<TcpWorker<'_>>,
 ) -> u8 {
     let link = match link_of(rt) {
         Ok(link) => link,
@@ -127,7 +178,9 @@ fn serve(
         note,
         disk,
         link: _,
+        workers,
     } = run(
+        threads,
         rt.alloc(),
         words,
         settings,
@@ -135,9 +188,11 @@ fn serve(
         Md5Namer,
         &mut clock,
         link,
+        workers,
     );
     let status = end(rt, note);
     explain(rt, folder, note, &disk);
+    explain_doors(rt, workers.as_slice());
     status
 }
 

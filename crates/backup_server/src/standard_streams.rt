@@ -13,7 +13,7 @@ const PIECE: usize = 65_536;
 const MOST_TRIES: u32 = u32::MAX;
 
 /// Reads once, and again where a signal interrupted it.
-fn read_again<I: Read>(input: &mut I, room: &mut [u8]) -> io::Result<usize>
+pub(crate) fn read_again<I: Read>(input: &mut I, room: &mut [u8]) -> io::Result<usize>
     ensures { IfOk result (λ count. count ≤ length room.new) }
 {
     for _ in 0..MOST_TRIES {
@@ -30,7 +30,7 @@ fn read_again<I: Read>(input: &mut I, room: &mut [u8]) -> io::Result<usize>
 }
 
 /// Writes once, and again where a signal interrupted it.
-fn write_again<O: Write>(output: &mut O, bytes: &[u8]) -> io::Result<usize>
+pub(crate) fn write_again<O: Write>(output: &mut O, bytes: &[u8]) -> io::Result<usize>
     ensures { IfOk result (λ count. count ≤ length bytes.now) }
 {
     for _ in 0..MOST_TRIES {

@@ -134,7 +134,7 @@ const SHORT: &str = "GET /hosts HTTP/1.0\r\n\r\n";
 fn a_run_on_a_cut_input_has_its_status(rt: HostRuntime) -> Result<(), Fail> {
     for cut in 1..SHORT.len() {
         let front = str::from_utf8(&SHORT.as_bytes()[..cut])?;
-        expect_both(rt.alloc(), &[front], &[], End::Truncated)?;
+        expect_both(&rt, &[front], &[], End::Truncated)?;
     }
     Ok(())
 }

@@ -1,17 +1,25 @@
 //! Conversations over two ports: the plain office, and the store by the command `pipe`.
 
-use admin_cli::run;
+use admin_cli::{Worker, run};
 use backup_rules::Rules;
 use browse_http::{End, serve_connection};
+use caller_doors::ListDoor;
 use disk_trait::{DiskRoom, MemoryDisk};
 use office_model::Port;
 use pool_name::Md5Namer;
 use request_events::Defaults;
-use std::alloc::{AllocError, Global};
+use std::alloc::{AllocError, AllocGlobal, Global};
+use std::sync::Wait;
 use std::test::Fail;
+use std::thread::Threads;
 use stream_traits::{FixedClock, MemoryLink, Moment, OpenGate};
 use tree_office::TreeOffice;
 use wake_schedule::Zone;
+
+/// The allocator, the threads and the waiting that a run takes.
+pub trait Machine: AllocGlobal + Threads + Wait + Sync {}
+
+impl<R: AllocGlobal + Threads + Wait + Sync> Machine for R {}
 
 /// The fields of a connection's last response.
 pub const CLOSE: &str = "Connection: close\r\n";
@@ -177,8 +185,8 @@ impl Talk {
     }
 
     /// Fails where the conversation goes otherwise over a port, or doesn't end so.
-    pub fn expect(&self, alloc: Global, end: End) -> Result<(), Fail> {
-        expect_both(alloc, &[self.asked()], &[self.told()], end)
+    pub fn expect(&self, rt: &impl Machine, end: End) -> Result<(), Fail> {
+        expect_both(rt, &[self.asked()], &[self.told()], end)
     }
 }
 
@@ -236,7 +244,13 @@ pub fn expect_from_office(
 }
 
 /// Fails where the command `pipe` over a new store doesn't answer an input so, or ends otherwise.
-fn expect_from_store(alloc: Global, input: &[&str], output: &[&str], end: End) -> Result<(), Fail> {
+fn expect_from_store(
+    rt: &impl Machine,
+    input: &[&str],
+    output: &[&str],
+    end: End,
+) -> Result<(), Fail> {
+    let alloc = rt.alloc();
     let mut words = Vec::new(alloc);
     for word in ["backup_server", "pipe", "--store", "store"] {
         words.push(String::from_str(alloc, word)?)?;
@@ -244,7 +258,9 @@ fn expect_from_store(alloc: Global, input: &[&str], output: &[&str], end: End) -
     let disk = new_disk(alloc)?;
     let link = link_of(alloc, input)?;
     let mut clock = new_clock();
+    let workers: Vec<Worker<ListDoor, FixedClock, OpenGate>> = Vec::new(alloc);
     let done = run(
+        rt,
         alloc,
         words.as_slice(),
         b"",
@@ -252,6 +268,7 @@ fn expect_from_store(alloc: Global, input: &[&str], output: &[&str], end: End) -
         Md5Namer,
         &mut clock,
         link,
+        workers,
     );
     let note = done.note;
     let said = format!(in alloc; "{note}")?;
@@ -267,7 +284,12 @@ fn expect_from_store(alloc: Global, input: &[&str], output: &[&str], end: End) -
 }
 
 /// Fails where an input isn't answered so by a plain office and by a store, or a connection doesn't end so.
-pub fn expect_both(alloc: Global, input: &[&str], output: &[&str], end: End) -> Result<(), Fail> {
-    expect_from_office(alloc, input, output, end)?;
-    expect_from_store(alloc, input, output, end)
+pub fn expect_both(
+    rt: &impl Machine,
+    input: &[&str],
+    output: &[&str],
+    end: End,
+) -> Result<(), Fail> {
+    expect_from_office(rt.alloc(), input, output, end)?;
+    expect_from_store(rt, input, output, end)
 }

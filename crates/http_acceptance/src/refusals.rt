@@ -1,6 +1,6 @@
 //! Requests that ask for no event, or for one that a rule forbids, over both ports; each connection goes on.
 
-use crate::ports::{COMMIT, COMMITTED, NOTHING_KEPT, Talk, json, request};
+use crate::ports::{COMMIT, COMMITTED, Machine, NOTHING_KEPT, Talk, json, request};
 use browse_http::End;
 use std::alloc::Global;
 use std::test::Fail;
@@ -34,7 +34,7 @@ fn another_method_is_told_which_are_allowed(rt: HostRuntime) -> Result<(), Fail>
         talk.go_on(asked.as_str(), told.as_str())?;
     }
     talk.ask(alloc, "GET /stats", "200 OK", NOTHING_KEPT)?;
-    talk.expect(alloc, End::Ended)
+    talk.expect(&rt, End::Ended)
 }
 
 /// Lines, and the name of what refuses each of them with this status.
@@ -45,13 +45,14 @@ const BAD: &str = "400 Bad Request";
 const ABSENT: &str = "404 Not Found";
 
 /// Fails where lines are refused otherwise once the host `pc1` has its backup 0, or the connection doesn't go on.
-fn expect_refusals(alloc: Global, rows: &[Refused]) -> Result<(), Fail> {
+fn expect_refusals(rt: &impl Machine, rows: &[Refused]) -> Result<(), Fail> {
+    let alloc = rt.alloc();
     let mut talk = Talk::new(alloc, COMMIT, COMMITTED)?;
     for (line, status, name) in rows {
         talk.refuse(alloc, line, status, name)?;
     }
     talk.ask(alloc, "GET /hosts", "200 OK", "{\"hosts\":[\"pc1\"]}")?;
-    talk.expect(alloc, End::Ended)
+    talk.expect(rt, End::Ended)
 }
 
 /// Reads of a file: each line breaks one rule less than the one before, which is the one that was judged first.
@@ -115,8 +116,8 @@ const PUTS: [Refused; 9] = [
 
 #[test]
 fn the_first_broken_rule_refuses(rt: HostRuntime) -> Result<(), Fail> {
-    expect_refusals(rt.alloc(), &READS)?;
-    expect_refusals(rt.alloc(), &PUTS)
+    expect_refusals(&rt, &READS)?;
+    expect_refusals(&rt, &PUTS)
 }
 
 /// Texts that are no UTF-8 or hold U+FFFD itself, keys that their route doesn't take, keys that it lacks, and values of another form.
@@ -201,7 +202,7 @@ const QUERIES: [Refused; 28] = [
 
 #[test]
 fn a_query_has_the_keys_of_its_route(rt: HostRuntime) -> Result<(), Fail> {
-    expect_refusals(rt.alloc(), &QUERIES)
+    expect_refusals(&rt, &QUERIES)
 }
 
 /// Names of hosts, numbers of backups and names of sessions, out of form and in form.
@@ -262,7 +263,7 @@ const PARTS: [Refused; 32] = [
 
 #[test]
 fn names_and_numbers_have_their_forms(rt: HostRuntime) -> Result<(), Fail> {
-    expect_refusals(rt.alloc(), &PARTS)
+    expect_refusals(&rt, &PARTS)
 }
 
 /// The open dump has a name; another way to write it is no name of it.
@@ -279,7 +280,7 @@ fn a_session_has_one_name(rt: HostRuntime) -> Result<(), Fail> {
         talk.refuse(alloc, line.as_str(), ABSENT, "NoSession")?;
     }
     talk.ask(alloc, "DELETE /dumps/1-1", "200 OK", "{}")?;
-    talk.expect(alloc, End::Ended)
+    talk.expect(&rt, End::Ended)
 }
 
 /// Paths that break a rule, as a query writes them, and the rule; the first one that is broken is named.
@@ -351,5 +352,5 @@ fn a_path_keeps_the_rules(rt: HostRuntime) -> Result<(), Fail> {
     for row in COMPONENTS {
         refuse_component(alloc, &mut talk, row)?;
     }
-    talk.expect(alloc, End::Ended)
+    talk.expect(&rt, End::Ended)
 }

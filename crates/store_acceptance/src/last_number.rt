@@ -64,9 +64,9 @@ const SPENT_AGAIN: &[Row] = &[
 #[test]
 fn no_number_comes_behind_the_last(rt: HostRuntime) -> Result<(), Fail> {
     let alloc = rt.alloc();
-    let mut disk = expect_talk(alloc, blank_disk(alloc, &[])?, Md5Namer, NOW, &[HOST])?;
+    let mut disk = expect_talk(&rt, blank_disk(alloc, &[])?, Md5Namer, NOW, &[HOST])?;
     disk.write(FileId::Host(0), spent_index(alloc)?.as_slice())?;
-    let disk = expect_talk(alloc, disk, Md5Namer, NOW, LAST)?;
-    let _ = expect_talk(alloc, disk, Md5Namer, NOW, SPENT_AGAIN)?;
+    let disk = expect_talk(&rt, disk, Md5Namer, NOW, LAST)?;
+    let _ = expect_talk(&rt, disk, Md5Namer, NOW, SPENT_AGAIN)?;
     Ok(())
 }

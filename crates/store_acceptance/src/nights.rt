@@ -280,9 +280,9 @@ const TALKS: [&[Row]; 3] = [TWO_HOSTS, MARKS, KEPT];
 fn nights_take_what_nothing_holds(rt: HostRuntime) -> Result<(), Fail> {
     let alloc = rt.alloc();
     for rows in TALKS {
-        let _ = expect_talk(alloc, blank_disk(alloc, &[])?, Md5Namer, NOW, rows)?;
+        let _ = expect_talk(&rt, blank_disk(alloc, &[])?, Md5Namer, NOW, rows)?;
     }
-    let mut disk = expect_talk(alloc, blank_disk(alloc, &[])?, Md5Namer, NOW, NEWEST)?;
+    let mut disk = expect_talk(&rt, blank_disk(alloc, &[])?, Md5Namer, NOW, NEWEST)?;
     expect_files(alloc, &mut disk, &NEWEST_TABLES)
 }
 
@@ -433,11 +433,11 @@ const WITHOUT_MIDDLE: [(FileId, Option<&[u8]>); 5] = [
 #[test]
 fn the_middle_goes_from_tables_and_counts(rt: HostRuntime) -> Result<(), Fail> {
     let alloc = rt.alloc();
-    let mut disk = expect_talk(alloc, blank_disk(alloc, &[])?, Md5Namer, NOW, MIDDLE)?;
+    let mut disk = expect_talk(&rt, blank_disk(alloc, &[])?, Md5Namer, NOW, MIDDLE)?;
     expect_files(alloc, &mut disk, &WITH_MIDDLE)?;
-    let mut disk = expect_talk(alloc, disk, Md5Namer, NOW, MIDDLE_GONE)?;
+    let mut disk = expect_talk(&rt, disk, Md5Namer, NOW, MIDDLE_GONE)?;
     expect_files(alloc, &mut disk, &WITHOUT_MIDDLE)?;
-    let mut disk = expect_talk(alloc, disk, Md5Namer, NOW, MIDDLE_CLEANED)?;
+    let mut disk = expect_talk(&rt, disk, Md5Namer, NOW, MIDDLE_CLEANED)?;
     expect_files(alloc, &mut disk, &WITHOUT_MIDDLE)
 }
 
@@ -515,7 +515,7 @@ fn has_content(alloc: Global, disk: &mut MemoryDisk) -> Result<bool, Fail> {
 #[test]
 fn a_restore_holds_what_it_gives(rt: HostRuntime) -> Result<(), Fail> {
     let alloc = rt.alloc();
-    let mut disk = expect_talk(alloc, blank_disk(alloc, &[])?, Md5Namer, NOW, RESTORE)?;
+    let mut disk = expect_talk(&rt, blank_disk(alloc, &[])?, Md5Namer, NOW, RESTORE)?;
     expect(
         !has_content(alloc, &mut disk)?,
         "a content is left on the disk",

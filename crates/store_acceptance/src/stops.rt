@@ -1,12 +1,11 @@
 //! Stops and faults in a commit, around the write of Gate.
 
 use crate::talks::{
-    ABSENT, CHOICES, DONE, HOST, MADE, NOW, OK, Row, Says, blank_disk, expect, expect_talk,
-    image_of, is_answered, place_answered, talk,
+    ABSENT, CHOICES, DONE, HOST, MADE, Machine, NOW, OK, Row, Says, blank_disk, expect,
+    expect_talk, image_of, is_answered, place_answered, talk,
 };
 use disk_trait::{Choice, Disk, FileId, MemoryDisk};
 use pool_name::Md5Namer;
-use std::alloc::Global;
 use std::test::Fail;
 
 const FULL: Row = Row(
@@ -49,15 +48,15 @@ const LISTS: [&[Row]; 2] = [&[Row(LIST, "", NONE)], &[Row(LIST, "", ONE)]];
 
 /// Fails where an opening that is stopped at one of its moments from this one on, and then another one, finds another listing.
 fn expect_again(
-    alloc: Global,
+    rt: &impl Machine,
     opened: &MemoryDisk,
     from: usize,
     choice: Choice,
     place: usize,
 ) -> Result<(), Fail> {
     for moment in from..=opened.moment() {
-        let image = image_of(alloc, opened, moment, choice)?;
-        let (again, _) = place_answered(alloc, image, Md5Namer, &LISTS)?;
+        let image = image_of(rt.alloc(), opened, moment, choice)?;
+        let (again, _) = place_answered(rt, image, Md5Namer, &LISTS)?;
         expect(again == place, "a second stop finds another listing")?;
     }
     Ok(())
@@ -65,14 +64,14 @@ fn expect_again(
 
 /// The place of the listing that a stop leaves, which each second stop in the opening leaves, too.
 fn listed_after(
-    alloc: Global,
+    rt: &impl Machine,
     disk: &MemoryDisk,
     moment: usize,
     choice: Choice,
 ) -> Result<usize, Fail> {
-    let image = image_of(alloc, disk, moment, choice)?;
-    let (place, opened) = place_answered(alloc, image, Md5Namer, &LISTS)?;
-    expect_again(alloc, &opened, 0, choice, place)?;
+    let image = image_of(rt.alloc(), disk, moment, choice)?;
+    let (place, opened) = place_answered(rt, image, Md5Namer, &LISTS)?;
+    expect_again(rt, &opened, 0, choice, place)?;
     Ok(place)
 }
 
@@ -81,13 +80,13 @@ fn listed_after(
 #[test]
 fn a_stopped_commit_leaves_one_of_two_listings(rt: HostRuntime) -> Result<(), Fail> {
     let alloc = rt.alloc();
-    let start = expect_talk(alloc, blank_disk(alloc, &[])?, Md5Namer, NOW, BEFORE)?.moment();
-    let disk = expect_talk(alloc, blank_disk(alloc, &[])?, Md5Namer, NOW, COMMITTED)?;
+    let start = expect_talk(&rt, blank_disk(alloc, &[])?, Md5Namer, NOW, BEFORE)?.moment();
+    let disk = expect_talk(&rt, blank_disk(alloc, &[])?, Md5Namer, NOW, COMMITTED)?;
     let mut open = 0u32;
     for moment in start..=disk.moment() {
-        let written = listed_after(alloc, &disk, moment, Choice::Written)?;
-        let absent = listed_after(alloc, &disk, moment, Choice::Absent)?;
-        let _ = listed_after(alloc, &disk, moment, Choice::One(0x4F))?;
+        let written = listed_after(&rt, &disk, moment, Choice::Written)?;
+        let absent = listed_after(&rt, &disk, moment, Choice::Absent)?;
+        let _ = listed_after(&rt, &disk, moment, Choice::One(0x4F))?;
         expect(absent <= written, "without Gate the commit is made")?;
         if absent < written {
             open = open.saturating_add(1);
@@ -97,8 +96,9 @@ fn a_stopped_commit_leaves_one_of_two_listings(rt: HostRuntime) -> Result<(), Fa
 }
 
 /// Whether the call is the sync that fails behind the write of Gate in the commit.
-fn is_gate_sync(alloc: Global, call: u64) -> Result<bool, Fail> {
-    let done = talk(alloc, blank_disk(alloc, &[call])?, Md5Namer, NOW, FAILED)?;
+fn is_gate_sync(rt: &impl Machine, call: u64) -> Result<bool, Fail> {
+    let alloc = rt.alloc();
+    let done = talk(rt, blank_disk(alloc, &[call])?, Md5Namer, NOW, FAILED)?;
     let failed = is_answered(alloc, &done, FAILED)?;
     let mut disk = done.disk;
     match disk.read(alloc, FileId::Gate) {
@@ -108,9 +108,9 @@ fn is_gate_sync(alloc: Global, call: u64) -> Result<bool, Fail> {
 }
 
 /// The number of that call: the first one whose failure leaves Gate open.
-fn gate_sync(alloc: Global) -> Result<u64, Fail> {
+fn gate_sync(rt: &impl Machine) -> Result<u64, Fail> {
     for call in 0..600u64 {
-        if is_gate_sync(alloc, call)? {
+        if is_gate_sync(rt, call)? {
             return Ok(call);
         }
     }
@@ -159,15 +159,14 @@ const HALTED_TALKS: [&[Row]; 2] = [
 fn a_fault_behind_the_write_of_gate_leaves_one_of_two_listings(
     rt: HostRuntime,
 ) -> Result<(), Fail> {
-    let alloc = rt.alloc();
-    let call = gate_sync(alloc)?;
+    let call = gate_sync(&rt)?;
     let (place, disk) = place_answered(
-        alloc,
-        blank_disk(alloc, &[call])?,
+        &rt,
+        blank_disk(rt.alloc(), &[call])?,
         Md5Namer,
         &HALTED_TALKS,
     )?;
-    let (again, _) = place_answered(alloc, disk, Md5Namer, &LISTS)?;
+    let (again, _) = place_answered(&rt, disk, Md5Namer, &LISTS)?;
     expect(again == place, "another opening finds another listing")
 }
 
@@ -175,14 +174,13 @@ fn a_fault_behind_the_write_of_gate_leaves_one_of_two_listings(
 /// listings is left, from then on the one that it found.
 #[test]
 fn a_stopped_opening_leaves_what_it_found(rt: HostRuntime) -> Result<(), Fail> {
-    let alloc = rt.alloc();
-    let call = gate_sync(alloc)?;
-    let halted = talk(alloc, blank_disk(alloc, &[call])?, Md5Namer, NOW, FAILED)?.disk;
+    let call = gate_sync(&rt)?;
+    let halted = talk(&rt, blank_disk(rt.alloc(), &[call])?, Md5Namer, NOW, FAILED)?.disk;
     let start = halted.moment();
-    let (place, opened) = place_answered(alloc, halted, Md5Namer, &LISTS)?;
+    let (place, opened) = place_answered(&rt, halted, Md5Namer, &LISTS)?;
     for choice in CHOICES {
-        let _ = listed_after(alloc, &opened, start, choice)?;
-        expect_again(alloc, &opened, start.saturating_add(1), choice, place)?;
+        let _ = listed_after(&rt, &opened, start, choice)?;
+        expect_again(&rt, &opened, start.saturating_add(1), choice, place)?;
     }
     Ok(())
 }

@@ -1,11 +1,22 @@
 //! Talks with the program: what is asked, line by line, and what is to be answered.
 
 use admin_cli::{Done, Note, run};
+use caller_doors::ListDoor;
 use disk_trait::{Choice, Disk, DiskRoom, FileId, MemoryDisk};
 use pool_name::Namer;
-use std::alloc::{AllocError, Global};
+use std::alloc::{AllocError, AllocGlobal, Global};
+use std::sync::Wait;
 use std::test::Fail;
-use stream_traits::{ListClock, MemoryLink, Moment};
+use std::thread::Threads;
+use stream_traits::{ListClock, MemoryLink, Moment, OpenGate};
+
+/// The allocator, the threads and the waiting that a run takes.
+pub trait Machine: AllocGlobal + Threads + Wait + Sync {}
+
+impl<R: AllocGlobal + Threads + Wait + Sync> Machine for R {}
+
+/// How a talk ended, which has no workers.
+pub type Talked = Done<MemoryDisk, MemoryLink, ListDoor, ListClock, OpenGate>;
 
 /// An answer: the status with its phrase and a body in JSON, or the bytes of a file or a frame.
 #[derive(Clone, Copy)]
@@ -145,31 +156,41 @@ fn expect_file(
 }
 
 /// Runs the program on what is asked.
-pub fn talk<N: Namer>(
-    alloc: Global,
+pub fn talk<N: Namer + Send>(
+    rt: &impl Machine,
     disk: MemoryDisk,
     namer: N,
     seconds: &[u64],
     rows: &[Row],
-) -> Result<Done<MemoryDisk, MemoryLink>, Fail> {
+) -> Result<Talked, Fail>
+where
+    N::State: Send,
+{
+    let alloc = rt.alloc();
     let words = words_of(alloc, "backup_server pipe --store store")?;
     let link = MemoryLink::new(alloc, input_of(alloc, rows)?, 65_536, Vec::new(alloc))?;
     let mut clock = clock_of(alloc, seconds)?;
-    Ok(run(alloc, words.as_slice(), b"", disk, namer, &mut clock, link))
+    Ok(run(
+        rt,
+        alloc,
+        words.as_slice(),
+        b"",
+        disk,
+        namer,
+        &mut clock,
+        link,
+        Vec::new(alloc),
+    ))
 }
 
 /// Whether a run answered so.
-pub fn is_answered(
-    alloc: Global,
-    done: &Done<MemoryDisk, MemoryLink>,
-    rows: &[Row],
-) -> Result<bool, AllocError> {
+pub fn is_answered(alloc: Global, done: &Talked, rows: &[Row]) -> Result<bool, AllocError> {
     let wanted = output_of(alloc, rows)?;
     Ok(done.link.output() == wanted.as_slice())
 }
 
 /// A failure that tells the first request that wasn't answered as it was to be, and what comes from its answer on.
-fn fail_of(alloc: Global, done: &Done<MemoryDisk, MemoryLink>, rows: &[Row]) -> Result<(), Fail> {
+fn fail_of(alloc: Global, done: &Talked, rows: &[Row]) -> Result<(), Fail> {
     let note = done.note;
     let output = done.link.output();
     let mut wanted = Vec::new(alloc);
@@ -186,14 +207,18 @@ fn fail_of(alloc: Global, done: &Done<MemoryDisk, MemoryLink>, rows: &[Row]) -> 
 }
 
 /// Asks, fails where the run doesn't end with status 0 or something is answered otherwise, and gives the disk back.
-pub fn expect_talk<N: Namer>(
-    alloc: Global,
+pub fn expect_talk<N: Namer + Send>(
+    rt: &impl Machine,
     disk: MemoryDisk,
     namer: N,
     seconds: &[u64],
     rows: &[Row],
-) -> Result<MemoryDisk, Fail> {
-    let done = talk(alloc, disk, namer, seconds, rows)?;
+) -> Result<MemoryDisk, Fail>
+where
+    N::State: Send,
+{
+    let alloc = rt.alloc();
+    let done = talk(rt, disk, namer, seconds, rows)?;
     if done.note != Note::Nothing || !is_answered(alloc, &done, rows)? {
         fail_of(alloc, &done, rows)?;
     }
@@ -201,11 +226,7 @@ pub fn expect_talk<N: Namer>(
 }
 
 /// The place of the first of these that is what a run answered.
-fn place_of(
-    alloc: Global,
-    done: &Done<MemoryDisk, MemoryLink>,
-    answers: &[&[Row]],
-) -> Result<Option<usize>, AllocError> {
+fn place_of(alloc: Global, done: &Talked, answers: &[&[Row]]) -> Result<Option<usize>, AllocError> {
     for (place, rows) in answers.iter().enumerate() {
         if is_answered(alloc, done, rows)? {
             return Ok(Some(place));
@@ -216,17 +237,21 @@ fn place_of(
 
 /// Asks what may be answered in several ways; fails where it is answered in none, or the run doesn't end with status 0. Gives the
 /// place of the way, and the disk back.
-pub fn place_answered<N: Namer>(
-    alloc: Global,
+pub fn place_answered<N: Namer + Send>(
+    rt: &impl Machine,
     disk: MemoryDisk,
     namer: N,
     answers: &[&[Row]],
-) -> Result<(usize, MemoryDisk), Fail> {
+) -> Result<(usize, MemoryDisk), Fail>
+where
+    N::State: Send,
+{
+    let alloc = rt.alloc();
     let first = match answers {
         [first, ..] => *first,
         [] => return Err(Fail::new("no answers")),
     };
-    let done = talk(alloc, disk, namer, NOW, first)?;
+    let done = talk(rt, disk, namer, NOW, first)?;
     match place_of(alloc, &done, answers)? {
         Some(place) if done.note == Note::Nothing => Ok((place, done.disk)),
         _ => {

@@ -141,8 +141,8 @@ const TABLES: [(FileId, Option<&[u8]>); 4] = [
 fn a_directory_goes_and_comes_back(rt: HostRuntime) -> Result<(), Fail> {
     let alloc = rt.alloc();
     let blank = blank_disk(alloc, &[])?;
-    let disk = expect_talk(alloc, blank, Md5Namer, NOW, DIRECTORY)?;
-    let mut disk = expect_talk(alloc, disk, Md5Namer, NOW, SHOWN)?;
+    let disk = expect_talk(&rt, blank, Md5Namer, NOW, DIRECTORY)?;
+    let mut disk = expect_talk(&rt, disk, Md5Namer, NOW, SHOWN)?;
     expect_files(alloc, &mut disk, &TABLES)
 }
 
@@ -250,7 +250,7 @@ const KIND_TABLES: [(FileId, Option<&[u8]>); 2] = [
 fn a_path_has_another_kind_in_each_backup(rt: HostRuntime) -> Result<(), Fail> {
     let alloc = rt.alloc();
     let blank = blank_disk(alloc, &[])?;
-    let disk = expect_talk(alloc, blank, Md5Namer, NOW, KINDS)?;
-    let mut disk = expect_talk(alloc, disk, Md5Namer, NOW, EACH_KIND)?;
+    let disk = expect_talk(&rt, blank, Md5Namer, NOW, KINDS)?;
+    let mut disk = expect_talk(&rt, disk, Md5Namer, NOW, EACH_KIND)?;
     expect_files(alloc, &mut disk, &KIND_TABLES)
 }

@@ -1,12 +1,11 @@
 //! Two contents of one digest.
 
 use crate::talks::{
-    ABSENT, CHOICES, DONE, HOST, MADE, NOW, Row, Says, blank_disk, expect, expect_files,
+    ABSENT, CHOICES, DONE, HOST, MADE, Machine, NOW, Row, Says, blank_disk, expect, expect_files,
     expect_talk, image_of, place_answered,
 };
 use disk_trait::{Choice, FileId, MemoryDisk, PoolId};
 use pool_name::FirstByteNamer;
-use std::alloc::Global;
 use std::test::Fail;
 
 /// Both contents begin with the byte that is their digest.
@@ -68,14 +67,14 @@ const FILES: [(FileId, Option<&[u8]>); 2] = [
 
 /// The place of what reads of an image are answered, which is the same after another opening.
 fn read_after(
-    alloc: Global,
+    rt: &impl Machine,
     disk: &MemoryDisk,
     moment: usize,
     choice: Choice,
 ) -> Result<usize, Fail> {
-    let image = image_of(alloc, disk, moment, choice)?;
-    let (place, disk) = place_answered(alloc, image, FirstByteNamer, &ANSWERS)?;
-    let (again, _) = place_answered(alloc, disk, FirstByteNamer, &ANSWERS)?;
+    let image = image_of(rt.alloc(), disk, moment, choice)?;
+    let (place, disk) = place_answered(rt, image, FirstByteNamer, &ANSWERS)?;
+    let (again, _) = place_answered(rt, disk, FirstByteNamer, &ANSWERS)?;
     expect(place == again, "another opening reads otherwise")?;
     Ok(place)
 }
@@ -85,12 +84,12 @@ fn read_after(
 fn contents_of_one_digest_are_told_apart(rt: HostRuntime) -> Result<(), Fail> {
     let alloc = rt.alloc();
     let blank = blank_disk(alloc, &[])?;
-    let mut disk = expect_talk(alloc, blank, FirstByteNamer, NOW, KEPT)?;
+    let mut disk = expect_talk(&rt, blank, FirstByteNamer, NOW, KEPT)?;
     expect_files(alloc, &mut disk, &FILES)?;
     let end = disk.moment();
     for moment in 0..=end {
         for choice in CHOICES {
-            let place = read_after(alloc, &disk, moment, choice)?;
+            let place = read_after(&rt, &disk, moment, choice)?;
             expect(moment < end || place == BOTH, "not durable")?;
         }
     }

@@ -1,0 +1,17 @@
+//! What the command `serve` does, shown by examples of the whole program, and nothing else: connections that wait for each other, four
+//! whose order is set and who are answered as by the office in memory, doors, links and disks that fail, and runs that serve nobody.
+//! What is left on the disk is told by the next run, of `pipe`.
+#![tactic(auto)]
+
+#[cfg(test)]
+mod doors;
+#[cfg(test)]
+mod faults;
+#[cfg(test)]
+mod histories;
+#[cfg(test)]
+mod refusals;
+#[cfg(test)]
+mod runs;
+#[cfg(test)]
+mod texts;
