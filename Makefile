@@ -1,6 +1,6 @@
 # make build   proves the program's crates and compiles bin/backup_server, if it is out of date: a first build takes about an hour
 # make demo    backs up two files into a fresh store and gives one back: each request, and what came of it
-# make test    the gate, and then the scripts of tests/ on the program that it built: tests/crash.sh takes some minutes
+# make test    the gate, and then the scripts of tests/ on the program that it built: tests/crash.sh and tests/serve.sh take some minutes each
 # make clean   removes what these made, the crates' out/ too, so that the next build proves everything again
 # make help    says this
 
@@ -24,6 +24,7 @@ demo: bin/backup_server
 test:
 	.ci/run
 	tests/crash.sh crates/backup_server/out/backup_server
+	tests/serve.sh crates/backup_server/out/backup_server
 
 clean:
 	rm -rf bin build crates/*/out

@@ -1,6 +1,6 @@
 #!/bin/sh
-# Real clients against bin/backup_server: curl, and Python's http.client. The program serves one connection over its
-# standard streams, so a relay of a few lines (relay.py) listens, and starts it with a fresh store for each connection.
+# Real clients against bin/backup_server: curl, and Python's http.client. `pipe` serves one connection over its standard streams,
+# so a relay of a few lines (relay.py) listens, and starts it with a fresh store for each connection; last comes `serve`.
 # Run it from anywhere after `make build`; it needs curl and python3.
 # The last line is 'N passed, M failed'; the status is 0 if none failed.
 
@@ -117,24 +117,28 @@ judge "six requests of Python's client on one connection" "201 Created applicati
 200 OK application/octet-stream b'\\x00\\xff'
 404 Not Found application/json b'{\"refused\":\"NoBackup\"}'"
 
-# A store that is kept, one connection after the other, as README shows it.
-if command -v socat >/dev/null; then
-    kept=http://127.0.0.1:$(python3 -c 'import socket; print(socket.create_server(("127.0.0.1", 0)).getsockname()[1])')
-    socat "TCP-LISTEN:${kept##*:},bind=127.0.0.1,reuseaddr,fork,max-children=1" "EXEC:'$program' pipe --store kept" &
-    listener=$!
-    trap 'kill "$relay" "$listener" 2>/dev/null; rm -rf "$room"' EXIT
-    {
-        curl -s --retry 50 --retry-connrefused --retry-delay 1 -X PUT "$kept/hosts/pc2"
-        epoch=$(($(curl -s -X POST "$kept/reopen" | tr -dc 0-9) + 1))
-        curl -s -X POST "$kept/hosts/pc2/dumps?kind=full" -o /dev/null \
-            --next -s -T hello.txt "$kept/dumps/$epoch-0/entry?path=a.txt&kind=file" \
-            --next -s -X POST "$kept/dumps/$epoch-0/commit"
-        curl -s "$kept/hosts/pc2/backups/0/file?path=a.txt"
-    } >said
-    judge 'a dump and a file given back over a kept store, behind socat' '{"host":"pc2"}{}{"number":0}hello'
-else
-    echo "skipped: a kept store behind socat, which isn't there"
-fi
+# A store that is kept, by `serve`, each request on a connection of its own, as README shows it; and the night beside it.
+"$program" serve --store kept --listen 127.0.0.1:0 2>listening &
+server=$!
+trap 'kill "$relay" "$server" 2>/dev/null; rm -rf "$room"' EXIT
+tries=0
+while [ ! -s listening ] && [ "$tries" -lt 100 ]; do
+    sleep 0.1
+    tries=$((tries + 1))
+done
+address=$(sed 's/^listening on //' listening)
+kept=http://$address
+{
+    curl -s -X PUT "$kept/hosts/pc2"
+    dump=$(curl -s -X POST "$kept/hosts/pc2/dumps?kind=full" | cut -d '"' -f 4)
+    curl -s -T hello.txt "$kept/dumps/$dump/entry?path=a.txt&kind=file"
+    curl -s -X POST "$kept/dumps/$dump/commit"
+    "$top/examples/turretgage-night.sh" "$address" 2>&1
+    curl -s "$kept/hosts/pc2/backups/0/file?path=a.txt"
+} >said
+judge 'a dump, a night and a file given back, by serve' '{"host":"pc2"}{}{"number":0}hello'
+kill "$server"
+wait "$server"
 
 echo "$passed passed, $failed failed"
 [ "$failed" = 0 ]

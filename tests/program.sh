@@ -57,6 +57,7 @@ hex() {
 }
 
 usage='usage: backup_server pipe --store DIR [--settings FILE]
+       backup_server serve --listen ADDR [--connections N] --store DIR [--settings FILE]
        backup_server night [--scheduled] --store DIR [--settings FILE]'
 : >in
 : >want
@@ -68,7 +69,7 @@ Usage: backup_server <COMMAND>
 $usage"
 attempt
 judge 'no words' 2 "error: 'backup_server' requires a subcommand but one was not provided
-  [subcommands: pipe, night]
+  [subcommands: pipe, serve, night]
 
 Usage: backup_server <COMMAND>
 $usage"
@@ -82,6 +83,15 @@ judge 'a night without its store' 2 "error: the following required arguments wer
   --store <store>
 
 Usage: backup_server night --store <store> --scheduled
+$usage"
+attempt serve --store made
+judge 'serving without an address' 2 "error: the following required arguments were not provided:
+  --listen <listen>
+
+Usage: backup_server serve --store <store> --listen <listen>
+$usage"
+attempt serve --store made --listen 127.0.0.1:0 --connections many
+judge 'a number of connections that is none' 2 "error: invalid value 'many' for '--connections <connections>': invalid digit found in string
 $usage"
 attempt pipe --store "made$(printf '\377')"
 judge 'a word that is not UTF-8' 2 "$usage"
@@ -429,6 +439,13 @@ attempt pipe --store taken
 judge 'a second process on one folder' 8 'the folder taken is in use'
 attempt night --store taken
 judge 'a night while another process has the folder' 8 'the folder taken is in use'
+attempt serve --store taken --listen 127.0.0.1:0
+judge 'serving while another process has the folder' 8 'the folder taken is in use'
+attempt serve --store served --listen 127.0.0.1:99999
+judge 'an address that is none' 8 "the address 127.0.0.1:99999 can't be listened on: invalid port value"
+attempt serve --store served --listen 127.0.0.1:0 --connections 0
+[ "$status" = 0 ] && grep -qx 'listening on 127\.0\.0\.1:[1-9][0-9]*' err
+expect 'serving no connections says where it listens, and ends'
 exec 3>&-
 wait "$first"
 [ $? = 0 ] && [ ! -s first ] && [ ! -s first_err ]
