@@ -1,7 +1,7 @@
 //! Links and disks that fail.
 
 use crate::runs::{
-    Case, Coming, Machine, NEVER, PIPE, QUIET, ROOM, Ran, SERVE, SERVED, TURNS, Want, expect_end,
+    Case, Coming, Machine, NEVER, PIPE, QUIET, Ran, SERVE, SERVED, TURNS, Want, expect_end,
     expect_served, links_of, new_disk, run_at, run_over, worker_of,
 };
 use crate::texts::{ASK_STATS, COMMIT, COMMITTED, FILE, MAKER, NO_HOST};
@@ -33,41 +33,63 @@ const SECOND: &str =
 const THIRD: &str =
     "HTTP/1.1 200 OK\r\nContent-Type: application/json\r\nContent-Length: 2\r\n\r\n{}";
 
-/// The number of the link's call that fails, the room for its output, what was sent over it, and what the next link is told of
-/// what is kept.
-type LinkFault = (u64, usize, &'static [&'static str], &'static str);
+/// A link that fails and the next one, and what was sent over each: over the second what is kept.
+type LinkFault = (
+    &'static [Coming<'static>],
+    &'static [&'static [&'static str]],
+);
 
 /// The head and the body of each response are a call each, from call 2 on.
 const LINK_FAULTS: [LinkFault; 5] = [
     (
-        0,
-        ROOM,
-        &[],
-        "{\"backups\":0,\"bytes\":0,\"dumps\":0,\"files\":0,\"hosts\":0,\"marked\":0,\"restores\":0}",
+        &[Coming { fails: 0, ..MAKER }, COUNTER],
+        &[
+            &[],
+            &[
+                STATS_HEAD,
+                "{\"backups\":0,\"bytes\":0,\"dumps\":0,\"files\":0,\"hosts\":0,\"marked\":0,\"restores\":0}",
+            ],
+        ],
     ),
     (
-        NEVER,
-        10,
-        &[PART],
-        "{\"backups\":0,\"bytes\":0,\"dumps\":0,\"files\":0,\"hosts\":1,\"marked\":0,\"restores\":0}",
+        &[Coming { room: 10, ..MAKER }, COUNTER],
+        &[
+            &[PART],
+            &[
+                STATS_HEAD,
+                "{\"backups\":0,\"bytes\":0,\"dumps\":0,\"files\":0,\"hosts\":1,\"marked\":0,\"restores\":0}",
+            ],
+        ],
     ),
     (
-        4,
-        ROOM,
-        &[FIRST],
-        "{\"backups\":0,\"bytes\":0,\"dumps\":1,\"files\":0,\"hosts\":1,\"marked\":0,\"restores\":0}",
+        &[Coming { fails: 4, ..MAKER }, COUNTER],
+        &[
+            &[FIRST],
+            &[
+                STATS_HEAD,
+                "{\"backups\":0,\"bytes\":0,\"dumps\":1,\"files\":0,\"hosts\":1,\"marked\":0,\"restores\":0}",
+            ],
+        ],
     ),
     (
-        6,
-        ROOM,
-        &[FIRST, SECOND],
-        "{\"backups\":0,\"bytes\":0,\"dumps\":1,\"files\":0,\"hosts\":1,\"marked\":0,\"restores\":0}",
+        &[Coming { fails: 6, ..MAKER }, COUNTER],
+        &[
+            &[FIRST, SECOND],
+            &[
+                STATS_HEAD,
+                "{\"backups\":0,\"bytes\":0,\"dumps\":1,\"files\":0,\"hosts\":1,\"marked\":0,\"restores\":0}",
+            ],
+        ],
     ),
     (
-        8,
-        ROOM,
-        &[FIRST, SECOND, THIRD],
-        "{\"backups\":1,\"bytes\":5,\"dumps\":0,\"files\":1,\"hosts\":1,\"marked\":0,\"restores\":0}",
+        &[Coming { fails: 8, ..MAKER }, COUNTER],
+        &[
+            &[FIRST, SECOND, THIRD],
+            &[
+                STATS_HEAD,
+                "{\"backups\":1,\"bytes\":5,\"dumps\":0,\"files\":1,\"hosts\":1,\"marked\":0,\"restores\":0}",
+            ],
+        ],
     ),
 ];
 
@@ -79,23 +101,18 @@ const STRANGER: Coming<'static> = Coming {
 
 /// Fails where a link that fails so ends more than its own connection, or something else was sent over it or the next one.
 fn expect_link_fault(rt: &impl Machine, row: LinkFault) -> Result<(), Fail> {
-    let (fails, room, output, stats) = row;
+    let (coming, outputs) = row;
     let alloc = rt.alloc();
-    let faulty = Coming {
-        fails,
-        room,
-        ..MAKER
-    };
     let workers = Vec::from_array(
         alloc,
         [
-            worker_of(alloc, &[faulty, COUNTER], NEVER, OpenGate)?,
+            worker_of(alloc, coming, NEVER, OpenGate)?,
             worker_of(alloc, &[STRANGER, STRANGER], NEVER, OpenGate)?,
         ],
     )?;
     let done = run_at(rt, &SERVE, new_disk(alloc, NEVER)?, workers)?;
     expect_end(alloc, &done, &SERVED)?;
-    expect_served(alloc, &done, 0, &[output, &[STATS_HEAD, stats]])?;
+    expect_served(alloc, &done, 0, outputs)?;
     expect_served(alloc, &done, 1, &[&[NO_HOST], &[NO_HOST]])
 }
 

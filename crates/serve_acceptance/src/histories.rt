@@ -1,8 +1,8 @@
 //! Four connections to one store whose requests are answered in an order that is set: each is answered as by the office in memory.
 
 use crate::runs::{
-    Case, Coming, ListWorker, Machine, NEVER, PIPE, QUIET, SERVE, SERVED, TURNS, expect_end,
-    expect_sent, link_of, new_clock, new_disk, run_at, run_over, worker_of,
+    Case, ListWorker, Machine, NEVER, PIPE, SERVE, SERVED, TURNS, expect_end, expect_sent,
+    new_clock, new_disk, quiet_link, run_at, run_over, worker_with,
 };
 use backup_rules::Rules;
 use browse_http::{Served, serve_connection};
@@ -166,19 +166,17 @@ fn stepper<'a>(
     due: &'a AtomicU64,
     worker: usize,
 ) -> Result<ListWorker<StepGate<'a>>, Fail> {
-    let input = input_of(alloc, ROWS, worker)?;
-    let last = request(alloc, LAST, "")?;
-    let coming = Coming {
-        input: &[input.as_str(), last.as_str()],
-        ..QUIET
-    };
+    let mut input = input_of(alloc, ROWS, worker)?;
+    input.push_str(request(alloc, LAST, "")?.as_str())?;
+    let mut links = VecDeque::new(alloc);
+    links.push_back(quiet_link(alloc, input.as_str())?)?;
     let gate = StepGate {
         due,
         steps: steps_of(alloc, ROWS, worker)?,
         before: None,
         missed: false,
     };
-    worker_of(alloc, &[coming], NEVER, gate)
+    worker_with(alloc, links, NEVER, gate)
 }
 
 /// The default rules, and UTC.
@@ -192,11 +190,7 @@ fn defaults(alloc: Global) -> Result<Defaults, Fail> {
 
 /// Serves a connection with this input from the office, and gives its link back.
 fn told(alloc: Global, office: &mut TreeOffice<Md5Namer>, input: &str) -> Result<MemoryLink, Fail> {
-    let coming = Coming {
-        input: &[input],
-        ..QUIET
-    };
-    let link = link_of(alloc, &coming)?;
+    let link = quiet_link(alloc, input)?;
     let Served { link, .. } = serve_connection(
         alloc,
         office,

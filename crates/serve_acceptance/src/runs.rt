@@ -125,6 +125,12 @@ pub fn new_clock() -> FixedClock {
     FixedClock::new(Moment::new(1_700_000_000).unwrap_or(Moment::first()))
 }
 
+/// A link with this input, ample room and no call that fails.
+pub fn quiet_link(alloc: Global, input: &str) -> Result<MemoryLink, AllocError> {
+    let input = input.as_bytes().to_vec(alloc)?;
+    MemoryLink::new(alloc, input, ROOM, Vec::new(alloc))
+}
+
 /// A worker at a door at which these links come, and of which one call fails.
 pub fn worker_of<G: Drop>(
     alloc: Global,
@@ -136,6 +142,16 @@ pub fn worker_of<G: Drop>(
     for link in coming {
         links.push_back(link_of(alloc, link)?)?;
     }
+    worker_with(alloc, links, fails, gate)
+}
+
+/// The same, if the links are there.
+pub fn worker_with<G: Drop>(
+    alloc: Global,
+    links: VecDeque<MemoryLink>,
+    fails: u64,
+    gate: G,
+) -> Result<ListWorker<G>, Fail> {
     let fails = Vec::from_array(alloc, [fails])?;
     Ok(Worker {
         door: ListDoor::new(alloc, links, fails)?,
@@ -153,8 +169,7 @@ pub fn run_at<G: Gate + Drop>(
 ) -> Result<Ran<G>, AllocError> {
     let alloc = rt.alloc();
     let words = words_of(alloc, case.line)?;
-    let input = case.input.as_bytes().to_vec(alloc)?;
-    let link = MemoryLink::new(alloc, input, ROOM, Vec::new(alloc))?;
+    let link = quiet_link(alloc, case.input)?;
     let mut clock = new_clock();
     Ok(run(
         rt,
