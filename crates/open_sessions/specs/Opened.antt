@@ -1,7 +1,7 @@
 -- What open sessions are to an office.
 --     IsDump given contents dump open      the dump, by rows of given ids of contents
---     IsRestore given contents restore open      the restore
---     AreSessions given contents office sessions      all of them, in the order of opening
+--     IsRestore holds given contents restore open      the restore; `holds` says which bytes a digest took in
+--     AreSessions holds given contents office sessions      all of them, in the order of opening
 --     claims_in sessions id      how often the rows of open sessions name a content
 use Rattle.std.specs.Prelude.{◌≡◌, ℕ, ◌+◌, List, [], ◌∷◌}
 use Rattle.std.specs.Arc.{arc_value}
@@ -35,15 +35,17 @@ pub record IsDump (given : PoolId → Type 0) (contents : PoolId → List ℕ) (
   pub tree : dump.tree ≡ resolved contents session.tree
   pub tree_rows : AreRowsOf given contents session.tree
 
-pub record IsRestore (given : PoolId → Type 0) (contents : PoolId → List ℕ) (restore : Restore) (session : OpenRestore) : Type 0 where
+pub record IsRestore {S : Type 0} (holds : S → List ℕ → Type 0) (given : PoolId → Type 0) (contents : PoolId → List ℕ)
+    (restore : Restore) (session : OpenRestore S) : Type 0 where
   pub name : session.name ≡ restore.name
   pub tree : restore.tree ≡ resolved contents session.rows
   pub rows : AreRowsOf given contents session.rows
-  pub place : IsAt restore.tree restore.position session.place
+  pub place : IsAt holds restore.tree restore.position session.place
 
-pub record AreSessions (given : PoolId → Type 0) (contents : PoolId → List ℕ) (office : Office) (sessions : Sessions) : Type 0 where
+pub record AreSessions {S : Type 0} (holds : S → List ℕ → Type 0) (given : PoolId → Type 0) (contents : PoolId → List ℕ)
+    (office : Office) (sessions : Sessions S) : Type 0 where
   pub dumps : AtEachPair (λ i. IsDump given contents) office.dumps sessions.dumps.items
-  pub restores : AtEachPair (λ i. IsRestore given contents) office.restores sessions.restores.items
+  pub restores : AtEachPair (λ i. IsRestore holds given contents) office.restores sessions.restores.items
   pub sequence : sessions.sequence ≡ office.sequence
 
 -- ---- claims: one for each row that names the content
@@ -55,9 +57,10 @@ abbrev pub claims_in_dumps : List OpenDump → PoolId → ℕ
 claims_in_dumps [] id = 0
 claims_in_dumps (session ∷ sessions) id = claims_of_dump session id + claims_in_dumps sessions id
 
-abbrev pub claims_in_restores : List OpenRestore → PoolId → ℕ
-claims_in_restores [] id = 0
-claims_in_restores (session ∷ sessions) id = occurrences id session.rows + claims_in_restores sessions id
+module _ {S : Type 0} where
+  abbrev pub claims_in_restores : List (OpenRestore S) → PoolId → ℕ
+  claims_in_restores [] id = 0
+  claims_in_restores (session ∷ sessions) id = occurrences id session.rows + claims_in_restores sessions id
 
-abbrev pub claims_in : Sessions → PoolId → ℕ
-claims_in sessions id = claims_in_dumps sessions.dumps.items id + claims_in_restores sessions.restores.items id
+  abbrev pub claims_in : Sessions S → PoolId → ℕ
+  claims_in sessions id = claims_in_dumps sessions.dumps.items id + claims_in_restores sessions.restores.items id

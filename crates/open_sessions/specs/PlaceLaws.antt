@@ -1,12 +1,12 @@
 -- Laws of places: what is left from each of them, and what the model's restore gives.
 --     IsAt-start      a restore begins at the first row
---     entry_left, file_passed, content_read, piece_left, file_left, end_left      what is left, kind by kind
---     Gives restore frame place      the model's restore gives this frame, and stands then at this place
+--     entry_left, file_passed, piece_left, file_left, end_left      what is left, kind by kind
+--     Gives holds restore frame place      the model's restore gives this frame, and stands then at this place
 --     gives_next, gives_end      by what is left
-use Rattle.std.specs.Prelude.{◌≡◌, ℕ, zero, suc, ◌+◌, ◌-◌, ◌<◌, ◌≤◌, min, List, [], ◌∷◌, ◌++◌, map, length, take, drop, Option, Some, None, slice_get, unwrap_or}
+use Rattle.std.specs.Prelude.{◌≡◌, ℕ, zero, suc, ◌+◌, ◌-◌, ◌<◌, ◌≤◌, min, List, [], ◌∷◌, ◌++◌, map, length, take, drop, Some, None, slice_get, unwrap_or}
 use Rattle.std.specs.List.{flat_map}
-use Rattle.std.proofs.Common.{refl, sym, ap, ◌∙◌, subst, append_assoc, arith}
-use Rattle.std.proofs.lemmas.List.{length-drop, drop_all}
+use Rattle.std.proofs.Common.{refl, sym, ap, ◌∙◌, append_assoc, arith}
+use Rattle.std.proofs.lemmas.List.{length-drop}
 use Rattle.attr_records.specs.declared.nodes.Item.{Item}
 use Rattle.attr_records.specs.Items.{Tree}
 use Rattle.office_model.specs.declared.nodes.Frame.{Frame}
@@ -15,8 +15,8 @@ use Rattle.office_model.specs.Office.{Restore}
 use Rattle.office_model.specs.Frames.{node_of, bytes_of, pieces_of, pieces, frames}
 use Rattle.office_model.specs.events.ReadNext.{frame_of, moved_on}
 use Rattle.open_sessions.specs.declared.sessions.Place.{Place}
-use Rattle.open_sessions.specs.declared.sessions.Place.TheVariants.{Entry, Content, Piece}
-use Rattle.open_sessions.specs.Places.{row_frames, entries_of, bytes_found, bytes_at, pieces_from, frames_from, IsPlace, IsAt}
+use Rattle.open_sessions.specs.declared.sessions.Place.TheVariants.{Entry, Content, Piece, Wrong}
+use Rattle.open_sessions.specs.Places.{row_frames, entries_of, bytes_found, bytes_at, pieces_from, left_from, frames_from, IsPlace, IsAt}
 
 -- ---- pieces
 
@@ -90,14 +90,14 @@ module _ {A : Type 0} where
 -- ---- what is left
 
 module _ (tree : Tree) where
-  pub IsAt-start : IsAt tree 0 (Entry 0)
+  pub IsAt-start : {S : Type 0} (holds : S → List ℕ → Type 0) → IsAt holds tree 0 (Entry 0)
   unfolding frames
-  IsAt-start = record { left = refl; within = tt }
+  IsAt-start holds = record { left = refl; within = tt }
 
   module _ (row : ℕ) where
     -- the entry of a row, and behind it its content
     pub entry_left : (found : List ℕ × Item) → slice_get tree row ≡ Some found
-        → frames_from tree (Entry row) ≡ F.Entry found.0 (node_of found.1) ∷ frames_from tree (Content row)
+        → entries_of (length tree) (drop row tree) ≡ F.Entry found.0 (node_of found.1) ∷ left_from tree row 0
     entry_left found e =
         ap (entries_of (length tree)) (drop_at_place row tree found e ∙ ap (λ n. found ∷ drop n tree) next)
         ∙ ap (λ fs. F.Entry found.0 (node_of found.1) ∷ fs)
@@ -108,30 +108,28 @@ module _ (tree : Tree) where
         next = omega arith
 
     -- what has no bytes has no pieces
-    pub file_passed : length (bytes_at tree row) ≤ 0 → frames_from tree (Content row) ≡ frames_from tree (Entry (row + 1))
+    pub file_passed : length (bytes_at tree row) ≤ 0 → left_from tree row 0 ≡ entries_of (length tree) (drop (row + 1) tree)
     file_passed none = ap (λ ps. map F.Piece ps ++ entries_of (length tree) (drop (row + 1) tree)) (no_pieces (bytes_at tree row) none)
 
-    -- a content that was read
-    pub content_read : (content : List ℕ) → content ≡ bytes_at tree row
-        → frames_from tree (Content row) ≡ frames_from tree (Piece row content 0)
-    content_read content is = ap (pieces_from tree row) (sym is)
+    module _ (given : ℕ) where
+      abbrev unread : List ℕ
+      unread = drop given (bytes_at tree row)
 
-    module _ (content : List ℕ) (given : ℕ) where
-      pub piece_left : given < length content
-          → frames_from tree (Piece row content given) ≡ F.Piece (take 65536 (drop given content)) ∷ frames_from tree (Piece row content (given + 65536))
+      pub piece_left : given < length (bytes_at tree row)
+          → left_from tree row given ≡ F.Piece (take 65536 unread) ∷ left_from tree row (given + 65536)
       piece_left some =
-          let left : length (drop given content) ≡ length content - given = length-drop given content in
-          ap (λ ps. map F.Piece ps ++ entries_of (length tree) (drop (row + 1) tree)) (pieces_first (drop given content) (omega (arith, left, some)))
-          ∙ ap (λ bytes. F.Piece (take 65536 (drop given content)) ∷ pieces_from tree row bytes) (drop_more given 65536 content)
+          let left : length unread ≡ length (bytes_at tree row) - given = length-drop given (bytes_at tree row) in
+          ap (λ ps. map F.Piece ps ++ entries_of (length tree) (drop (row + 1) tree)) (pieces_first unread (omega (arith, left, some)))
+          ∙ ap (λ bytes. F.Piece (take 65536 unread) ∷ pieces_from tree row bytes) (drop_more given 65536 (bytes_at tree row))
 
       -- behind the last piece
-      pub file_left : length content ≤ given → frames_from tree (Piece row content given) ≡ frames_from tree (Entry (row + 1))
+      pub file_left : length (bytes_at tree row) ≤ given → left_from tree row given ≡ entries_of (length tree) (drop (row + 1) tree)
       file_left all =
-          let none : length (drop given content) ≤ 0 = let left = length-drop given content in omega (arith, left, all) in
-          ap (λ ps. map F.Piece ps ++ entries_of (length tree) (drop (row + 1) tree)) (no_pieces (drop given content) none)
+          let none : length unread ≤ 0 = let left = length-drop given (bytes_at tree row) in omega (arith, left, all) in
+          ap (λ ps. map F.Piece ps ++ entries_of (length tree) (drop (row + 1) tree)) (no_pieces unread none)
 
     -- behind the last row
-    pub end_left : slice_get tree row ≡ None → frames_from tree (Entry row) ≡ F.End (length tree) ∷ []
+    pub end_left : slice_get tree row ≡ None → entries_of (length tree) (drop row tree) ≡ F.End (length tree) ∷ []
     end_left e = ap (entries_of (length tree)) (drop_behind row tree e)
 
   -- the end, at least, is left
@@ -149,43 +147,45 @@ module _ (tree : Tree) where
     is = refl;
   }
 
-  some_left : (place : Place) → HasFirst (frames_from tree place)
-  some_left (Entry row) = has_first [] (drop row tree)
-  some_left (Content row) = has_first (map F.Piece (pieces (bytes_at tree row))) (drop (row + 1) tree)
-  some_left (Piece row content given) = has_first (map F.Piece (pieces (drop given content))) (drop (row + 1) tree)
+  some_left : {S : Type 0} (holds : S → List ℕ → Type 0) (place : Place S) → IsPlace holds tree place → HasFirst (frames_from tree place)
+  some_left holds (Entry row) within = has_first [] (drop row tree)
+  some_left holds (Content row) within = has_first (map F.Piece (pieces (bytes_at tree row))) (drop (row + 1) tree)
+  some_left holds (Piece row given digest) within = has_first (map F.Piece (pieces (drop given (bytes_at tree row)))) (drop (row + 1) tree)
+  some_left holds (Wrong content digest) within = absurd within
 
 -- ---- what a restore gives
 
-pub record Gives (restore : Restore) (frame : Frame) (place : Place) : Type 0 where
-  pub frame_is : frame_of restore ≡ frame
-  pub at : IsAt restore.tree (moved_on restore).position place
+module _ {S : Type 0} (holds : S → List ℕ → Type 0) where
+  pub record Gives (restore : Restore) (frame : Frame) (place : Place S) : Type 0 where
+    pub frame_is : frame_of restore ≡ frame
+    pub at : IsAt holds restore.tree (moved_on restore).position place
 
-module _ (restore : Restore) (place : Place) (frame : Frame) (is : IsAt restore.tree restore.position place) where
-  abbrev all : List Frame
-  all = frames restore.tree
+  module _ (restore : Restore) (place : Place S) (frame : Frame) (is : IsAt holds restore.tree restore.position place) where
+    abbrev all : List Frame
+    all = frames restore.tree
 
-  found_is : (rest : List Frame) → IsFront restore.position all frame rest → frame_of restore ≡ frame
-  found_is rest f = ap (λ o. unwrap_or o (F.End (length restore.tree))) f.here
+    found_is : (rest : List Frame) → IsFront restore.position all frame rest → frame_of restore ≡ frame
+    found_is rest f = ap (λ o. unwrap_or o (F.End (length restore.tree))) f.here
 
-  -- a frame, and behind it those from another place
-  pub gives_next : (next : Place) → frames_from restore.tree place ≡ frame ∷ frames_from restore.tree next → IsPlace restore.tree next
-      → Gives restore frame next
-  gives_next next e within =
-      let f = front restore.position all frame (frames_from restore.tree next) (is.left ∙ e) in
-      let more = some_left restore.tree next in
-      let some : length (frames_from restore.tree next) ≡ suc (length more.rest) = ap length more.is in
-      let moved : min (restore.position + 1) (length all - 1) ≡ suc restore.position = omega (arith, f.count, some) in
-      record {
-        frame_is = found_is (frames_from restore.tree next) f;
-        at = record { left = ap (λ n. drop n all) moved ∙ f.behind; within = within };
-      }
+    -- a frame, and behind it those from another place
+    pub gives_next : (next : Place S) → frames_from restore.tree place ≡ frame ∷ frames_from restore.tree next
+        → IsPlace holds restore.tree next → Gives restore frame next
+    gives_next next e within =
+        let f = front restore.position all frame (frames_from restore.tree next) (is.left ∙ e) in
+        let more = some_left restore.tree holds next within in
+        let some : length (frames_from restore.tree next) ≡ suc (length more.rest) = ap length more.is in
+        let moved : min (restore.position + 1) (length all - 1) ≡ suc restore.position = omega (arith, f.count, some) in
+        record {
+          frame_is = found_is (frames_from restore.tree next) f;
+          at = record { left = ap (λ n. drop n all) moved ∙ f.behind; within = within };
+        }
 
-  -- behind the last frame it comes again
-  pub gives_end : frames_from restore.tree place ≡ frame ∷ [] → Gives restore frame place
-  gives_end e =
-      let f = front restore.position all frame [] (is.left ∙ e) in
-      let moved : min (restore.position + 1) (length all - 1) ≡ restore.position = omega (arith, f.count) in
-      record {
-        frame_is = found_is [] f;
-        at = record { left = ap (λ n. drop n all) moved ∙ is.left; within = is.within };
-      }
+    -- behind the last frame it comes again
+    pub gives_end : frames_from restore.tree place ≡ frame ∷ [] → Gives restore frame place
+    gives_end e =
+        let f = front restore.position all frame [] (is.left ∙ e) in
+        let moved : min (restore.position + 1) (length all - 1) ≡ restore.position = omega (arith, f.count) in
+        record {
+          frame_is = found_is [] f;
+          at = record { left = ap (λ n. drop n all) moved ∙ is.left; within = is.within };
+        }

@@ -111,10 +111,10 @@ module _ (given : PoolId → Type 0) (contents : PoolId → List ℕ) where
     dump_index_of_host-sessions host = same_position (IsDump given contents) (λ dump. dump.host == host) (λ session. session.host == host)
         (λ x y r. ap (λ n. n == host) (sym r.host)) 0 dumps sessions pairs
 
-  pub restore_index-sessions : (restores : List Restore) (sessions : List OpenRestore)
-      → AtEachPair (λ i. IsRestore given contents) restores sessions → (name : SessionName)
+  pub restore_index-sessions : {S : Type 0} (holds : S → List ℕ → Type 0) (restores : List Restore) (sessions : List (OpenRestore S))
+      → AtEachPair (λ i. IsRestore holds given contents) restores sessions → (name : SessionName)
       → restore_index restores name ≡ position_from (λ session. is_same_session session.name name) 0 sessions
-  restore_index-sessions restores sessions pairs name = same_position (IsRestore given contents)
+  restore_index-sessions holds restores sessions pairs name = same_position (IsRestore holds given contents)
       (λ restore. is_same_session restore.name name) (λ session. is_same_session session.name name)
       (λ x y r. ap (λ n. is_same_session n name) (sym r.name)) 0 restores sessions pairs
 
@@ -154,20 +154,20 @@ module _ (sessions : List OpenDump) (id : PoolId) where
   claims_in_dumps-remove i session e =
       total-remove (λ session. claims_of_dump session id) (λ sessions. claims_in_dumps sessions id) refl (λ x xs. refl) sessions i session e
 
-module _ (sessions : List OpenRestore) (id : PoolId) where
-  pub claims_in_restores-push : (session : OpenRestore)
+module _ {S : Type 0} (sessions : List (OpenRestore S)) (id : PoolId) where
+  pub claims_in_restores-push : (session : OpenRestore S)
       → claims_in_restores (sessions ++ session ∷ []) id ≡ claims_in_restores sessions id + occurrences id session.rows
   claims_in_restores-push session =
       total-push (λ session. occurrences id session.rows) (λ sessions. claims_in_restores sessions id) refl (λ x xs. refl) sessions session
 
-  pub claims_in_restores-set : (i : ℕ) (old new : OpenRestore) → slice_get sessions i ≡ Some old
+  pub claims_in_restores-set : (i : ℕ) (old new : OpenRestore S) → slice_get sessions i ≡ Some old
       → claims_in_restores (slice_set sessions i new) id + occurrences id old.rows
       ≡ claims_in_restores sessions id + occurrences id new.rows
   claims_in_restores-set i old new e =
       total-set (λ session. occurrences id session.rows) (λ sessions. claims_in_restores sessions id) refl (λ x xs. refl)
       sessions i old new e
 
-  pub claims_in_restores-remove : (i : ℕ) (session : OpenRestore) → slice_get sessions i ≡ Some session
+  pub claims_in_restores-remove : (i : ℕ) (session : OpenRestore S) → slice_get sessions i ≡ Some session
       → claims_in_restores (remove sessions i) id + occurrences id session.rows ≡ claims_in_restores sessions id
   claims_in_restores-remove i session e =
       total-remove (λ session. occurrences id session.rows) (λ sessions. claims_in_restores sessions id) refl (λ x xs. refl)
@@ -213,7 +213,7 @@ module _ (id : PoolId) where
 
 -- ---- ids that rows of sessions name are claimed
 
-module _ (sessions : Sessions) (id : PoolId) where
+module _ {S : Type 0} (sessions : Sessions S) (id : PoolId) where
   module _ (i : ℕ) (session : OpenDump) (there : slice_get sessions.dumps.items i ≡ Some session) where
     pub dump_claimed : 0 < claims_of_dump session id → 0 < claims_in sessions id
     dump_claimed some = omega (arith, some, claims_in_dumps-remove sessions.dumps.items id i session there)
@@ -224,7 +224,7 @@ module _ (sessions : Sessions) (id : PoolId) where
     pub base_claimed : 0 < occurrences id (base_of session) → 0 < claims_in sessions id
     base_claimed some = dump_claimed (omega (arith, some))
 
-  pub rows_claimed : (i : ℕ) (session : OpenRestore) → slice_get sessions.restores.items i ≡ Some session → 0 < occurrences id session.rows
+  pub rows_claimed : (i : ℕ) (session : OpenRestore S) → slice_get sessions.restores.items i ≡ Some session → 0 < occurrences id session.rows
       → 0 < claims_in sessions id
   rows_claimed i session there some = omega (arith, some, claims_in_restores-remove sessions.restores.items id i session there)
 
@@ -294,32 +294,40 @@ module _ (given : PoolId → Type 0) (contents : PoolId → List ℕ) where
         of_tree : (id : PoolId) → given id → 0 < occurrences id session.tree → IsKept id
         of_tree id g some = kept id g (omega (arith, some))
 
-    pub IsRestore-claimed : (restore : Restore) (session : OpenRestore)
-        → ((id : PoolId) → given id → 0 < occurrences id session.rows → IsKept id)
-        → IsRestore given contents restore session → IsRestore given' contents' restore session
-    IsRestore-claimed restore session kept is = record {
-      name = is.name;
-      tree = is.tree ∙ resolved-named session.rows kept is.rows;
-      rows = AreRowsOf-named session.rows kept is.rows;
-      place = is.place;
+-- restores, and all sessions
+module _ {S : Type 0} (holds : S → List ℕ → Type 0) (given : PoolId → Type 0) (contents : PoolId → List ℕ) (given' : PoolId → Type 0)
+    (contents' : PoolId → List ℕ) where
+  abbrev Kept : PoolId → Type 0
+  Kept = IsKept given contents given' contents'
+
+  pub IsRestore-claimed : (restore : Restore) (session : OpenRestore S)
+      → ((id : PoolId) → given id → 0 < occurrences id session.rows → Kept id)
+      → IsRestore holds given contents restore session → IsRestore holds given' contents' restore session
+  IsRestore-claimed restore session kept is = record {
+    name = is.name;
+    tree = is.tree ∙ resolved-named given contents given' contents' session.rows kept is.rows;
+    rows = AreRowsOf-named given contents given' contents' session.rows kept is.rows;
+    place = is.place;
+  }
+
+  module _ (office : Office) (sessions : Sessions S) where
+    -- where claimed ids stay given, and their contents the same
+    pub AreSessions-claimed : ((id : PoolId) → given id → 0 < claims_in sessions id → Kept id)
+        → AreSessions holds given contents office sessions → AreSessions holds given' contents' office sessions
+    AreSessions-claimed kept at = record {
+      dumps = pairs_each (λ i. IsDump given contents) (λ i. IsDump given' contents') office.dumps sessions.dumps.items
+          (λ i x y e f. IsDump-claimed given contents given' contents' x y (λ id g some. kept id g (dump_claimed sessions id i y f some)))
+          at.dumps;
+      restores = pairs_each (λ i. IsRestore holds given contents) (λ i. IsRestore holds given' contents') office.restores
+          sessions.restores.items
+          (λ i x y e f. IsRestore-claimed x y (λ id g some. kept id g (rows_claimed sessions id i y f some))) at.restores;
+      sequence = at.sequence;
     }
 
-    module _ (office : Office) (sessions : Sessions) where
-      -- where claimed ids stay given, and their contents the same
-      pub AreSessions-claimed : ((id : PoolId) → given id → 0 < claims_in sessions id → IsKept id)
-          → AreSessions given contents office sessions → AreSessions given' contents' office sessions
-      AreSessions-claimed kept at = record {
-        dumps = pairs_each (λ i. IsDump given contents) (λ i. IsDump given' contents') office.dumps sessions.dumps.items
-            (λ i x y e f. IsDump-claimed x y (λ id g some. kept id g (dump_claimed sessions id i y f some))) at.dumps;
-        restores = pairs_each (λ i. IsRestore given contents) (λ i. IsRestore given' contents') office.restores sessions.restores.items
-            (λ i x y e f. IsRestore-claimed x y (λ id g some. kept id g (rows_claimed sessions id i y f some))) at.restores;
-        sequence = at.sequence;
-      }
-
-      -- where all given ids stay given, and their contents the same
-      pub AreSessions-kept : ((id : PoolId) → given id → IsKept id)
-          → AreSessions given contents office sessions → AreSessions given' contents' office sessions
-      AreSessions-kept kept at = AreSessions-claimed (λ id g some. kept id g) at
+    -- where all given ids stay given, and their contents the same
+    pub AreSessions-kept : ((id : PoolId) → given id → Kept id)
+        → AreSessions holds given contents office sessions → AreSessions holds given' contents' office sessions
+    AreSessions-kept kept at = AreSessions-claimed (λ id g some. kept id g) at
 
 -- ---- rules of rows and of their tree
 

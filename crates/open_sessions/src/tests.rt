@@ -1,4 +1,4 @@
-ghost use Rattle.std.specs.Prelude.{◌≡◌, ◌+◌, ◌<◌, ◌^◌, OnOk};
+ghost use Rattle.std.specs.Prelude.{◌≡◌, ◌+◌, ◌<◌, ◌^◌, OnOk, IfOk};
 
 use crate::{OpenDump, OpenRestore, Place, Sessions};
 use attr_records::{Attr, Dir, PathName};
@@ -34,16 +34,38 @@ const STEPS: [Step; 7] = [
     Step(0, b'r', b"a/b", Answer::NoPath),
 ];
 
+// A look-up of a dump (`d`) or a restore (`r`) by epoch and sequence, and the place that it gives.
+struct LookUp(u8, u64, u64, Option<usize>);
+
+const LOOK_UPS: [LookUp; 12] = [
+    LookUp(b'd', 3, 0, Some(0)),
+    LookUp(b'd', 3, 3, Some(2)),
+    LookUp(b'd', 3, 8, Some(4)),
+    LookUp(b'd', 3, 1, None),
+    LookUp(b'd', 3, 9, None),
+    LookUp(b'd', 2, 3, None),
+    LookUp(b'r', 3, 1, Some(0)),
+    LookUp(b'r', 3, 5, Some(2)),
+    LookUp(b'r', 3, 7, Some(3)),
+    LookUp(b'r', 3, 0, None),
+    LookUp(b'r', 3, 8, None),
+    LookUp(b'r', 4, 5, None),
+];
+
 fn expect(holds: bool, text: &'static str) -> Result<(), Fail> {
     if holds { Ok(()) } else { Err(Fail::new(text)) }
 }
 
-fn name_of(sequence: u64) -> SessionName {
+fn name_of(sequence: u64) -> SessionName
+    ensures { result.sequence ≡ sequence }
+{
     SessionName { epoch: 3, sequence }
 }
 
 // A full dump of a host.
-fn dump_of(alloc: Global, sequence: u64, host: usize) -> Result<OpenDump, AllocError> {
+fn dump_of(alloc: Global, sequence: u64, host: usize) -> Result<OpenDump, AllocError>
+    ensures { IfOk result (λ dump. dump.name.sequence ≡ sequence) }
+{
     Ok(OpenDump {
         name: name_of(sequence),
         host,
@@ -54,20 +76,57 @@ fn dump_of(alloc: Global, sequence: u64, host: usize) -> Result<OpenDump, AllocE
     })
 }
 
+fn restore_of(alloc: Global, sequence: u64) -> OpenRestore<u8>
+    ensures { result.name.sequence ≡ sequence }
+{
+    OpenRestore {
+        name: name_of(sequence),
+        rows: Table::new(alloc),
+        place: Place::Entry(0),
+    }
+}
+
 // Dumps 0 and 1 of the hosts 5 and 4, and restore 2.
-fn opened(alloc: Global) -> Result<Sessions, Fail> {
+fn opened(alloc: Global) -> Result<Sessions<u8>, Fail> {
     let mut sessions = Sessions::new(alloc);
     sessions.open_dump(dump_of(alloc, 0, 5)?)?;
     sessions.open_dump(dump_of(alloc, 1, 4)?)?;
-    sessions.open_restore(OpenRestore {
-        name: name_of(2),
-        rows: Table::new(alloc),
-        place: Place::Entry(0),
-    })?;
+    sessions.open_restore(restore_of(alloc, 2))?;
     Ok(sessions)
 }
 
-fn put(sessions: &mut Sessions, at: u64, path: PathName) -> Answer {
+// Opens a dump (`d`) or a restore (`r`).
+fn open_next(alloc: Global, sessions: &mut Sessions<u8>, kind: u8) -> Result<(), Fail> {
+    let sequence = sessions.sequence;
+    if sequence == u64::MAX {
+        return Err(Fail::new("no number is left"));
+    }
+    if kind == b'd' {
+        sessions.open_dump(dump_of(alloc, sequence, 5)?)?;
+    } else {
+        sessions.open_restore(restore_of(alloc, sequence))?;
+    }
+    Ok(())
+}
+
+// Dumps 0, 2, 3, 6 and 8, and restores 1, 4, 5 and 7.
+fn several_opened(alloc: Global) -> Result<Sessions<u8>, Fail> {
+    let mut sessions = Sessions::new(alloc);
+    for kind in b"drddrrdrd" {
+        open_next(alloc, &mut sessions, *kind)?;
+    }
+    Ok(sessions)
+}
+
+fn place_of(sessions: &Sessions<u8>, kind: u8, name: SessionName) -> Option<usize> {
+    if kind == b'd' {
+        sessions.dump_at(name)
+    } else {
+        sessions.restore_at(name)
+    }
+}
+
+fn put(sessions: &mut Sessions<u8>, at: u64, path: PathName) -> Answer {
     let Some(index) = sessions.dump_at(name_of(at)) else {
         return Answer::NoSession;
     };
@@ -81,7 +140,7 @@ fn put(sessions: &mut Sessions, at: u64, path: PathName) -> Answer {
     }
 }
 
-fn remove(alloc: Global, sessions: &mut Sessions, at: u64, path: &PathName) -> Answer {
+fn remove(alloc: Global, sessions: &mut Sessions<u8>, at: u64, path: &PathName) -> Answer {
     let Some(index) = sessions.dump_at(name_of(at)) else {
         return Answer::NoSession;
     };
@@ -103,6 +162,20 @@ fn an_edit_goes_to_the_dump_of_its_name(rt: HostRuntime) -> Result<(), Fail> {
             _ => put(&mut sessions, *at, path),
         };
         expect(answer == *wanted, "another answer")?;
+    }
+    Ok(())
+}
+
+#[test]
+fn a_name_is_found_at_its_place_alone(rt: HostRuntime) -> Result<(), Fail> {
+    let sessions = several_opened(rt.alloc())?;
+    for LookUp(kind, epoch, sequence, wanted) in &LOOK_UPS {
+        let name = SessionName {
+            epoch: *epoch,
+            sequence: *sequence,
+        };
+        let place = place_of(&sessions, *kind, name);
+        expect(place == *wanted, "another place")?;
     }
     Ok(())
 }

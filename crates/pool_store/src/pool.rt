@@ -88,6 +88,13 @@ impl<N: Namer> Pool<N> {
         })
     }
 
+    /// What gives a content its digest.
+    pub fn namer(&self) -> N
+        ensures { result ≡ self.now.namer }
+    {
+        self.namer
+    }
+
     /// What is known of a name, or `None` if it is unused.
     pub fn slot(&self, id: PoolId) -> Option<Slot>
         ensures { result ≡ slots_of self.now.names id }

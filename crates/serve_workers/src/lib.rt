@@ -11,8 +11,6 @@
 
 mod seating;
 mod serving;
-#[cfg(test)]
-mod tests;
 
 pub use serve_doors::Worker;
 pub use serving::{StoreAndWorkers, serve_workers};

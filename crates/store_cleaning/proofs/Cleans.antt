@@ -149,7 +149,7 @@ module _ {D N S : Type 0} {d : DiskGhosts D} {n : NamerGhosts N S} where
       let hosted = protected_counted n.digest_of (index_of (slots parts)) at.backups at.all (durable office) at.stands id
       (ap is_some listed.0)
       ∙ sym (hosts_count id parts.counts at.backups at.counted) in
-      let opened = sessions_hold (given (slots parts)) (contents_of at.all) one id claimed.0 office parts.sessions at.sessions
+      let opened = sessions_hold (given (slots parts)) (contents_of at.all) one id claimed.0 n.holds office parts.sessions at.sessions
       ∙ ap (nat_lt 0) (sym (at.claimed id)) in
       (λ i. claimed.1 i || is_named parts.counts (listed.1 i))
       ∙ kept_by (in_hosts office.hosts content)
@@ -287,7 +287,7 @@ module _ {D N S : Type 0} {d : DiskGhosts D} {n : NamerGhosts N S} where
             used id = same is_some cleaned_used id
 
             claimed : (id : PoolId) → claims_of (slots new id) ≡ claims_in new.sessions id
-            claimed id = same claims_of cleaned_claims id ∙ at.claimed id ∙ ap (λ (s : Sessions). claims_in s id) (sym sessions)
+            claimed id = same claims_of cleaned_claims id ∙ at.claimed id ∙ ap (λ (s : Sessions S). claims_in s id) (sym sessions)
 
             still_given : (id : PoolId) → given (slots old) id → 0 < claims_of (slots old id) → given (slots new) id
             still_given id g some =
@@ -333,9 +333,9 @@ module _ {D N S : Type 0} {d : DiskGhosts D} {n : NamerGhosts N S} where
                   catalog_is = catalog ∙ at.catalog_is;
                 };
                 counted = subst (λ (cs : List Items). AreCountsOf cs at.backups) (sym counts) at.counted;
-                sessions = subst (λ (s : Sessions). AreSessions (given (slots new)) (contents_of image) (after_cleaning inside office) s)
+                sessions = subst (λ (s : Sessions S). AreSessions n.holds (given (slots new)) (contents_of image) (after_cleaning inside office) s)
                     (sym sessions)
-                    (AreSessions-claimed (given (slots old)) (contents_of at.all) (given (slots new)) (contents_of image)
+                    (AreSessions-claimed n.holds (given (slots old)) (contents_of at.all) (given (slots new)) (contents_of image)
                     (after_cleaning inside office) old.sessions
                     (λ id g some. (
                       still_given id g (subst (λ (m : ℕ). 0 < m) (sym (at.claimed id)) some),

@@ -243,7 +243,7 @@ module _ {D N S : Type 0} {d : DiskGhosts D} {n : NamerGhosts N S} where
       running = record {
         working = working_staged old new office names at catalog counts sessions views halted form stays swept.has;
         claimed = λ id. alike (slots old) (slots new) pruned claims_of refl id ∙ at.claimed id
-            ∙ ap (λ (s : Sessions). claims_in s id) (sym sessions);
+            ∙ ap (λ (s : Sessions S). claims_in s id) (sym sessions);
       }
 
       crash_swept : FindsOnly old.journal new.journal (MayRecover n.digest_of office ((meaning_of Sweep).carried office names))

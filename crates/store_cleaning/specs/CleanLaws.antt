@@ -4,7 +4,7 @@
 --     cleaned_index      the index after the cleaning
 --     cleaned_number      how many names gain the mark, lose it or leave is how many contents do
 --     none_cleaned, some_cleaned      if there are none, the pool stays;  if there are some, it changes
-use Rattle.std.specs.Prelude.{◌≡◌, ◌≢◌, ℕ, zero, suc, ◌+◌, ◌<◌, ◌/◌, ◌==◌, nat_lt, Bool, true, false, cond, not, ◌||◌, List, [], ◌∷◌, length, map, Option, Some, None, is_some, slice_get, slice_index, if◌then◌else◌}
+use Rattle.std.specs.Prelude.{◌≡◌, ℕ, zero, suc, ◌+◌, ◌<◌, ◌/◌, ◌==◌, nat_lt, Bool, true, false, cond, not, ◌||◌, List, [], ◌∷◌, length, map, Option, Some, None, is_some, slice_get, slice_index, if◌then◌else◌}
 use Rattle.std.specs.declared.cmp.Ordering.TheVariants.{Equal}
 use Rattle.std.specs.Ordering.{eq_by_cmp}
 use Rattle.std.specs.Cmp.{Equal-is}
@@ -108,24 +108,27 @@ module _ (given : PoolId → Type 0) (contents : PoolId → List ℕ) (one : IsO
       ∙ sym (above_sum (m + n) (claims_in_dumps sessions id)
       ∙ ap (λ (b : Bool). b || nat_lt 0 (claims_in_dumps sessions id)) (above_sum m n))
 
-  restores_hold : (restores : List Restore) (sessions : List OpenRestore) → AtEachPair (λ i. IsRestore given contents) restores sessions
+  restores_hold : {S : Type 0} (took_in : S → List ℕ → Type 0) (restores : List Restore) (sessions : List (OpenRestore S))
+      → AtEachPair (λ i. IsRestore took_in given contents) restores sessions
       → in_restores restores (contents id) ≡ nat_lt 0 (claims_in_restores sessions id)
-  restores_hold [] [] pairs = refl
-  restores_hold [] (s ∷ sessions) pairs = absurd (let same = pairs.counted in omega arith)
-  restores_hold (restore ∷ restores) [] pairs = absurd (let same = pairs.counted in omega arith)
-  restores_hold (restore ∷ restores) (s ∷ sessions) pairs =
-      let is = first_pair (λ i. IsRestore given contents) restore restores s sessions pairs in
-      let rest = restores_hold restores sessions (later_pairs (λ i. IsRestore given contents) restore restores s sessions pairs) in
+  restores_hold took_in [] [] pairs = refl
+  restores_hold took_in [] (s ∷ sessions) pairs = absurd (let same = pairs.counted in omega arith)
+  restores_hold took_in (restore ∷ restores) [] pairs = absurd (let same = pairs.counted in omega arith)
+  restores_hold took_in (restore ∷ restores) (s ∷ sessions) pairs =
+      let is = first_pair (λ i. IsRestore took_in given contents) restore restores s sessions pairs in
+      let rest = restores_hold took_in restores sessions
+      (later_pairs (λ i. IsRestore took_in given contents) restore restores s sessions pairs) in
       let tree = tree_holds restore.tree s.rows is.tree is.rows.told in
       (λ i. tree i || rest i) ∙ sym (above_sum (occurrences id s.rows) (claims_in_restores sessions id))
 
   -- an open dump's tree or base, or an open restore's tree
-  pub sessions_hold : (office : Office) (sessions : Sessions) → AreSessions given contents office sessions
+  pub sessions_hold : {S : Type 0} (took_in : S → List ℕ → Type 0) (office : Office) (sessions : Sessions S)
+      → AreSessions took_in given contents office sessions
       → (in_dumps office.dumps (contents id) || (in_bases office.dumps (contents id) || in_restores office.restores (contents id)))
       ≡ nat_lt 0 (claims_in sessions id)
-  sessions_hold office sessions are =
+  sessions_hold took_in office sessions are =
       let dumps = dumps_hold office.dumps sessions.dumps.items are.dumps in
-      let restores = restores_hold office.restores sessions.restores.items are.restores in
+      let restores = restores_hold took_in office.restores sessions.restores.items are.restores in
       assoc (in_dumps office.dumps (contents id)) (in_bases office.dumps (contents id)) (in_restores office.restores (contents id))
       ∙ (λ i. dumps i || restores i)
       ∙ sym (above_sum (claims_in_dumps sessions.dumps.items id) (claims_in_restores sessions.restores.items id))

@@ -1,6 +1,6 @@
 -- The files after a planned commit stand for the office after it.
 --     stored_after      for the office that the parts hold
-use Rattle.std.specs.Prelude.{◌≡◌, ℕ, ◌<◌, ◌≤◌, Bool, true, false, not, List, length, Option, Some, None, is_some, slice_get, slice_set}
+use Rattle.std.specs.Prelude.{◌≡◌, ℕ, ◌≤◌, true, false, not, List, length, Option, Some, None, is_some, slice_get, slice_set}
 use Rattle.std.proofs.Common.{refl, sym, ap, ◌∙◌, subst, arith}
 use Rattle.std.proofs.lemmas.Option.{slice_get_within}
 use Rattle.disk_trait.specs.declared.ids.PoolId.{PoolId}
@@ -11,16 +11,14 @@ use Rattle.disk_trait.specs.Names.{is_metadata}
 use Rattle.disk_trait.specs.Files.{Files}
 use Rattle.pool_name.specs.declared.namer.Namer.{Ghosts as NamerGhosts}
 use Rattle.intent_journal.specs.declared.changes.Change.{Change}
-use Rattle.intent_journal.specs.Changes.{applied, AreChanges}
+use Rattle.intent_journal.specs.Changes.{applied}
 use Rattle.journal_view.specs.View.{told, uncertain}
 use Rattle.backup_rules.specs.declared.lines.Line.{Line}
 use Rattle.backup_index.specs.Index.{Index as HostIndex}
 use Rattle.merge_view.specs.Views.{Rows}
 use Rattle.pool_index.specs.Index.{Index, TellsByte, TellsBuckets}
-use Rattle.pool_changes.specs.Slots.{is_given}
 use Rattle.pool_changes.specs.Listed.{index_of}
 use Rattle.pool_changes.specs.Indexed.{after as relisted_after, relisted_by}
-use Rattle.pool_changes.specs.Written.{LeadsIndex}
 use Rattle.stored_trees.specs.Resolved.{resolved, AreTold}
 use Rattle.ref_counts.specs.Numbers.{Items}
 use Rattle.ref_counts.specs.Stored.{Backup as StoredBackup}
@@ -29,7 +27,7 @@ use Rattle.open_sessions.specs.declared.sessions.OpenDump.{OpenDump}
 use Rattle.open_sessions.specs.SessionLaws.{pairs_set}
 use Rattle.office_catalog.specs.Held.{HoldsCatalog}
 use Rattle.office_catalog.specs.Known.{Known, with_line}
-use Rattle.office_model.specs.Office.{Office, Host, Backup, Names, IsSound, IsSoundHost, durable, backup_index}
+use Rattle.office_model.specs.Office.{Office, Host, Names, IsSound, IsSoundHost, durable, backup_index}
 use Rattle.office_model.specs.Places.{slice_get-set_same}
 use Rattle.office_model.specs.Parts.{lines_of}
 use Rattle.office_model.specs.Pool.{Pool, with_tree}
@@ -46,16 +44,13 @@ use Rattle.office_known.specs.KnownLaws.{stands_catalog}
 use Rattle.office_changes.specs.ChangeLaws.{is_of_host, is_of_index}
 use Rattle.office_changes.specs.PoolLaws.{listed_with, told_with}
 use Rattle.store_parts.specs.declared.parts.StoreParts.{StoreParts}
-use Rattle.store_parts.specs.Held.{given, AreCounts, IsKeptView}
+use Rattle.store_parts.specs.Held.{given, AreCounts}
 use Rattle.store_parts.specs.States.{slots, IsRunning}
 use Rattle.store_parts.specs.StoredLaws.{contents_written}
-use Rattle.store_commits.specs.declared.files.HostFiles.{HostFiles}
-use Rattle.store_commits.specs.declared.former.Folding.{Folding}
 use Rattle.store_commits.specs.declared.plan.Plan.{Plan}
 use Rattle.store_commits.specs.AcceptLaws.{with_added}
 use Rattle.store_commits.specs.Ids.{ids_in}
 use Rattle.store_commits.specs.Former.{dropped_of, IsFolded}
-use Rattle.store_commits.specs.Judged.{line_of}
 use Rattle.store_commits.specs.Planned.{IsPlanned}
 use Rattle.store_commits.specs.Written.{written}
 use Rattle.store_commits.specs.WrittenLaws.{IsFormer, AreOfIndex, at_other, at_pool_index, at_pool_bucket}

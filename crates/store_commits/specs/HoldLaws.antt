@@ -169,7 +169,7 @@ module _ {D N S : Type 0} {d : DiskGhosts D} {n : NamerGhosts N S} where
           → LetsGo (claims_of_dump session) (with_added (ids_in session.tree) (slots old)) (slots new)
       go office names at =
           subst (λ s. LetsGo (claims_of_dump session) s (slots new)) relisted_is
-          (f.pool session (ap (λ (s : Sessions). slice_get s.dumps.items place) w.sessions_same ∙ there) planned.built.rows_are
+          (f.pool session (ap (λ (s : Sessions S). slice_get s.dumps.items place) w.sessions_same ∙ there) planned.built.rows_are
           (λ id. enough id (ap (λ s. claims_of (s id)) relisted_is ∙ claims_added (ids_in session.tree) (slots old) id)))
         where
           enough : (id : PoolId) → claims_of (relisted_after plan.index (slots mid) id) ≡ claims_of (slots old id)
@@ -177,18 +177,18 @@ module _ {D N S : Type 0} {d : DiskGhosts D} {n : NamerGhosts N S} where
           enough id same = omega (arith, same, at.claimed id, claims_in_dumps-remove old.sessions.dumps.items id place session there)
 
       dumps_are : new.sessions.dumps.items ≡ remove old.sessions.dumps.items place
-      dumps_are = f.dumps ∙ ap (λ (s : Sessions). remove s.dumps.items place) w.sessions_same
+      dumps_are = f.dumps ∙ ap (λ (s : Sessions S). remove s.dumps.items place) w.sessions_same
 
       restores_are : new.sessions.restores ≡ old.sessions.restores
-      restores_are = f.restores ∙ ap (λ (s : Sessions). s.restores) w.sessions_same
+      restores_are = f.restores ∙ ap (λ (s : Sessions S). s.restores) w.sessions_same
 
       sequence_is : new.sessions.sequence ≡ old.sessions.sequence
-      sequence_is = f.sequence ∙ ap (λ (s : Sessions). s.sequence) w.sessions_same
+      sequence_is = f.sequence ∙ ap (λ (s : Sessions S). s.sequence) w.sessions_same
 
       sessions_after : (office : Office) (names : Names) (at : IsRunning old office names)
-          → AreSessions (given (slots old)) (contents_of at.all) (record office { dumps = remove office.dumps place }) new.sessions
+          → AreSessions n.holds (given (slots old)) (contents_of at.all) (record office { dumps = remove office.dumps place }) new.sessions
       sessions_after office names at =
-          AreSessions-dump_taken old.sessions new.sessions restores_are (given (slots old)) (contents_of at.all) office at.sessions place
+          AreSessions-dump_taken old.sessions new.sessions restores_are n.holds (given (slots old)) (contents_of at.all) office at.sessions place
           dumps_are sequence_is
 
       counts_after : (office : Office) (names : Names) (at : IsRunning old office names) (m : IsMeant old place session office names at)

@@ -2,7 +2,7 @@
 --     IsBuiltOf      the files that were built of a host and an open dump
 --     HostAfter      what stands in the files of the host then: its backups are shown as before, and the new one
 --     host_after      built files lead to it
-use Rattle.std.specs.Prelude.{◌≡◌, ◌≢◌, ◌⊎◌, ℕ, zero, suc, ◌+◌, ◌^◌, ◌<◌, ◌≤◌, ◌==◌, Bool, true, false, List, [], ◌∷◌, ◌++◌, length, Option, Some, None, is_some, slice_get, if◌then◌else◌}
+use Rattle.std.specs.Prelude.{◌≡◌, ◌≢◌, ◌⊎◌, ℕ, zero, suc, ◌<◌, ◌≤◌, ◌==◌, Bool, true, false, List, [], ◌∷◌, ◌++◌, length, Option, Some, None, is_some, slice_get, if◌then◌else◌}
 use Rattle.std.proofs.Common.{refl, sym, ap, ◌∙◌, subst, append_assoc, inl, inr, arith}
 use Rattle.std.proofs.lemmas.Bool.{true≢false, eq-eqb}
 use Rattle.disk_trait.specs.declared.ids.PoolId.{PoolId}
@@ -15,7 +15,7 @@ use Rattle.attr_tables.specs.Layout.{IsTable}
 use Rattle.attr_tables.specs.Tables.{table_file}
 use Rattle.backup_rules.specs.declared.lines.Line.{Line}
 use Rattle.backup_rules.specs.Fill.{stays_filled}
-use Rattle.merge_view.specs.Views.{Rows, reverse}
+use Rattle.merge_view.specs.Views.{Rows}
 use Rattle.ref_counts.specs.Numbers.{Items, total}
 use Rattle.ref_counts.specs.Layout.{IsCounts}
 use Rattle.ref_counts.specs.CountsFile.{counts_file}
@@ -35,7 +35,7 @@ use Rattle.store_commits.specs.declared.former.Folding.{Folding}
 use Rattle.store_commits.specs.Former.{dropped_of, IsFolded}
 use Rattle.store_commits.specs.Planned.{IsCountedBy, IsFormerFile}
 use Rattle.store_commits.specs.Written.{written}
-use Rattle.store_commits.specs.WrittenLaws.{IsFormer, AreOfIndex, at_host, at_table, at_counts}
+use Rattle.store_commits.specs.WrittenLaws.{IsFormer, AreOfIndex, at_host, at_counts}
 use Rattle.store_commits.specs.HostLaws.{HasLast, ends, new_stored, IsWritten, host_further, none_beyond}
 use Rattle.store_commits.specs.LineLaws.{dropped_newest}
 use Rattle.store_commits.specs.BoundLaws.{few_counted}

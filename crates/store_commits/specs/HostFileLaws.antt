@@ -25,7 +25,6 @@ use Rattle.office_files.specs.Layouts.{IsHostFile, IsTableFile}
 use Rattle.office_files.specs.KeptLaws.{IsTableFile-same}
 use Rattle.office_known.specs.KnownLaws.{host_of_catalog}
 use Rattle.office_changes.specs.AppliedLaws.{applied_here}
-use Rattle.store_commits.specs.declared.files.Former.{Former}
 use Rattle.store_commits.specs.declared.files.HostFiles.{HostFiles}
 use Rattle.store_commits.specs.declared.former.Folding.{Folding}
 use Rattle.store_commits.specs.Former.{IsFolded}

@@ -1,12 +1,11 @@
 -- The index of a host after a commit.
 --     dropped_none, dropped_newest      what the rules say of the newest backup's line
 --     index_committed      the index with the new line is that of the host after the commit
-use Rattle.std.specs.Prelude.{◌≡◌, ◌⊎◌, ℕ, ◌+◌, ◌-◌, Bool, true, false, not, List, [], ◌∷◌, ◌++◌, length, map, Option, Some, None, is_some, slice_get, if◌then◌else◌}
+use Rattle.std.specs.Prelude.{◌≡◌, ◌⊎◌, ℕ, ◌-◌, Bool, true, false, not, List, [], ◌∷◌, ◌++◌, length, Some, None, is_some, slice_get, if◌then◌else◌}
 use Rattle.std.proofs.Common.{refl, sym, ap, ◌∙◌, subst, inl, inr, arith}
 use Rattle.backup_rules.specs.declared.lines.Line.{Line}
 use Rattle.backup_rules.specs.Fill.{stays_filled}
 use Rattle.backup_rules.specs.Values.{RuleSet}
-use Rattle.backup_index.specs.Index.{Index}
 use Rattle.office_catalog.specs.Known.{given_filled, last_filled, with_line}
 use Rattle.office_model.specs.Office.{Host, Backup, Dump}
 use Rattle.office_model.specs.Parts.{lines_of, filled_as, with_newest}

@@ -74,7 +74,7 @@ module _ {D N S : Type 0} {d : DiskGhosts D} {n : NamerGhosts N S} where
         → ((id : PoolId) → claims_in new.sessions id + count id ≡ claims_in old.sessions id)
         → Stands n.digest_of (index_of (with_added ids (slots old))) backups (applied changes at.all) (durable after)
         → TellsIn false (index_of (with_added ids (slots old))) (applied changes at.all)
-        → AreSessions (given (slots old)) (contents_of at.all) after new.sessions
+        → AreSessions n.holds (given (slots old)) (contents_of at.all) after new.sessions
         → IsKeptView new.views.kept after.hosts backups → AreCountsOf new.counts backups → IsSound after
         → new.journal ≡ mid.journal → new.catalog ≡ known_of_office (durable after) → new.halted ≡ mid.halted → IsRunning new after names
     running_committed accepted form claims stands tells sessions view counted sound journal catalog halted = record {
@@ -101,7 +101,7 @@ module _ {D N S : Type 0} {d : DiskGhosts D} {n : NamerGhosts N S} where
           catalog_is = catalog;
         };
         counted = counted;
-        sessions = AreSessions-claimed (given (slots old)) (contents_of at.all) (given (slots new)) (contents_of (applied changes at.all))
+        sessions = AreSessions-claimed n.holds (given (slots old)) (contents_of at.all) (given (slots new)) (contents_of (applied changes at.all))
             after new.sessions
             (λ id g some. (
               accepted_given ids count (slots old) (slots new) accepted id g (subst (λ (m : ℕ). 0 < m) (sym (claimed id)) some),

@@ -103,8 +103,8 @@ module _ {D N S : Type 0} {d : DiskGhosts D} {n : NamerGhosts N S} where
                     (remove office.dumps index) items)
                     (sym dumps) (pairs_remove (IsDump (given (slots old))
                     (contents_of at.all)) office.dumps old.sessions.dumps.items at.sessions.dumps index);
-                restores = subst (λ (items : List OpenRestore). AtEachPair
-                    (λ i. IsRestore (given (slots old)) (contents_of at.all)) office.restores items)
+                restores = subst (λ (items : List (OpenRestore S)). AtEachPair
+                    (λ i. IsRestore n.holds (given (slots old)) (contents_of at.all)) office.restores items)
                     (sym restores) at.sessions.restores;
                 sequence = sequence ∙ at.sessions.sequence;
               })

@@ -55,8 +55,8 @@ module _ {D N S : Type 0} {d : DiskGhosts D} {n : NamerGhosts N S} where
       → new.counts ≡ old.counts → new.views ≡ old.views → new.halted ≡ old.halted
       → new.pool.in_one_file ≡ old.pool.in_one_file
       → ((id : PoolId) → claims_in new.sessions id ≡ claims_in old.sessions id + count id)
-      → (AreSessions (given (slots new)) (contents_of at.all) office old.sessions
-      → AreSessions (given (slots new)) (contents_of at.all) next new.sessions)
+      → (AreSessions n.holds (given (slots new)) (contents_of at.all) office old.sessions
+      → AreSessions n.holds (given (slots new)) (contents_of at.all) next new.sessions)
       → durable next ≡ durable office → next.hosts ≡ office.hosts → IsSound next → IsRunning new next names
   unfolding working_staged staged_gains
   running_gains old new office next names count at gains journal catalog counts views halted form claims opens same hosts sound =

@@ -121,22 +121,22 @@ module _ (given : PoolId → Type 0) (contents : PoolId → List ℕ) (office : 
     tree_rows = subst (AreRowsOf given contents) (sym fresh.tree_is) of;
   }
 
-  pub sessions_opened : (old new : Sessions) (epoch : ℕ) (name : SessionName) → epoch ≡ office.epoch → AreSessions given contents office old
-      → IsOpened old epoch place kind now rows name new
-      → AreSessions given contents (with_fresh office place kind now (resolved contents rows)) new
-  sessions_opened old new epoch name same are opened = record {
+  pub sessions_opened : {S : Type 0} (holds : S → List ℕ → Type 0) (old new : Sessions S) (epoch : ℕ) (name : SessionName)
+      → epoch ≡ office.epoch → AreSessions holds given contents office old → IsOpened old epoch place kind now rows name new
+      → AreSessions holds given contents (with_fresh office place kind now (resolved contents rows)) new
+  sessions_opened {S} holds old new epoch name same are opened = record {
     dumps = subst (λ (items : List OpenDump). AtEachPair (λ i. IsDump given contents)
         (office.dumps ++ OpenDumpModel.new_dump (OpenDumpModel.next_session office) place kind now (resolved contents rows) ∷ []) items)
         (sym opened.dumps)
         (pairs_push (IsDump given contents) office.dumps old.dumps.items are.dumps
         (OpenDumpModel.new_dump (OpenDumpModel.next_session office) place kind now (resolved contents rows)) opened.dump
         (fresh_is (session_of epoch old.sequence) opened.dump (λ i. session_of (same i) (are.sequence i)) opened.fresh));
-    restores = subst (λ (items : List OpenRestore). AtEachPair (λ i. IsRestore given contents) office.restores items)
+    restores = subst (λ (items : List (OpenRestore S)). AtEachPair (λ i. IsRestore holds given contents) office.restores items)
         (sym opened.restores) are.restores;
     sequence = opened.sequence ∙ ap (λ m. m + 1) are.sequence;
   }
 
-pub claims_opened : (old new : Sessions) (epoch place : ℕ) (kind : Kind) (now : ℕ) (rows : Rows) (name : SessionName)
+pub claims_opened : {S : Type 0} (old new : Sessions S) (epoch place : ℕ) (kind : Kind) (now : ℕ) (rows : Rows) (name : SessionName)
     → IsOpened old epoch place kind now rows name new → (id : PoolId)
     → claims_in new id ≡ claims_in old id + claims_at_first rows id
 claims_opened old new epoch place kind now rows name opened id =
@@ -283,7 +283,7 @@ module _ {D N S : Type 0} {d : DiskGhosts D} {n : NamerGhosts N S} where
                 running = running_gains old new office next names (claims_at_first rows) at gains has.journal has.catalog has.counts has.views
                     has.halted has.form
                     (λ id. claims_opened old.sessions new.sessions old.catalog.epoch place kind now rows session has.sessions id)
-                    (λ are. sessions_opened (given (slots new)) (contents_of at.all) office place kind now rows rows_of
+                    (λ are. sessions_opened (given (slots new)) (contents_of at.all) office place kind now rows rows_of n.holds
                     old.sessions new.sessions old.catalog.epoch session epoch are has.sessions)
                     refl refl
                     (IsSound-carried office names Event' (record { answer = DumpAnswer session; after = next }) at.sound judged)
@@ -301,7 +301,7 @@ module _ {D N S : Type 0} {d : DiskGhosts D} {n : NamerGhosts N S} where
         (runs_opened mid name kind now place index
         (subst (λ (k : Known). Some place ≡ host_named (names_of k.hosts) name) (sym reads.catalog_same) found)
         (subst (λ (k : Known). slice_get k.hosts place ≡ Some index) (sym reads.catalog_same) there)
-        (subst (λ (s : Sessions). None ≡ opening_rule (has_base kind index.lines)
+        (subst (λ (s : Sessions S). None ≡ opening_rule (has_base kind index.lines)
         (is_some (position_from (λ dump. dump.host == place) 0 s.dumps.items)) index.next s.sequence) (sym reads.sessions_same) is)
         new session rows begins has)
 

@@ -338,7 +338,7 @@ module _ {D N S : Type 0} {d : DiskGhosts D} {n : NamerGhosts N S} where
                   claims_in_dumps-remove old.sessions.dumps.items id index dump there,
                 )
 
-            claims_put : (new : Sessions) → new.dumps.items
+            claims_put : (new : Sessions S) → new.dumps.items
                 ≡ slice_set old.sessions.dumps.items index (with_record dump path (record_for item content))
                 → new.restores.items ≡ old.sessions.restores.items → (id : PoolId)
                 → claims_in new id + claims_of_content (content_found (node_at dump.tree path)) id ≡ total id
@@ -353,10 +353,10 @@ module _ {D N S : Type 0} {d : DiskGhosts D} {n : NamerGhosts N S} where
                   record_claims id item content shape,
                 )
 
-            sessions_put : (new : Sessions)
+            sessions_put : (new : Sessions S)
                 → new.dumps.items ≡ slice_set old.sessions.dumps.items index (with_record dump path (record_for item content))
                 → new.restores.items ≡ old.sessions.restores.items → new.sequence ≡ old.sessions.sequence
-                → AreSessions (given (slots mid)) (contents_of (staged office names at).has.all') (next office names at) new
+                → AreSessions n.holds (given (slots mid)) (contents_of (staged office names at).has.all') (next office names at) new
             unfolding working_staged
             sessions_put new dumps restores sequence =
                 let f = found office names at in
@@ -370,8 +370,8 @@ module _ {D N S : Type 0} {d : DiskGhosts D} {n : NamerGhosts N S} where
                       (dump_with (given (slots mid)) contents f.value dump path item content (staged office names at).is
                       (staged office names at).told
                       (w.sessions.dumps.each index f.value dump f.there there)));
-                  restores = subst (λ (items : List OpenRestore). AtEachPair
-                      (λ i. IsRestore (given (slots mid)) contents) office.restores items)
+                  restores = subst (λ (items : List (OpenRestore S)). AtEachPair
+                      (λ i. IsRestore n.holds (given (slots mid)) contents) office.restores items)
                       (sym restores) w.sessions.restores;
                   sequence = sequence ∙ w.sessions.sequence;
                 }
@@ -438,8 +438,8 @@ module _ {D N S : Type 0} {d : DiskGhosts D} {n : NamerGhosts N S} where
                       (record {
                         dumps = subst (λ (items : List OpenDump). AtEachPair (λ i. IsDump (given (slots mid)) contents) office.dumps items)
                             (sym alike.dumps) w.sessions.dumps;
-                        restores = subst (λ (items : List OpenRestore). AtEachPair
-                            (λ i. IsRestore (given (slots mid)) contents) office.restores items)
+                        restores = subst (λ (items : List (OpenRestore S)). AtEachPair
+                            (λ i. IsRestore n.holds (given (slots mid)) contents) office.restores items)
                             (sym alike.restores) w.sessions.restores;
                         sequence = alike.sequence ∙ w.sessions.sequence;
                       })

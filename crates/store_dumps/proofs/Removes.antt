@@ -152,8 +152,8 @@ module _ {D N S : Type 0} {d : DiskGhosts D} {n : NamerGhosts N S} where
                       (sym dumps) (pairs_set (IsDump (given (slots old)) (contents_of at.all)) office.dumps old.sessions.dumps.items
                       at.sessions.dumps index (RemoveEvent.with_removed found.value path) (removed dump path)
                       (dump_without (given (slots old)) (contents_of at.all) found.value dump path found.is));
-                  restores = subst (λ (items : List OpenRestore). AtEachPair
-                      (λ i. IsRestore (given (slots old)) (contents_of at.all)) office.restores items)
+                  restores = subst (λ (items : List (OpenRestore S)). AtEachPair
+                      (λ i. IsRestore n.holds (given (slots old)) (contents_of at.all)) office.restores items)
                       (sym restores) at.sessions.restores;
                   sequence = sequence ∙ at.sessions.sequence;
                 })

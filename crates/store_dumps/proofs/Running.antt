@@ -109,7 +109,7 @@ module _ {D N S : Type 0} {d : DiskGhosts D} {n : NamerGhosts N S} where
       → new.journal ≡ old.journal → new.catalog ≡ old.catalog → new.counts ≡ old.counts → new.views ≡ old.views → new.halted ≡ old.halted
       → LetsGo count (slots old) (slots new) → new.pool.in_one_file ≡ old.pool.in_one_file
       → ((id : PoolId) → claims_in new.sessions id + count id ≡ total id)
-      → AreSessions (given (slots old)) (contents_of at.all) next new.sessions
+      → AreSessions n.holds (given (slots old)) (contents_of at.all) next new.sessions
       → durable next ≡ durable office → next.hosts ≡ office.hosts → IsSound next → IsRunning new next names
   unfolding stored_let_go
   running_let_go old new office next names count total at claims_are journal catalog counts views halted go form claims sessions same hosts
@@ -130,7 +130,7 @@ module _ {D N S : Type 0} {d : DiskGhosts D} {n : NamerGhosts N S} where
             catalog_is = catalog ∙ at.catalog_is ∙ ap known_of_office (sym same);
           };
           counted = subst (λ (cs : List Items). AreCountsOf cs at.backups) (sym counts) at.counted;
-          sessions = AreSessions-claimed (given (slots old)) (contents_of at.all) (given (slots new)) (contents_of at.all) next new.sessions
+          sessions = AreSessions-claimed n.holds (given (slots old)) (contents_of at.all) (given (slots new)) (contents_of at.all) next new.sessions
               (λ id g some. ((go id).given g (subst (λ (m : ℕ). 0 < m) (sym (claimed id)) some), refl)) sessions;
           view = subst (λ (v : Views). IsKeptView v.kept next.hosts at.backups) (sym views)
               (subst (λ (hosts : List Host). IsKeptView old.views.kept hosts at.backups) (sym hosts) at.view);
@@ -203,8 +203,8 @@ module _ {D N S : Type 0} {d : DiskGhosts D} {n : NamerGhosts N S} where
           (record {
             dumps = subst (λ (items : List OpenDump). AtEachPair (λ i. IsDump (given (slots old)) (contents_of at.all)) office.dumps items)
                 (sym kept.sessions.dumps) at.sessions.dumps;
-            restores = subst (λ (items : List OpenRestore). AtEachPair
-                (λ i. IsRestore (given (slots old)) (contents_of at.all)) office.restores items)
+            restores = subst (λ (items : List (OpenRestore S)). AtEachPair
+                (λ i. IsRestore n.holds (given (slots old)) (contents_of at.all)) office.restores items)
                 (sym kept.sessions.restores) at.sessions.restores;
             sequence = kept.sessions.sequence ∙ at.sessions.sequence;
           })

@@ -3,7 +3,7 @@
 use Rattle.std.specs.Prelude.{◌≡◌}
 use Rattle.open_sessions.specs.declared.sessions.Sessions.{Sessions}
 
-pub record AreAlike (old new : Sessions) : Type 0 where
+pub record AreAlike {S : Type 0} (old new : Sessions S) : Type 0 where
   pub dumps : new.dumps.items ≡ old.dumps.items
   pub restores : new.restores.items ≡ old.restores.items
   pub sequence : new.sequence ≡ old.sequence

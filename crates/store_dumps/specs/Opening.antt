@@ -44,8 +44,8 @@ pub record IsFresh (name : SessionName) (host : ℕ) (kind : Kind) (now : ℕ) (
   pub base_is : base_of dump ≡ base
   pub tree_is : dump.tree ≡ base
 
-pub record IsOpened (old : Sessions) (epoch host : ℕ) (kind : Kind) (now : ℕ) (base : Rows) (name : SessionName)
-    (new : Sessions) : Type 0 where
+pub record IsOpened {S : Type 0} (old : Sessions S) (epoch host : ℕ) (kind : Kind) (now : ℕ) (base : Rows) (name : SessionName)
+    (new : Sessions S) : Type 0 where
   pub dump : OpenDump
   pub fresh : IsFresh (session_of epoch old.sequence) host kind now base dump
   pub name_is : name ≡ session_of epoch old.sequence

@@ -25,7 +25,7 @@ pub fn abort<D: Disk, N: Namer>(
         Some(at) => at,
         None => return Err(Refusal::Broken(BrokenRule::NoSession)),
     };
-    match release_dump(&mut parts.pool, alloc, &parts.sessions.dumps[at]) {
+    match release_dump(&mut parts.pool, alloc, parts.sessions.dump(at)) {
         Ok(()) => {}
         Err(_) => return Err(Refusal::Memory),
     }

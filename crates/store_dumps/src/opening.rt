@@ -29,8 +29,8 @@ use stream_traits::Moment;
 const NUMBERS: u64 = 1 << 32;
 
 /// The first rule that keeps a dump of a host from being opened.
-fn broken_rule(
-    sessions: &Sessions,
+fn broken_rule<S: Drop>(
+    sessions: &Sessions<S>,
     host: usize,
     index: &HostIndex,
     kind: Kind,
@@ -75,8 +75,8 @@ fn fresh_dump(
 }
 
 /// Opens a dump with this base; or says that memory is wanting, and the same is open as before.
-fn open_session(
-    sessions: &mut Sessions,
+fn open_session<S: Drop>(
+    sessions: &mut Sessions<S>,
     alloc: Global,
     epoch: u64,
     host: usize,

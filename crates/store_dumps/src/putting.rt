@@ -157,8 +157,8 @@ fn content_of(found: Option<&Record>) -> Option<PoolId>
 
 /// Puts an item into the tree of a dump, its bytes under this name; or says that memory is wanting or the first rule that this
 /// breaks, and the same is open as before.
-fn put_item(
-    sessions: &mut Sessions,
+fn put_item<S: Drop>(
+    sessions: &mut Sessions<S>,
     alloc: Global,
     at: usize,
     path: &PathName,

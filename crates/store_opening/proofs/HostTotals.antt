@@ -3,7 +3,7 @@
 --     never_without      no host's file is without them
 --     few_known, without_counts      what reading them wants, and what a refusal says
 use Rattle.std.specs.Prelude.{slice_get}
-use Rattle.std.proofs.Common.{◌≡◌, ℕ, zero, suc, ◌<◌, ◌≤◌, List, [], ◌∷◌, length, map, Option, Some, refl, sym, ap, ◌∙◌, subst, arith}
+use Rattle.std.proofs.Common.{◌≡◌, ℕ, zero, suc, ◌<◌, ◌≤◌, List, [], ◌∷◌, length, Option, Some, refl, sym, ap, ◌∙◌, subst, arith}
 use Rattle.disk_trait.specs.declared.ids.FileId.{FileId}
 use Rattle.disk_trait.specs.declared.ids.FileId.TheVariants as F
 use Rattle.disk_trait.specs.Files.{Files}
@@ -13,7 +13,7 @@ use Rattle.ref_counts.specs.Numbers.{Items, number}
 use Rattle.ref_counts.specs.Stored.{Backup as StoredBackup}
 use Rattle.office_model.specs.Office.{Office, Host}
 use Rattle.office_files.specs.Pairs.{other_at}
-use Rattle.office_files.specs.Stands.{Stands, StandsFor}
+use Rattle.office_files.specs.Stands.{Stands}
 use Rattle.office_catalog.specs.Known.{Known, IsCatalog, names_of}
 use Rattle.office_catalog.specs.Held.{HoldsCatalog}
 use Rattle.office_known.specs.KnownLaws.{indices_from, one_catalog}

@@ -24,10 +24,9 @@ use Rattle.office_model.specs.Office.{Office}
 use Rattle.office_files.specs.KeptLaws.{tells_kept, listed_held}
 use Rattle.office_files.specs.OneLaws.{one_listing}
 use Rattle.office_files.specs.Stands.{Stands, StandsFor}
-use Rattle.office_catalog.specs.Known.{Known}
 use Rattle.office_catalog.specs.Held.{HoldsCatalog, IsForeign as IsForeignToCatalog}
 use Rattle.host_counts.specs.Held.{AreTold}
-use Rattle.office_known.specs.KnownLaws.{known_of_office, stands_catalog, one_catalog}
+use Rattle.office_known.specs.KnownLaws.{one_catalog}
 use Rattle.office_pool.specs.FitLaws.{fits_stands}
 use Rattle.store_parts.specs.Held.{IsEither, IsStored}
 use Rattle.store_parts.specs.WriteLaws.{tells_in_kept}

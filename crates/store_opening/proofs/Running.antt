@@ -60,7 +60,7 @@ fresh_claims (Some Doomed) fresh = refl
 pairs_none : {A B : Type 0} (P : ℕ → A → B → Type 0) (ys : List B) → ys ≡ [] → AtEachPair P [] ys
 pairs_none P ys e = subst (AtEachPair P []) (sym e) (no_pairs P)
 
-no_claims : (sessions : Sessions) (id : PoolId) → sessions.dumps.items ≡ [] → sessions.restores.items ≡ [] → claims_in sessions id ≡ 0
+no_claims : {S : Type 0} (sessions : Sessions S) (id : PoolId) → sessions.dumps.items ≡ [] → sessions.restores.items ≡ [] → claims_in sessions id ≡ 0
 no_claims sessions id dumps restores = λ i. claims_in_dumps (dumps i) id + claims_in_restores (restores i) id
 
 kept_none : (kept : Option KeptView) (hosts : List Host) (backups : List (List StoredBackup)) → kept ≡ None → IsKeptView kept hosts backups
@@ -78,7 +78,7 @@ module _ {D N S : Type 0} {d : DiskGhosts D} {n : NamerGhosts N S} where
       counted = held.counted;
       sessions = record {
         dumps = pairs_none (λ i. IsDump (given (slots parts)) (contents_of held.stored.all)) parts.sessions.dumps.items is.no_dumps;
-        restores = pairs_none (λ i. IsRestore (given (slots parts)) (contents_of held.stored.all))
+        restores = pairs_none (λ i. IsRestore n.holds (given (slots parts)) (contents_of held.stored.all))
             parts.sessions.restores.items is.no_restores;
         sequence = is.first;
       };

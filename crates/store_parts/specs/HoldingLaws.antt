@@ -138,14 +138,14 @@ dump_claims id (session ∷ sessions) h = step (claims_of_dump session id) refl 
     step zero e rest = let w = rest (omega (arith, h, e)) in (suc w.0, w.1, w.2, w.3)
     step (suc n) e rest = (0, session, refl, omega (arith, e))
 
-pub restore_claims : (id : PoolId) (sessions : List OpenRestore) → 0 < claims_in_restores sessions id
-    → (i : ℕ) × (session : OpenRestore) × (slice_get sessions i ≡ Some session) × (0 < occurrences id session.rows)
-restore_claims id [] h = absurd (omega (arith, h))
-restore_claims id (session ∷ sessions) h = step (occurrences id session.rows) refl (λ more. restore_claims id sessions more)
+pub restore_claims : {S : Type 0} (id : PoolId) (sessions : List (OpenRestore S)) → 0 < claims_in_restores sessions id
+    → (i : ℕ) × (session : OpenRestore S) × (slice_get sessions i ≡ Some session) × (0 < occurrences id session.rows)
+restore_claims {S} id [] h = absurd (omega (arith, h))
+restore_claims {S} id (session ∷ sessions) h = step (occurrences id session.rows) refl (λ more. restore_claims id sessions more)
   where
     step : (n : ℕ) → occurrences id session.rows ≡ n
-        → (0 < claims_in_restores sessions id → (i : ℕ) × (s : OpenRestore) × (slice_get sessions i ≡ Some s) × (0 < occurrences id s.rows))
-        → (i : ℕ) × (s : OpenRestore) × (slice_get (session ∷ sessions) i ≡ Some s) × (0 < occurrences id s.rows)
+        → (0 < claims_in_restores sessions id → (i : ℕ) × (s : OpenRestore S) × (slice_get sessions i ≡ Some s) × (0 < occurrences id s.rows))
+        → (i : ℕ) × (s : OpenRestore S) × (slice_get (session ∷ sessions) i ≡ Some s) × (0 < occurrences id s.rows)
     step zero e rest = let w = rest (omega (arith, h, e)) in (suc w.0, w.1, w.2, w.3)
     step (suc n) e rest = (0, session, refl, omega (arith, e))
 
@@ -188,7 +188,7 @@ module _ {D N S : Type 0} {d : DiskGhosts D} {n : NamerGhosts N S} where
                 right _ _ (any_at (λ dump. holds dump.tree (contents id)) office.dumps i value.0 value.1
                 (ap (λ t. holds t (contents id)) is.tree ∙ tree))
 
-        restored : (i : ℕ) (session : OpenRestore) → slice_get parts.sessions.restores.items i ≡ Some session
+        restored : (i : ℕ) (session : OpenRestore S) → slice_get parts.sessions.restores.items i ≡ Some session
             → 0 < occurrences id session.rows
             → is_held office.pool office.dumps (contents id) ≡ true
         restored i session there claims =

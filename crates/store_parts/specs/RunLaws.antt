@@ -2,17 +2,15 @@
 --     running_reads      they are at work with the same office
 --     runs_reads, runs_refused, runs_memory, runs_read_fault      and the event was answered as promised
 --     reads_behind, runs_behind      parts of which the journal alone was read, and an event behind that
-use Rattle.std.specs.Prelude.{◌≡◌, ℕ, List, Result, Option, Ok, Err, IfOk}
-use Rattle.std.proofs.Common.{refl, sym, ap, ◌∙◌, subst, inl, inr, arith}
+use Rattle.std.specs.Prelude.{◌≡◌, ℕ, List, Err, IfOk}
+use Rattle.std.proofs.Common.{refl, sym, ap, ◌∙◌, subst, arith}
 use Rattle.fault_counts.specs.Counts.{Counted, Rose}
-use Rattle.disk_trait.specs.declared.ids.PoolId.{PoolId}
 use Rattle.disk_trait.specs.declared.ids.FileId.TheVariants.{Pool as PoolFile}
 use Rattle.disk_trait.specs.declared.disk.Disk.{Ghosts as DiskGhosts}
-use Rattle.disk_trait.specs.Files.{Files}
 use Rattle.pool_name.specs.declared.namer.Namer.{Ghosts as NamerGhosts}
 use Rattle.journal_view.specs.Found.{IsAlikeBut}
 use Rattle.journal_view.specs.View.{uncertain, FindsOnly, Quiet}
-use Rattle.journal_view.specs.ViewLaws.{FindsOnly-still, FindsOnly-each, FindsOnly-then, Quiet-still, Quiet-then}
+use Rattle.journal_view.specs.ViewLaws.{FindsOnly-each, FindsOnly-then, Quiet-still}
 use Rattle.pool_changes.specs.Slots.{claims_of}
 use Rattle.pool_changes.specs.Kept.{slots_of}
 use Rattle.pool_changes.specs.Listed.{index_of}
@@ -21,7 +19,6 @@ use Rattle.pool_store.specs.declared.pool.Pool.{Pool}
 use Rattle.pool_store.specs.Fits.{Fits}
 use Rattle.pool_store.specs.Sweeps.{AreAllUsed}
 use Rattle.ref_counts.specs.Numbers.{Items}
-use Rattle.office_catalog.specs.Known.{Known}
 use Rattle.open_sessions.specs.declared.sessions.Sessions.{Sessions}
 use Rattle.open_sessions.specs.Opened.{AreSessions, claims_in}
 use Rattle.office_model.specs.declared.event.Event.{Event}
@@ -35,8 +32,8 @@ use Rattle.office_files.specs.Pooled.{contents_of}
 use Rattle.office_files.specs.Stands.{Stands}
 use Rattle.store_parts.specs.declared.parts.StoreParts.{StoreParts}
 use Rattle.store_parts.specs.Held.{given, AreUsed, AreCountsOf, IsKeptView, IsStored}
-use Rattle.store_parts.specs.States.{slots, IsWorking, IsRunning}
-use Rattle.store_parts.specs.Runs.{MayRecover, Steps, Runs, Reads}
+use Rattle.store_parts.specs.States.{slots, IsRunning}
+use Rattle.store_parts.specs.Runs.{MayRecover, Runs, Reads}
 use Rattle.store_parts.specs.StoredLaws.{stored_found, stored_quiet}
 use Rattle.store_parts.specs.StepLaws.{step_refused, step_memory, step_read_fault, recover_before}
 
@@ -85,14 +82,14 @@ module _ {D N S : Type 0} {d : DiskGhosts D} {n : NamerGhosts N S} where
           catalog_is = reads.catalog_same ∙ at.catalog_is;
         };
         counted = subst (λ (counts : List Items). AreCountsOf counts at.backups) (sym reads.counts_same) at.counted;
-        sessions = subst (λ (p : Pool N S n). AreSessions (given (slots_of p.names)) (contents_of at.all) office new.sessions) pool
-            (subst (λ (s : Sessions). AreSessions (given (slots old)) (contents_of at.all) office s) (sym reads.sessions_same) at.sessions);
+        sessions = subst (λ (p : Pool N S n). AreSessions n.holds (given (slots_of p.names)) (contents_of at.all) office new.sessions) pool
+            (subst (λ (s : Sessions S). AreSessions n.holds (given (slots old)) (contents_of at.all) office s) (sym reads.sessions_same) at.sessions);
         view = reads.view office names at;
         sound = at.sound;
       };
       claimed = λ id.
           ap (λ (p : Pool N S n). claims_of (slots_of p.names id)) reads.pool_same ∙ at.claimed id
-          ∙ ap (λ (s : Sessions). claims_in s id) (sym reads.sessions_same);
+          ∙ ap (λ (s : Sessions S). claims_in s id) (sym reads.sessions_same);
     }
       where
         pool : old.pool ≡ new.pool

@@ -89,8 +89,8 @@ module _ {D N S : Type 0} {d : DiskGhosts D} {n : NamerGhosts N S} where
         catalog_is = catalog ∙ at.catalog_is;
       };
       counted = subst (λ (cs : List Items). AreCountsOf cs at.backups) (sym counts) at.counted;
-      sessions = subst (λ (s : Sessions). AreSessions (given (slots mid)) (contents_of has.all') office s) (sym sessions)
-          (AreSessions-kept (given (slots old)) (contents_of at.all) (given (slots mid)) (contents_of has.all') office old.sessions
+      sessions = subst (λ (s : Sessions S). AreSessions n.holds (given (slots mid)) (contents_of has.all') office s) (sym sessions)
+          (AreSessions-kept n.holds (given (slots old)) (contents_of at.all) (given (slots mid)) (contents_of has.all') office old.sessions
           (λ id g. (has.grows.given id g, sym (ap file_bytes (has.grows.file id g)))) at.sessions);
       view = subst (λ (v : Views). IsKeptView v.kept office.hosts at.backups) (sym views) at.view;
       sound = at.sound;

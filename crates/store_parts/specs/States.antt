@@ -3,7 +3,7 @@
 --     IsRunning parts office names      at work: each row of an open session claims its content once
 --     IsHalted parts a b names      halted between two offices
 --     InState parts state
-use Rattle.std.specs.Prelude.{◌≡◌, ℕ, true, false}
+use Rattle.std.specs.Prelude.{◌≡◌, true, false}
 use Rattle.disk_trait.specs.declared.ids.PoolId.{PoolId}
 use Rattle.disk_trait.specs.declared.disk.Disk.{Ghosts as DiskGhosts}
 use Rattle.pool_name.specs.declared.namer.Namer.{Ghosts as NamerGhosts}
@@ -26,7 +26,7 @@ module _ {D N S : Type 0} {d : DiskGhosts D} {n : NamerGhosts N S} where
     pub stored : IsStored parts.journal parts.pool parts.catalog (durable office) names
     pub open stored use *
     pub counted : AreCountsOf parts.counts stored.backups
-    pub sessions : AreSessions (given (slots parts)) (contents_of stored.all) office parts.sessions
+    pub sessions : AreSessions n.holds (given (slots parts)) (contents_of stored.all) office parts.sessions
     pub view : IsKeptView parts.views.kept office.hosts stored.backups
     pub sound : IsSound office
 

@@ -1,7 +1,6 @@
 -- Steps of a state at work that leave the office: broken rules, want of memory, faults of reads.
-use Rattle.std.specs.Prelude.{◌≡◌, ◌⊎◌, ℕ, true, List, Option, Some, None, Ok, Err}
-use Rattle.std.proofs.Common.{refl, sym, ap, ◌∙◌, subst, inl, inr}
-use Rattle.disk_trait.specs.declared.ids.PoolId.{PoolId}
+use Rattle.std.specs.Prelude.{◌≡◌, ◌⊎◌, ℕ, List, Option, Some, None, Ok, Err}
+use Rattle.std.proofs.Common.{refl, sym, subst, inl, inr}
 use Rattle.disk_trait.specs.Files.{Files}
 use Rattle.attr_records.specs.Items.{content_of}
 use Rattle.office_model.specs.declared.event.Event.{Event}
@@ -10,8 +9,8 @@ use Rattle.office_model.specs.declared.refusal.BrokenRule.{BrokenRule}
 use Rattle.office_model.specs.declared.refusal.Refusal.{Refusal}
 use Rattle.office_model.specs.declared.refusal.Refusal.TheVariants.{Broken, DiskFault, Memory}
 use Rattle.office_model.specs.Office.{Office, Names, durable}
-use Rattle.office_model.specs.Meaning.{Carried, Judged, Touch, Nothing, Reads, Stages, Removes, Commits, ReadsAndCommits, Reopens}
-use Rattle.office_model.specs.Step.{State, Running, Halted, IsStep, MayFault, MayStay, MayHalt, meaning_of}
+use Rattle.office_model.specs.Meaning.{Carried, Judged, Touch, Reads, Commits, ReadsAndCommits}
+use Rattle.office_model.specs.Step.{Running, Halted, IsStep, MayFault, MayStay, MayHalt, meaning_of}
 use Rattle.office_model.specs.events.Put as PutEvent
 use Rattle.office_model.specs.UsedNames.{AreDistinct, IsNamedBy, AreNamesAfter}
 use Rattle.office_files.specs.Stands.{StandsFor}

@@ -2,11 +2,9 @@
 --     stored_found      files as the journal's, but for what may be uncertain, stand for the office
 --     stored_quiet      after a call that changes nothing
 --     either_left       what a commit leaves stands for the office before or for the one after
-use Rattle.std.specs.Prelude.{◌≡◌, ◌⊎◌, ℕ, true, false, List, Option, Some, None, is_some}
-use Rattle.std.proofs.Common.{refl, sym, ap, ◌∙◌, subst, inl, inr}
-use Rattle.std.proofs.lemmas.Bool.{false≢true}
+use Rattle.std.specs.Prelude.{◌≡◌, ℕ, true, false, List, Option, Some, None, is_some}
+use Rattle.std.proofs.Common.{refl, ◌∙◌, inl, inr}
 use Rattle.disk_trait.specs.declared.ids.PoolId.{PoolId}
-use Rattle.disk_trait.specs.declared.ids.FileId.{FileId}
 use Rattle.disk_trait.specs.declared.ids.FileId.TheVariants.{Pool as PoolFile}
 use Rattle.disk_trait.specs.declared.disk.Disk.{Ghosts as DiskGhosts}
 use Rattle.disk_trait.specs.Files.{Files, bytes_of}
@@ -17,15 +15,14 @@ use Rattle.intent_journal.specs.declared.journal.Journal.{Journal}
 use Rattle.intent_journal.specs.Changes.{applied, AreChanges}
 use Rattle.intent_journal.specs.ChangesLaws.{applied_contents}
 use Rattle.journal_view.specs.Found.{IsAlikeBut}
-use Rattle.journal_view.specs.View.{told, uncertain, Quiet, IsOldOrNew}
-use Rattle.pool_index.specs.Index.{Index, TellsIn}
+use Rattle.journal_view.specs.View.{uncertain, Quiet, IsOldOrNew}
+use Rattle.pool_index.specs.Index.{Index}
 use Rattle.pool_changes.specs.declared.slot.Slot.{Slot}
 use Rattle.pool_changes.specs.declared.slot.Slot.TheVariants.{Live, Staged, Doomed}
 use Rattle.pool_changes.specs.Slots.{Slots, is_live}
 use Rattle.pool_changes.specs.Kept.{slots_of}
 use Rattle.pool_changes.specs.Listed.{item_of, index_of}
 use Rattle.pool_store.specs.declared.pool.Pool.{Pool}
-use Rattle.pool_store.specs.Fits.{Fits}
 use Rattle.ref_counts.specs.Stored.{Backup as StoredBackup}
 use Rattle.office_catalog.specs.Known.{Known}
 use Rattle.office_model.specs.Office.{Office, Names}

@@ -3,11 +3,10 @@
 --     runs_write_refused      the commit was refused: the store is as before, or halted between the two offices
 --     runs_written      it was made, and the parts hold the office after it
 --     running_hosts      parts at work after a commit of Head and Host files alone
-use Rattle.std.specs.Prelude.{◌≡◌, ℕ, Bool, true, false, List, Result, Option, Some, None, Ok, Err, is_some, option_map}
-use Rattle.std.proofs.Common.{refl, sym, ap, ◌∙◌, subst, inl, inr}
+use Rattle.std.specs.Prelude.{◌≡◌, ℕ, Bool, true, false, List, Result, Some, Ok, Err, is_some, option_map}
+use Rattle.std.proofs.Common.{refl, sym, ap, ◌∙◌, subst}
 use Rattle.fault_counts.specs.Counts.{Counted}
 use Rattle.disk_trait.specs.declared.ids.PoolId.{PoolId}
-use Rattle.disk_trait.specs.declared.ids.FileId.{FileId}
 use Rattle.disk_trait.specs.declared.ids.FileId.TheVariants.{PoolIndex, PoolBucket, Pool as PoolFile}
 use Rattle.disk_trait.specs.declared.disk.Disk.{Ghosts as DiskGhosts}
 use Rattle.disk_trait.specs.Files.{Files}
@@ -20,13 +19,12 @@ use Rattle.intent_journal.specs.ChangesLaws.{applied_other, applied_contents}
 use Rattle.journal_view.specs.View.{told, uncertain, FindsOnly, IsOldOrNew}
 use Rattle.journal_view.specs.ViewLaws.{FindsOnly-each, FindsNow-each}
 use Rattle.pool_index.specs.Index.{Index, TellsIn}
-use Rattle.pool_changes.specs.Slots.{Slots, claims_of}
+use Rattle.pool_changes.specs.Slots.{claims_of}
 use Rattle.pool_changes.specs.Kept.{slots_of}
 use Rattle.pool_changes.specs.Listed.{index_of}
 use Rattle.pool_store.specs.declared.pool.Pool.{Pool}
 use Rattle.pool_store.specs.Fits.{Fits}
 use Rattle.pool_store.specs.Sweeps.{AreAllUsed}
-use Rattle.backup_views.specs.declared.kept.KeptView.{KeptView}
 use Rattle.backup_views.specs.declared.kept.Views.{Views}
 use Rattle.ref_counts.specs.Stored.{Backup as StoredBackup}
 use Rattle.open_sessions.specs.declared.sessions.Sessions.{Sessions}
@@ -36,17 +34,17 @@ use Rattle.office_model.specs.declared.event.Event.{Event}
 use Rattle.office_model.specs.declared.refusal.Refusal.{Refusal}
 use Rattle.office_model.specs.declared.refusal.Refusal.TheVariants as R
 use Rattle.office_model.specs.Office.{Office, Host, Names, IsSound, durable}
-use Rattle.office_model.specs.Meaning.{Carried, Reply}
+use Rattle.office_model.specs.Meaning.{Carried}
 use Rattle.office_model.specs.Step.{Running, Halted, IsAnswerTo, meaning_of}
 use Rattle.office_model.specs.UsedNames.{AreNamesAfter}
 use Rattle.office_files.specs.Pooled.{contents_of}
 use Rattle.office_files.specs.Stands.{Stands, StandsFor}
 use Rattle.office_known.specs.KnownLaws.{known_of_office}
 use Rattle.store_parts.specs.declared.parts.StoreParts.{StoreParts}
-use Rattle.store_parts.specs.Held.{given, AreUsed, AreCountsOf, IsKeptView, IsEither, IsStored}
+use Rattle.store_parts.specs.Held.{given, AreUsed, AreCountsOf, IsKeptView, IsEither}
 use Rattle.store_parts.specs.States.{slots, IsRunning}
 use Rattle.store_parts.specs.Runs.{MayRecover, Runs, Reads}
-use Rattle.store_parts.specs.Writes.{journal_answer, IsWriteFault, Writes}
+use Rattle.store_parts.specs.Writes.{journal_answer, Writes}
 use Rattle.store_parts.specs.StoredLaws.{contents_written, either_left}
 use Rattle.store_parts.specs.StepLaws.{IsCommitting, step_halted, recover_either}
 use Rattle.store_parts.specs.RunLaws.{runs_memory, counted_fine, counted_failed}
@@ -216,11 +214,11 @@ module _ {D N S : Type 0} {d : DiskGhosts D} {n : NamerGhosts N S} where
         catalog_is = c;
       };
       counted = counted;
-      sessions = subst (λ (p : Pool N S n). AreSessions (given (slots_of p.names)) (contents_of (applied changes at.all))
+      sessions = subst (λ (p : Pool N S n). AreSessions n.holds (given (slots_of p.names)) (contents_of (applied changes at.all))
           (record office { hosts = hosts }) new.sessions) pool
-          (subst (λ (s : Sessions). AreSessions (given (slots old)) (contents_of (applied changes at.all)) (record office { hosts = hosts }) s)
+          (subst (λ (s : Sessions S). AreSessions n.holds (given (slots old)) (contents_of (applied changes at.all)) (record office { hosts = hosts }) s)
           (sym (s ∙ w.sessions_same))
-          (subst (λ (contents : PoolId → List ℕ). AreSessions (given (slots old)) contents (record office { hosts = hosts }) old.sessions)
+          (subst (λ (contents : PoolId → List ℕ). AreSessions n.holds (given (slots old)) contents (record office { hosts = hosts }) old.sessions)
           (sym (contents_written changes at.all are)) (record {
             dumps = at.sessions.dumps;
             restores = at.sessions.restores;
@@ -231,7 +229,7 @@ module _ {D N S : Type 0} {d : DiskGhosts D} {n : NamerGhosts N S} where
     };
     claimed = λ id.
         ap (λ (p : Pool N S n). claims_of (slots_of p.names id)) (sym pool) ∙ at.claimed id
-        ∙ ap (λ (s : Sessions). claims_in s id) (sym (s ∙ w.sessions_same));
+        ∙ ap (λ (s : Sessions S). claims_in s id) (sym (s ∙ w.sessions_same));
   }
     where
       pool : old.pool ≡ new.pool

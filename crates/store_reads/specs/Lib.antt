@@ -1,3 +1,4 @@
 pub mod CatalogLaws
 pub mod TreeLaws
 pub mod Shown
+pub mod Pieces

@@ -1,14 +1,16 @@
-//! The bytes of a content of the pool.
+//! The bytes of a content of the pool, whole or piece by piece.
 
-ghost use Rattle.std.specs.Prelude.{◌≡◌, Some, false, IfOk, IfErr, Err};
+ghost use Rattle.std.specs.Prelude.{◌≡◌, Some, false, IfOk, IfErr, Err, length, take, drop};
 ghost use Rattle.fault_counts.specs.Counts.{Counted};
 ghost use Rattle.disk_trait.specs.Files.{Files};
 ghost use Rattle.journal_view.specs.View.{told};
 ghost use Rattle.stored_trees.specs.Resolved.{bytes_of};
 ghost use Rattle.office_files.specs.Pooled.{contents_of};
 ghost use Rattle.store_reads.specs.Shown.{refusal_of_pool, IsContentFault, Looks};
+ghost use Rattle.store_reads.specs.Pieces.{refusal_of_journal, IsPieceFault};
 
 use disk_trait::{Bytes, Disk, FileId, PoolId};
+use intent_journal::JournalFault;
 use office_model::{BrokenRule, Refusal};
 use pool_name::Namer;
 use pool_store::PoolFault;
@@ -51,5 +53,44 @@ pub fn read_content<D: Disk, N: Namer>(
     match parts.pool.read(alloc, &mut parts.journal, id) {
         Ok(bytes) => Ok(bytes),
         Err(fault) => Err(refusal_of(fault)),
+    }
+}
+
+/// What a fault of the journal is to a caller of the store.
+fn refusal_of_journal(fault: JournalFault) -> Refusal
+    ensures { result ≡ refusal_of_journal fault }
+{
+    match fault {
+        JournalFault::Disk => Refusal::DiskFault,
+        JournalFault::Memory => Refusal::Memory,
+        JournalFault::Halted => Refusal::Halted,
+    }
+}
+
+/// `room` bytes of a content from an offset on. If its file is absent or ends before, that is `Damaged`, with what was found.
+pub fn read_piece<D: Disk, N: Namer>(
+    parts: &mut StoreParts<D, N>,
+    alloc: Global,
+    content: PoolId,
+    offset: u64,
+    room: usize,
+) -> Result<Bytes, Refusal>
+    requires ready { parts.old.journal.halted ≡ false }
+    ensures looks { Looks parts.old parts.new }
+    ensures piece { IfOk result (λ piece. (all : Files) → told parts.old.journal ≡ Some all
+        → piece ≡ take room (drop offset (contents_of all content))) }
+    ensures whole { IfOk result (λ piece. length piece ≡ room) }
+    ensures fault { IfErr result (IsPieceFault parts.old content offset room) }
+    ensures counted { Counted (D.fault_count parts.old.journal.disk) (D.fault_count parts.new.journal.disk)
+        (result ≡ Err Refusal.DiskFault) }
+{
+    let file = FileId::Pool(content);
+    let found = match journal_view::read_at(&mut parts.journal, alloc, file, offset, room) {
+        Ok(found) => found,
+        Err(fault) => return Err(refusal_of_journal(fault)),
+    };
+    match found {
+        Some(piece) if piece.len() == room => Ok(piece),
+        found => Err(Refusal::Damaged { file, found }),
     }
 }

@@ -13,7 +13,7 @@
 //! | [`lookup`] | the node at a path, without the bytes of a file |
 //! | [`list`] | what lies directly in a directory |
 //! | [`read_file`] | the bytes of the file at a path |
-//! | [`read_backup`], [`read_content`], [`node_of`] | for other events: the tree of a backup, a content's bytes, a record's node |
+//! | [`read_backup`], [`read_content`], [`read_piece`], [`node_of`] | for other events: the tree of a backup, a content's bytes, whole or a piece, a record's node |
 #![tactic(auto)]
 
 mod content;
@@ -26,7 +26,7 @@ mod read_file_event;
 mod tests;
 mod tree;
 
-pub use content::read_content;
+pub use content::{read_content, read_piece};
 pub use list_event::list;
 pub use lookup_event::lookup;
 pub use nodes::node_of;

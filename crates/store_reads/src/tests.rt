@@ -208,11 +208,7 @@ fn parts_of(alloc: Global) -> Result<StoreParts<MemoryDisk, FirstByteNamer>, Fai
         pool,
         catalog,
         counts: HostCounts::new(alloc)?,
-        sessions: Sessions {
-            dumps: Vec::new(alloc),
-            restores: Vec::new(alloc),
-            sequence: 0,
-        },
+        sessions: Sessions::new(alloc),
         views: Views::new(),
         halted: false,
     })

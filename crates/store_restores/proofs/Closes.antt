@@ -27,7 +27,8 @@ use Rattle.store_parts.specs.Held.{given}
 use Rattle.store_parts.specs.States.{slots, IsRunning}
 use Rattle.store_parts.specs.Runs.{Runs}
 use Rattle.store_dumps.specs.Claims.{LetsGo}
-use Rattle.store_restores.proofs.Found.{place_of, no_restore, restore_found}
+use Rattle.store_restores.specs.Finding.{place_of}
+use Rattle.store_restores.proofs.Found.{no_restore, restore_found}
 use Rattle.store_restores.proofs.Running.{count_of, near_lost, running_stays, runs_ok}
 
 module _ {D N S : Type 0} {d : DiskGhosts D} {n : NamerGhosts N S} (old : StoreParts D N S d n) (session : SessionName) where
@@ -35,7 +36,7 @@ module _ {D N S : Type 0} {d : DiskGhosts D} {n : NamerGhosts N S} (old : StoreP
       → (office : Office) (names : Names) → IsRunning old office names → CloseReadEvent.carried session office ≡ Err NoSession
   close_refused e office names at = rw (no_restore old session e office names at) refl
 
-  module _ (new : StoreParts D N S d n) (index : ℕ) (restore : OpenRestore)
+  module _ (new : StoreParts D N S d n) (index : ℕ) (restore : OpenRestore S)
       (e : Some index ≡ place_of old.sessions.restores.items session) (there : slice_get old.sessions.restores.items index ≡ Some restore)
       (quiet : Quiet old.journal new.journal) (catalog : new.catalog ≡ old.catalog) (counts : new.counts ≡ old.counts)
       (views : new.views ≡ old.views)
@@ -69,9 +70,9 @@ module _ {D N S : Type 0} {d : DiskGhosts D} {n : NamerGhosts N S} (old : StoreP
           form = form;
           names = near_lost (slots old) (slots new) (λ id. occurrences id restore.rows) (gone office names at);
         })
-        (AreSessions-claimed (given (slots old)) (contents_of at.all) (given (slots new)) (contents_of at.all) (without office) new.sessions
+        (AreSessions-claimed n.holds (given (slots old)) (contents_of at.all) (given (slots new)) (contents_of at.all) (without office) new.sessions
         (λ id g some. ((gone office names at id).given g (let same = claimed id in omega (arith, same, some)), refl))
-        (AreSessions-restore_taken old.sessions new.sessions dumps (given (slots old)) (contents_of at.all) office at.sessions index
+        (AreSessions-restore_taken old.sessions new.sessions dumps n.holds (given (slots old)) (contents_of at.all) office at.sessions index
         restores sequence))
         claimed refl refl
         (IsSound-carried office names (CloseRead session) (record { answer = Done; after = without office }) at.sound judged)

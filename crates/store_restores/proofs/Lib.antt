@@ -4,4 +4,3 @@ pub mod Closes
 pub mod Opens
 pub mod Steps
 pub mod Nexts
-pub mod Unread

@@ -160,7 +160,7 @@ module _ {D N S : Type 0} {d : DiskGhosts D} {n : NamerGhosts N S} where
           moved false restores = refl
 
       sequence_is : (office : Office) (names : Names) → IsRunning old office names → office.sequence ≡ mid.sessions.sequence
-      sequence_is office names at = sym at.sessions.sequence ∙ ap (λ (s : Sessions). s.sequence) (sym looks.sessions_same)
+      sequence_is office names at = sym at.sessions.sequence ∙ ap (λ (s : Sessions S). s.sequence) (sym looks.sessions_same)
 
       pub open_spent : 2 ^ 64 - 1 ≤ mid.sessions.sequence → Runs old (OpenRead name number) (Err (Broken NumbersSpent)) mid
       open_spent many =
@@ -182,9 +182,9 @@ module _ {D N S : Type 0} {d : DiskGhosts D} {n : NamerGhosts N S} where
         halted = kept.halted ∙ looks.halted_same;
         form = kept.form ∙ ap (λ (p : Pool N S n). p.in_one_file) looks.pool_same;
         sessions = record {
-          dumps = kept.sessions.dumps ∙ ap (λ (s : Sessions). s.dumps.items) looks.sessions_same;
-          restores = kept.sessions.restores ∙ ap (λ (s : Sessions). s.restores.items) looks.sessions_same;
-          sequence = kept.sessions.sequence ∙ ap (λ (s : Sessions). s.sequence) looks.sessions_same;
+          dumps = kept.sessions.dumps ∙ ap (λ (s : Sessions S). s.dumps.items) looks.sessions_same;
+          restores = kept.sessions.restores ∙ ap (λ (s : Sessions S). s.restores.items) looks.sessions_same;
+          sequence = kept.sessions.sequence ∙ ap (λ (s : Sessions S). s.sequence) looks.sessions_same;
         };
         names = λ id. kept.names id ∙ ap (λ (p : Pool N S n). slots_of p.names id) looks.pool_same;
       }
@@ -206,7 +206,7 @@ module _ {D N S : Type 0} {d : DiskGhosts D} {n : NamerGhosts N S} where
         views = has.views ∙ looks.views_same;
         halted = has.halted ∙ looks.halted_same;
         form = has.form ∙ ap (λ (p : Pool N S n). p.in_one_file) looks.pool_same;
-        sessions = subst (λ (s : Sessions). IsOpened s old.catalog.epoch rows session new.sessions) looks.sessions_same
+        sessions = subst (λ (s : Sessions S). IsOpened s old.catalog.epoch rows session new.sessions) looks.sessions_same
             (subst (λ (k : Known). IsOpened mid.sessions k.epoch rows session new.sessions) looks.catalog_same has.sessions);
         claims = subst (λ (p : Pool N S n). ((id : PoolId) → 0 < occurrences id rows → is_given (slots_of p.names id) ≡ true)
             → Gains (λ id. occurrences id rows) (slots_of p.names) (slots new)) looks.pool_same has.claims;
@@ -230,13 +230,13 @@ module _ {D N S : Type 0} {d : DiskGhosts D} {n : NamerGhosts N S} where
         named : session ≡ next_session office
         named = has.sessions.name_is ∙ λ i. session_of (ap (λ (k : Known). k.epoch) at.catalog_is i) (at.sessions.sequence i)
 
-        is_restore : IsRestore (given (slots old)) (contents_of at.all)
+        is_restore : IsRestore n.holds (given (slots old)) (contents_of at.all)
             (OpenReadEvent.new_restore (next_session office) shows.backup.tree) (fresh session rows)
         is_restore = record {
           name = named;
           tree = shows.tree;
           rows = record { whole = shows.whole; told = told };
-          place = IsAt-start shows.backup.tree;
+          place = IsAt-start shows.backup.tree n.holds;
         }
 
         claimed : (id : PoolId) → claims_of (slots new id) ≡ claims_in new.sessions id
@@ -261,7 +261,7 @@ module _ {D N S : Type 0} {d : DiskGhosts D} {n : NamerGhosts N S} where
               names = near_gained (slots old) (slots new) (λ id. occurrences id rows) gains;
             })
             (sessions_given old new office names at next (λ id g. (gains id).given ∙ g)
-            (AreSessions-restore_opened old.sessions new.sessions has.sessions.dumps (given (slots old)) (contents_of at.all) office
+            (AreSessions-restore_opened old.sessions new.sessions has.sessions.dumps n.holds (given (slots old)) (contents_of at.all) office
             at.sessions (OpenReadEvent.new_restore (next_session office) shows.backup.tree) (fresh session rows)
             is_restore has.sessions.restores has.sessions.sequence))
             claimed refl refl

@@ -109,7 +109,7 @@ module _ {D N S : Type 0} {d : DiskGhosts D} {n : NamerGhosts N S} where
     pub names : AreNear (slots old) (slots new)
 
   pub running_stays : (old new : StoreParts D N S d n) (office next : Office) (names : Names) (at : IsRunning old office names)
-      → Stays old new → AreSessions (given (slots new)) (contents_of at.all) next new.sessions
+      → Stays old new → AreSessions n.holds (given (slots new)) (contents_of at.all) next new.sessions
       → ((id : PoolId) → claims_of (slots new id) ≡ claims_in new.sessions id)
       → durable next ≡ durable office → next.hosts ≡ office.hosts → IsSound next → IsRunning new next names
   running_stays old new office next names at stays sessions claimed same hosts sound = record {
@@ -172,9 +172,9 @@ module _ {D N S : Type 0} {d : DiskGhosts D} {n : NamerGhosts N S} where
   module _ (old new : StoreParts D N S d n) (office : Office) (names : Names) (at : IsRunning old office names) where
     -- names that stay given name the same contents
     pub sessions_given : (next : Office) → ((id : PoolId) → given (slots old) id → given (slots new) id)
-        → AreSessions (given (slots old)) (contents_of at.all) next new.sessions
-        → AreSessions (given (slots new)) (contents_of at.all) next new.sessions
-    sessions_given next still = AreSessions-kept (given (slots old)) (contents_of at.all) (given (slots new))
+        → AreSessions n.holds (given (slots old)) (contents_of at.all) next new.sessions
+        → AreSessions n.holds (given (slots new)) (contents_of at.all) next new.sessions
+    sessions_given next still = AreSessions-kept n.holds (given (slots old)) (contents_of at.all) (given (slots new))
         (contents_of at.all) next new.sessions (λ id g. (still id g, refl))
 
     pub running_kept : HasKept old new → IsRunning new office names
@@ -183,7 +183,7 @@ module _ {D N S : Type 0} {d : DiskGhosts D} {n : NamerGhosts N S} where
         (sessions_given office (λ id g. ap is_given (kept.names id) ∙ g) (record {
           dumps = subst (λ (items : List OpenDump). AtEachPair (λ i. IsDump (given (slots old)) (contents_of at.all)) office.dumps items)
               (sym kept.sessions.dumps) at.sessions.dumps;
-          restores = subst (λ (items : List OpenRestore). AtEachPair (λ i. IsRestore (given (slots old)) (contents_of at.all))
+          restores = subst (λ (items : List (OpenRestore S)). AtEachPair (λ i. IsRestore n.holds (given (slots old)) (contents_of at.all))
               office.restores items)
               (sym kept.sessions.restores) at.sessions.restores;
           sequence = kept.sessions.sequence ∙ at.sessions.sequence;

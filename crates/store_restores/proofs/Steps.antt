@@ -1,14 +1,16 @@
 -- What a restore gives from its rows is what the model's gives from its tree.
---     gives_at      the frame at a place, and the place behind it
---     read_at      the place is the same once a content was read
---     unread_given      a content that is to be read is a given one
-use Rattle.std.specs.Prelude.{◌≡◌, ◌<◌, ◌≤◌, ◌+◌, ◌-◌, ◌==◌, ℕ, zero, suc, Bool, true, false, List, [], ◌∷◌, nat_le, take, drop, length, Option, Some, None, slice_get, if◌then◌else◌}
+--     is_entry, is_asked      what comes next at a place
+--     entry_gives, piece_gives      an entry and a piece, and the place behind them
+--     never_wrong      the digest of a content that the tables tell isn't wrong
+use Rattle.std.specs.Prelude.{◌≡◌, ◌<◌, ◌≤◌, ◌+◌, ◌-◌, ◌==◌, ℕ, zero, suc, min, Bool, true, false, List, [], ◌∷◌, ◌++◌, take, drop, length, Option, Some, None, slice_get, if◌then◌else◌}
 use Rattle.std.proofs.Common.{refl, sym, ap, ◌∙◌, subst, arith}
 use Rattle.std.proofs.lemmas.Bool.{true≢false}
 use Rattle.std.proofs.lemmas.Bool.Decides.{nat_tests}
-use Rattle.std.proofs.lemmas.Option.{slice_get_within}
+use Rattle.std.proofs.lemmas.List.{length-drop, take_min, take_all}
+use Rattle.std.proofs.Math.Seq.{take-add}
 use borrow.Author.Tests.{eqb-true}
 use Rattle.disk_trait.specs.declared.ids.PoolId.{PoolId}
+use Rattle.pool_name.specs.declared.namer.Namer.{Ghosts as NamerGhosts}
 use Rattle.attr_records.specs.declared.nodes.Item.{Item}
 use Rattle.attr_records.specs.Items.{Tree}
 use Rattle.attr_tables.specs.declared.records.Record.{Record}
@@ -21,13 +23,15 @@ use Rattle.office_model.specs.declared.nodes.Frame.TheVariants as F
 use Rattle.office_model.specs.Frames.{node_of}
 use Rattle.office_model.specs.Frames as Frames
 use Rattle.office_model.specs.Office.{Restore}
+use Rattle.open_sessions.specs.declared.sessions.Asked.{Asked}
+use Rattle.open_sessions.specs.declared.sessions.Next.TheVariants as Next
 use Rattle.open_sessions.specs.declared.sessions.Place.{Place}
-use Rattle.open_sessions.specs.declared.sessions.Place.TheVariants.{Entry, Content, Piece}
+use Rattle.open_sessions.specs.declared.sessions.Place.TheVariants.{Entry, Content, Piece, Wrong}
 use Rattle.open_sessions.specs.Opened.{AreRowsOf}
-use Rattle.open_sessions.specs.Places.{bytes_found, bytes_at, frames_from, IsPlace, IsAt, behind_node, behind_entry, behind_file, place_after}
-use Rattle.open_sessions.specs.PlaceLaws.{entry_left, file_passed, content_read, piece_left, file_left, end_left, Gives, gives_next, gives_end}
-use Rattle.store_reads.specs.Shown.{node_in, IsGivenContent}
-use Rattle.store_restores.specs.Giving.{count_of, entry_frame, frame_found, frame_at, Unread, unread_found, unread_in, read_as, place_read}
+use Rattle.open_sessions.specs.Places.{entries_of, bytes_found, bytes_at, left_from, frames_from, IsPlace, IsAt, piece_of, piece_node, piece_found, next_in, behind_node, behind_entry}
+use Rattle.open_sessions.specs.PlaceLaws.{entry_left, file_passed, piece_left, file_left, end_left, Gives, gives_next, gives_end}
+use Rattle.store_reads.specs.Shown.{node_in}
+use Rattle.store_restores.specs.Giving.{count_of, entry_frame, frame_found, entry_in, room_of, is_last, HasTaken, IsBehind}
 
 -- ---- rows one by one
 
@@ -48,6 +52,21 @@ is_zero n e = eqb-true n 0 e
 is_more : (n : ℕ) → (n == 0) ≡ false → 0 < n
 is_more zero e = absurd (true≢false e)
 is_more (suc n) e = omega arith
+
+no_wrong : (row from : ℕ) (found : Option (List ℕ × Record)) (content : PoolId) (digest : List ℕ)
+    → piece_found row from found ≡ Next.Wrong content digest → ⊥
+no_wrong row from None content digest e = cc
+no_wrong row from (Some found) content digest e = node found.1 e
+  where
+    of_content : (size : ℕ) (id : Option PoolId) → piece_of row from size id ≡ Next.Wrong content digest → ⊥
+    of_content size None e = cc
+    of_content size (Some id) e = cc
+
+    node : (node : Record) → piece_node row from node ≡ Next.Wrong content digest → ⊥
+    node (File file) e = of_content file.size file.content e
+    node (Dir dir) e = cc
+    node (Link link) e = cc
+    node Deleted e = cc
 
 module _ (contents : PoolId → List ℕ) where
   abbrev shown : List ℕ × Record → List ℕ × Item
@@ -82,37 +101,17 @@ module _ (contents : PoolId → List ℕ) where
     entry_told total path (Link link) told clean = refl
     entry_told total path Deleted told clean = absurd cc
 
-    content_is_given : (size : ℕ) (content : Option PoolId) → IsToldContent given contents size content → IsGivenContent given content
-    content_is_given size None told = tt
-    content_is_given size (Some id) told = told.0
+    -- the piece that is asked for is of the content of a row
+    pub record IsAsked (tree : Tree) (asked : Asked) (row from : ℕ) : Type 0 where
+      pub row_is : asked.row ≡ row
+      pub from_is : asked.from ≡ from
+      pub is_given : given asked.content
+      pub bytes : bytes_at tree row ≡ contents asked.content
+      pub size : asked.size ≡ length (contents asked.content)
 
     module _ (rows : Rows) (of : AreRowsOf given contents rows) where
       abbrev tree : Tree
       tree = resolved contents rows
-
-      -- ---- contents
-
-      pub unread_given : (place : Place) (unread : Unread) → unread_in rows place ≡ Some unread → IsGivenContent given unread.1
-      unread_given (Entry row) unread e = absurd cc
-      unread_given (Piece row content given) unread e = absurd cc
-      unread_given (Content row) unread e = step (slice_get rows row) refl e
-        where
-          node : (node : Record) → IsTold given contents node → unread_found row (Some ([], node)) ≡ Some unread
-              → IsGivenContent given unread.1
-          node (File file) told e =
-              let same : (row, file.content) ≡ unread = cc in
-              subst (λ (u : Unread). IsGivenContent given u.1) same (content_is_given file.size file.content told)
-          node (Dir dir) told e = absurd cc
-          node (Link link) told e = absurd cc
-          node Deleted told e = absurd cc
-
-          step : (found : Option (List ℕ × Record)) → slice_get rows row ≡ found → unread_found row found ≡ Some unread
-              → IsGivenContent given unread.1
-          step None there e = absurd cc
-          step (Some found) there e = node found.1 (told_at (IsTold given contents) rows row found of.told there) e
-
-      within_tree : (row : ℕ) (found : List ℕ × Record) → slice_get rows row ≡ Some found → row < length tree
-      within_tree row found e = slice_get_within tree row (shown found) (shown_at rows row found e)
 
       bytes_shown : (row : ℕ) (found : List ℕ × Record) → slice_get rows row ≡ Some found
           → bytes_at tree row ≡ Frames.bytes_of (resolved_item contents found.1)
@@ -121,143 +120,233 @@ module _ (contents : PoolId → List ℕ) where
       no_bytes : (row : ℕ) → slice_get rows row ≡ None → bytes_at tree row ≡ []
       no_bytes row e = ap bytes_found (none_at rows row e)
 
-      -- a content that was read
-      pub read_at : (position : ℕ) (place : Place) → IsAt tree position place → IsAt tree position (place_read contents rows place)
-      read_at position (Entry row) is = is
-      read_at position (Piece row content given) is = is
-      read_at position (Content row) is = step (slice_get rows row) refl
+      -- ---- what comes next
+
+      asked_at : (row from : ℕ) (asked : Asked) → piece_found row from (slice_get rows row) ≡ Next.Piece asked → IsAsked tree asked row from
+      asked_at row from asked e = step (slice_get rows row) refl e
         where
-          node : (path : List ℕ) (node : Record) → slice_get rows row ≡ Some (path, node)
-              → IsAt tree position (read_as contents (Content row) (unread_found row (Some (path, node))))
-          node path (File file) e = record {
-            left = is.left ∙ content_read tree row (bytes_of contents file.content) (sym (bytes_shown row (path, File file) e));
-            within = (
-              within_tree row (path, File file) e,
-              subst (λ (bytes : List ℕ). 0 < length bytes) (bytes_shown row (path, File file) e) is.within,
-            );
-          }
-          node path (Dir dir) e = is
-          node path (Link link) e = is
-          node path Deleted e = is
+          content : (size : ℕ) (content : Option PoolId) → bytes_at tree row ≡ bytes_of contents content
+              → IsToldContent given contents size content → piece_of row from size content ≡ Next.Piece asked → IsAsked tree asked row from
+          content size None bytes told e = absurd cc
+          content size (Some id) bytes told e =
+              let same : record { row = row; content = id; size = size; from = from } ≡ asked = cc in
+              subst (λ (a : Asked). IsAsked tree a row from) same
+              (record { row_is = refl; from_is = refl; is_given = told.0; bytes = bytes; size = told.1 })
 
-          step : (found : Option (List ℕ × Record)) → slice_get rows row ≡ found
-              → IsAt tree position (read_as contents (Content row) (unread_found row found))
-          step None e = is
-          step (Some found) e = node found.0 found.1 e
+          node : (path : List ℕ) (node : Record) → slice_get rows row ≡ Some (path, node) → piece_node row from node ≡ Next.Piece asked
+              → IsAsked tree asked row from
+          node path (File file) there e =
+              content file.size file.content (bytes_shown row (path, File file) there)
+              (told_at (IsTold given contents) rows row (path, File file) of.told there) e
+          node path (Dir dir) there e = absurd cc
+          node path (Link link) there e = absurd cc
+          node path Deleted there e = absurd cc
 
-      pub nothing_unread : (place : Place) → unread_in rows (place_read contents rows place) ≡ None
-      nothing_unread (Entry row) = refl
-      nothing_unread (Piece row content given) = refl
-      nothing_unread (Content row) = step (slice_get rows row) refl
+          step : (found : Option (List ℕ × Record)) → slice_get rows row ≡ found → piece_found row from found ≡ Next.Piece asked
+              → IsAsked tree asked row from
+          step None there e = absurd cc
+          step (Some found) there e = node found.0 found.1 there e
+
+      -- what has bytes is asked for
+      has_piece : (row from next : ℕ) → 0 < length (bytes_at tree row) → piece_found row from (slice_get rows row) ≡ Next.Entry next → ⊥
+      has_piece row from next some e = step (slice_get rows row) refl e
         where
-          node : (path : List ℕ) (node : Record) → slice_get rows row ≡ Some (path, node)
-              → unread_in rows (read_as contents (Content row) (unread_found row (Some (path, node)))) ≡ None
-          node path (File file) e = refl
-          node path (Dir dir) e = ap (unread_found row) e
-          node path (Link link) e = ap (unread_found row) e
-          node path Deleted e = ap (unread_found row) e
+          nothing : bytes_at tree row ≡ [] → ⊥
+          nothing none = let n = ap length none in omega (arith, n, some)
 
-          step : (found : Option (List ℕ × Record)) → slice_get rows row ≡ found
-              → unread_in rows (read_as contents (Content row) (unread_found row found)) ≡ None
-          step None e = ap (unread_found row) e
-          step (Some found) e = node found.0 found.1 e
+          content : (size : ℕ) (content : Option PoolId) → bytes_at tree row ≡ bytes_of contents content
+              → piece_of row from size content ≡ Next.Entry next → ⊥
+          content size None bytes e = nothing bytes
+          content size (Some id) bytes e = cc
 
-      -- ---- frames
+          node : (path : List ℕ) (node : Record) → slice_get rows row ≡ Some (path, node) → piece_node row from node ≡ Next.Entry next → ⊥
+          node path (File file) there e = content file.size file.content (bytes_shown row (path, File file) there) e
+          node path (Dir dir) there e = nothing (bytes_shown row (path, Dir dir) there)
+          node path (Link link) there e = nothing (bytes_shown row (path, Link link) there)
+          node path Deleted there e = nothing (bytes_shown row (path, Deleted) there)
 
-      -- what is left behind the entry of a row
-      record IsBehind (row : ℕ) (place : Place) : Type 0 where
-        pub left : frames_from tree (Content row) ≡ frames_from tree place
-        pub within : IsPlace tree place
+          step : (found : Option (List ℕ × Record)) → slice_get rows row ≡ found → piece_found row from found ≡ Next.Entry next → ⊥
+          step None there e = nothing (no_bytes row there)
+          step (Some found) there e = node found.0 found.1 there e
 
-      passed : (row : ℕ) → bytes_at tree row ≡ [] → IsBehind row (Entry (row + 1))
-      passed row none = record { left = file_passed tree row (let n = ap length none in omega (arith, n)); within = tt }
+      module _ {N S : Type 0} (n : NamerGhosts N S) where
+        -- a place in a content: the rest of it comes next, and the digest took in what was given
+        pub record IsIn (place : Place S) (row from : ℕ) : Type 0 where
+          pub left : frames_from tree place ≡ left_from tree row from
+          pub inside : from < length (bytes_at tree row)
+          pub taken : HasTaken n.holds place (take from (bytes_at tree row))
 
-      behind_is : (row : ℕ) (path : List ℕ) (node : Record) → slice_get rows row ≡ Some (path, node) → IsBehind row (behind_node row node)
-      behind_is row path (Dir dir) e = passed row (bytes_shown row (path, Dir dir) e)
-      behind_is row path (Link link) e = passed row (bytes_shown row (path, Link link) e)
-      behind_is row path Deleted e = passed row (bytes_shown row (path, Deleted) e)
-      behind_is row path (File file) e = step (file.size == 0) refl
-        where
-          size : length (bytes_at tree row) ≡ file.size
-          size = ap length (bytes_shown row (path, File file) e)
-              ∙ sym (size_told file.size file.content (told_at (IsTold given contents) rows row (path, File file) of.told e))
+        pub record IsPiece (place : Place S) (asked : Asked) : Type 0 where
+          pub row : ℕ
+          pub from : ℕ
+          pub is_in : IsIn place row from
+          pub is_asked : IsAsked tree asked row from
 
-          step : (b : Bool) → (file.size == 0) ≡ b → IsBehind row (if b then Entry (row + 1) else Content row)
-          step true none = record {
-            left = file_passed tree row (let n = is_zero file.size none in omega (arith, n, size));
-            within = tt;
-          }
-          step false some = record { left = refl; within = let n = is_more file.size some in omega (arith, n, size) }
+        pub is_piece : (place : Place S) (asked : Asked) → IsPlace n.holds tree place → Next.Piece asked ≡ next_in rows place
+            → IsPiece place asked
+        is_piece (Entry row) asked within e = absurd cc
+        is_piece (Wrong content digest) asked within e = absurd within
+        is_piece (Content row) asked within e = record {
+          row = row;
+          from = 0;
+          is_in = record { left = refl; inside = within; taken = refl };
+          is_asked = asked_at row 0 asked (sym e);
+        }
+        is_piece (Piece row given digest) asked within e = record {
+          row = row;
+          from = given;
+          is_in = record { left = refl; inside = within.0; taken = within.1 };
+          is_asked = asked_at row given asked (sym e);
+        }
 
-      module _ (restore : Restore) (is_tree : restore.tree ≡ tree) (few : length rows ≤ 4294967295) where
-        abbrev shows : Restore
-        shows = record restore { tree = tree }
+        pub is_entry : (place : Place S) (row : ℕ) → IsPlace n.holds tree place → Next.Entry row ≡ next_in rows place → place ≡ Entry row
+        is_entry (Entry row') row within e = let same : row ≡ row' = cc in ap (λ (k : ℕ). Entry k) (sym same)
+        is_entry (Wrong content digest) row within e = absurd within
+        is_entry (Content row') row within e = absurd (has_piece row' 0 row within (sym e))
+        is_entry (Piece row' given digest) row within e =
+            absurd (has_piece row' given row (let w = within.0 in omega (arith, w)) (sym e))
 
-        count_is : count_of rows ≡ length tree
-        count_is = let n = length_shown rows in omega (arith, n, few)
+        pub not_wrong : (place : Place S) (content : PoolId) (digest : List ℕ) → IsPlace n.holds tree place
+            → Next.Wrong content digest ≡ next_in rows place → ⊥
+        not_wrong (Entry row) content digest within e = cc
+        not_wrong (Wrong content' digest') content digest within e = within
+        not_wrong (Content row) content digest within e = no_wrong row 0 (slice_get rows row) content digest (sym e)
+        not_wrong (Piece row given digest') content digest within e = no_wrong row given (slice_get rows row) content digest (sym e)
 
-        entry_gives : (row : ℕ) → IsAt tree restore.position (Entry row) → (found : Option (List ℕ × Record)) → slice_get rows row ≡ found
-            → Gives shows (frame_found (count_of rows) found) (behind_entry row found)
-        entry_gives row is None e =
-            gives_end shows (Entry row) (F.End (count_of rows)) is
-            (end_left tree row (none_at rows row e) ∙ ap (λ n. F.End n ∷ []) (sym count_is))
-        entry_gives row is (Some found) e =
-            let behind = behind_is row found.0 found.1 e in
-            let frame : entry_frame (count_of rows) found.0 (node_in found.1) ≡ F.Entry found.0 (node_of (resolved_item contents found.1)) =
-            entry_told (count_of rows) found.0 found.1 (told_at (IsTold given contents) rows row found of.told e)
-            (unmarked_at rows row found of.whole.no_marks e) in
-            gives_next shows (Entry row) (entry_frame (count_of rows) found.0 (node_in found.1)) is (behind_node row found.1)
-            (entry_left tree row (shown found) (shown_at rows row found e)
-            ∙ ap (λ f. f ∷ frames_from tree (Content row)) (sym frame)
-            ∙ ap (λ fs. entry_frame (count_of rows) found.0 (node_in found.1) ∷ fs) behind.left)
-            behind.within
+        -- ---- the entry of a row
 
-        piece_gives : (row : ℕ) (content : List ℕ) (given : ℕ) → IsAt tree restore.position (Piece row content given)
-            → Gives shows (F.Piece (take 65536 (drop given content))) (place_after rows (Piece row content given))
-        piece_gives row content given is = step (nat_le (length content - given) 65536) refl
+        -- what is left behind the entry of a row
+        record IsAfter (row : ℕ) (place : Place S) : Type 0 where
+          pub left : left_from tree row 0 ≡ frames_from tree place
+          pub within : IsPlace n.holds tree place
+
+        passed : (row : ℕ) → bytes_at tree row ≡ [] → IsAfter row (Entry (row + 1))
+        passed row none = record { left = file_passed tree row (let m = ap length none in omega (arith, m)); within = tt }
+
+        behind_is : (row : ℕ) (path : List ℕ) (node : Record) → slice_get rows row ≡ Some (path, node) → IsAfter row (behind_node row node)
+        behind_is row path (Dir dir) e = passed row (bytes_shown row (path, Dir dir) e)
+        behind_is row path (Link link) e = passed row (bytes_shown row (path, Link link) e)
+        behind_is row path Deleted e = passed row (bytes_shown row (path, Deleted) e)
+        behind_is row path (File file) e = step (file.size == 0) refl
           where
-            inside : nat_le (length rows) row ≡ false
-            inside = let n = length_shown rows in let w = is.within.0 in
-                (let less : row < length rows = omega (arith, n, w) in grind (arith, nat_tests))
+            size : length (bytes_at tree row) ≡ file.size
+            size = ap length (bytes_shown row (path, File file) e)
+                ∙ sym (size_told file.size file.content (told_at (IsTold given contents) rows row (path, File file) of.told e))
 
-            step : (b : Bool) → nat_le (length content - given) 65536 ≡ b
-                → Gives shows (F.Piece (take 65536 (drop given content)))
-                (if b then behind_file (length rows) row else Piece row content (given + 65536))
-            step true last =
-                subst (λ (b : Bool). Gives shows (F.Piece (take 65536 (drop given content))) (if b then Entry row else Entry (row + 1)))
-                (sym inside)
-                (gives_next shows (Piece row content given) (F.Piece (take 65536 (drop given content))) is (Entry (row + 1))
-                (piece_left tree row content given is.within.1
-                ∙ ap (λ fs. F.Piece (take 65536 (drop given content)) ∷ fs)
-                (file_left tree row content (given + 65536)
-                (let n : length content - given ≤ 65536 = grind (arith, nat_tests) in omega (arith, n)))) tt)
-            step false more =
-                gives_next shows (Piece row content given) (F.Piece (take 65536 (drop given content))) is
-                (Piece row content (given + 65536))
-                (piece_left tree row content given is.within.1)
-                (is.within.0, let n : 65536 < length content - given = grind (arith, nat_tests) in omega (arith, n))
+            step : (b : Bool) → (file.size == 0) ≡ b → IsAfter row (if b then Entry (row + 1) else Content row)
+            step true none = record {
+              left = file_passed tree row (let m = is_zero file.size none in omega (arith, m, size));
+              within = tt;
+            }
+            step false some = record { left = refl; within = let m = is_more file.size some in omega (arith, m, size) }
 
-        -- a file's content that wasn't read is unread
-        not_unread : (row : ℕ) (found : Option (List ℕ × Record)) → slice_get rows row ≡ found → unread_found row found ≡ None
-            → 0 < length (bytes_at tree row) → ⊥
-        not_unread row None there e some = let n = ap length (no_bytes row there) in omega (arith, n, some)
-        not_unread row (Some found) there e some = node found.0 found.1 there e
-          where
-            node : (path : List ℕ) (node : Record) → slice_get rows row ≡ Some (path, node)
-                → unread_found row (Some (path, node)) ≡ None → ⊥
-            node path (File file) there e = cc
-            node path (Dir dir) there e = let n = ap length (bytes_shown row (path, Dir dir) there) in omega (arith, n, some)
-            node path (Link link) there e = let n = ap length (bytes_shown row (path, Link link) there) in omega (arith, n, some)
-            node path Deleted there e = let n = ap length (bytes_shown row (path, Deleted) there) in omega (arith, n, some)
+        module _ (restore : Restore) (few : length rows ≤ 4294967295) where
+          abbrev shows : Restore
+          shows = record restore { tree = tree }
 
-        place_gives : (place : Place) → IsAt tree restore.position place → unread_in rows place ≡ None
-            → Gives shows (frame_at rows place) (place_after rows place)
-        place_gives (Entry row) is read = entry_gives row is (slice_get rows row) refl
-        place_gives (Piece row content given) is read = piece_gives row content given is
-        place_gives (Content row) is read = absurd (not_unread row (slice_get rows row) refl read is.within)
+          count_is : count_of rows ≡ length tree
+          count_is = let m = length_shown rows in omega (arith, m, few)
 
-        pub gives_at : (place : Place) → IsAt restore.tree restore.position place → unread_in rows place ≡ None
-            → Gives restore (frame_at rows place) (place_after rows place)
-        gives_at place is read =
-            subst (λ (t : Tree). Gives (record restore { tree = t }) (frame_at rows place) (place_after rows place)) (sym is_tree)
-            (place_gives place (subst (λ (t : Tree). IsAt t restore.position place) is_tree is) read)
+          found_gives : (row : ℕ) → IsAt n.holds tree restore.position (Entry row) → (found : Option (List ℕ × Record))
+              → slice_get rows row ≡ found → Gives n.holds shows (frame_found (count_of rows) found) (behind_entry row found)
+          found_gives row is None e =
+              gives_end n.holds shows (Entry row) (F.End (count_of rows)) is
+              (end_left tree row (none_at rows row e) ∙ ap (λ m. F.End m ∷ []) (sym count_is))
+          found_gives row is (Some found) e =
+              let behind = behind_is row found.0 found.1 e in
+              let frame : entry_frame (count_of rows) found.0 (node_in found.1) ≡ F.Entry found.0 (node_of (resolved_item contents found.1)) =
+              entry_told (count_of rows) found.0 found.1 (told_at (IsTold given contents) rows row found of.told e)
+              (unmarked_at rows row found of.whole.no_marks e) in
+              gives_next n.holds shows (Entry row) (entry_frame (count_of rows) found.0 (node_in found.1)) is (behind_node row found.1)
+              (entry_left tree row (shown found) (shown_at rows row found e)
+              ∙ ap (λ f. f ∷ left_from tree row 0) (sym frame)
+              ∙ ap (λ fs. entry_frame (count_of rows) found.0 (node_in found.1) ∷ fs) behind.left)
+              behind.within
+
+          pub entry_gives : (row : ℕ) → IsAt n.holds tree restore.position (Entry row)
+              → Gives n.holds shows (entry_in rows row) (behind_entry row (slice_get rows row))
+          entry_gives row is = found_gives row is (slice_get rows row) refl
+
+        -- ---- a piece
+
+        module _ (place : Place S) (asked : Asked) (p : IsPiece place asked) (piece : List ℕ)
+            (piece_is : piece ≡ take (room_of asked) (drop asked.from (contents asked.content))) where
+          abbrev bytes : List ℕ
+          bytes = bytes_at tree p.row
+
+          abbrev rest : List ℕ
+          rest = drop p.from bytes
+
+          size_is : asked.size - asked.from ≡ length rest
+          size_is =
+              let a = p.is_asked.size in
+              let b = ap length p.is_asked.bytes in
+              let c = p.is_asked.from_is in
+              let d = length-drop p.from bytes in
+              omega (arith, a, b, c, d)
+
+          pub room_fits : asked.from + room_of asked ≤ length (contents asked.content)
+          room_fits =
+              let a = p.is_asked.size in
+              let b = ap length p.is_asked.bytes in
+              let c = p.is_asked.from_is in
+              let d = p.is_in.inside in
+              omega (arith, a, b, c, d)
+
+          piece_of_rest : piece ≡ take 65536 rest
+          piece_of_rest =
+              piece_is
+              ∙ (λ i. take (min 65536 (size_is i)) (drop (p.is_asked.from_is i) (sym p.is_asked.bytes i)))
+              ∙ take_min 65536 rest
+
+          -- with what was given before it
+          together : take p.from bytes ++ piece ≡ take (p.from + 65536) bytes
+          together = ap (λ (ps : List ℕ). take p.from bytes ++ ps) piece_of_rest ∙ sym (take-add p.from 65536 bytes)
+
+          ends : is_last asked ≡ true → length bytes ≤ p.from + 65536
+          ends last =
+              let m : asked.size - asked.from ≤ 65536 = grind (arith, nat_tests) in
+              let d = length-drop p.from bytes in
+              omega (arith, m, d, size_is)
+
+          goes_on : is_last asked ≡ false → p.from + 65536 < length bytes
+          goes_on more =
+              let m : 65536 < asked.size - asked.from = grind (arith, nat_tests) in
+              let d = length-drop p.from bytes in
+              omega (arith, m, d, size_is)
+
+          whole : is_last asked ≡ true → take p.from bytes ++ piece ≡ contents asked.content
+          whole last = together ∙ take_all (p.from + 65536) bytes (ends last) ∙ p.is_asked.bytes
+
+          -- its digest isn't wrong
+          pub never_wrong : asked.content.digest ≡ n.digest_of (contents asked.content) → (content : PoolId) (digest : List ℕ)
+              → IsBehind n.holds n.digest_of place asked piece (Wrong content digest) → ⊥
+          never_wrong named content digest behind =
+              behind.2 (behind.3 (take p.from bytes) p.is_in.taken ∙ ap n.digest_of (whole behind.1) ∙ sym named)
+
+          module _ (restore : Restore) (is : IsAt n.holds tree restore.position place)
+              (named : asked.content.digest ≡ n.digest_of (contents asked.content)) where
+            abbrev shows_piece : Restore
+            shows_piece = record restore { tree = tree }
+
+            begins : frames_from tree place ≡ F.Piece piece ∷ left_from tree p.row (p.from + 65536)
+            begins =
+                p.is_in.left ∙ piece_left tree p.row p.from p.is_in.inside
+                ∙ ap (λ (ps : List ℕ). F.Piece ps ∷ left_from tree p.row (p.from + 65536)) (sym piece_of_rest)
+
+            pub piece_gives : (next : Place S) → IsBehind n.holds n.digest_of place asked piece next → Gives n.holds shows_piece (F.Piece piece) next
+            piece_gives (Entry row) behind =
+                let at : row ≡ p.row + 1 = behind.0 ∙ ap (λ k. k + 1) p.is_asked.row_is in
+                gives_next n.holds shows_piece place (F.Piece piece) is (Entry row)
+                (begins ∙ ap (λ fs. F.Piece piece ∷ fs) (file_left tree p.row (p.from + 65536) (ends behind.1)
+                ∙ ap (λ k. entries_of (length tree) (drop k tree)) (sym at))) tt
+            piece_gives (Content row) behind = absurd behind
+            piece_gives (Wrong content digest) behind = absurd (never_wrong named content digest behind)
+            piece_gives (Piece row given digest) behind =
+                let at : row ≡ p.row = behind.0 ∙ p.is_asked.row_is in
+                let goes : given ≡ p.from + 65536 = behind.1 ∙ ap (λ k. k + 65536) p.is_asked.from_is in
+                gives_next n.holds shows_piece place (F.Piece piece) is (Piece row given digest)
+                (begins ∙ ap (λ fs. F.Piece piece ∷ fs) (λ i. left_from tree (sym at i) (sym goes i)))
+                (subst (λ (k : ℕ). (given < length (bytes_at tree k)) × n.holds digest (take given (bytes_at tree k))) (sym at)
+                (subst (λ (k : ℕ). (k < length bytes) × n.holds digest (take k bytes)) (sym goes)
+                (goes_on behind.2, subst (n.holds digest) together (behind.3 (take p.from bytes) p.is_in.taken))))

@@ -1,35 +1,29 @@
 -- What a restore gives from its rows.
---     frame_at rows place      the frame that is next at a place
---     unread_in rows place      the row and the content that have to be read before, at a content that wasn't read
---     place_read contents rows place      the place once that was read
+--     entry_in rows row      the frame of the entry of a row; behind the last row the end
+--     room_of asked, is_last asked      how many bytes the asked piece has, and whether it is the last of its content
+--     HasTaken holds place content      the digest at a place took in these bytes of its content, and no more
+--     IsBehind holds digest_of place asked piece next      how a place moves on behind this piece
+--     wrong_in place      a wrong digest, if a place has one
+--     IsDamagedOr content digest refusal      how that is refused
 --     MovesTo old at restore place new      sessions whose restore at this index has another place
---     Gives old at restore frame new      so it gave its frame
---     HasRead old at new      so it holds the content that it gives next
---     IsUnreadFault parts at refusal      how that reading is refused
-use Rattle.std.specs.Prelude.{◌≡◌, ℕ, min, List, [], length, take, drop, Option, Some, None, slice_get, slice_set}
+use Rattle.std.specs.Prelude.{⊤, ◌≡◌, ◌≢◌, ℕ, ◌+◌, ◌-◌, min, nat_le, Bool, true, false, List, [], ◌++◌, length, Option, Some, None, slice_get, slice_set}
 use Rattle.disk_trait.specs.declared.ids.PoolId.{PoolId}
-use Rattle.disk_trait.specs.declared.disk.Disk.{Ghosts as DiskGhosts}
-use Rattle.disk_trait.specs.Files.{Files}
-use Rattle.pool_name.specs.declared.namer.Namer.{Ghosts as NamerGhosts}
+use Rattle.disk_trait.specs.declared.ids.FileId.TheVariants.{Pool as PoolFile}
 use Rattle.attr_tables.specs.declared.records.Record.{Record}
-use Rattle.attr_tables.specs.declared.records.Record.TheVariants.{File, Dir, Link, Deleted}
-use Rattle.journal_view.specs.View.{told, Quiet}
 use Rattle.merge_view.specs.Views.{Rows}
-use Rattle.stored_trees.specs.Resolved.{bytes_of}
 use Rattle.office_model.specs.declared.nodes.Node.{Node}
 use Rattle.office_model.specs.declared.nodes.Frame.{Frame}
 use Rattle.office_model.specs.declared.nodes.Frame.TheVariants as F
 use Rattle.office_model.specs.declared.refusal.Refusal.{Refusal}
-use Rattle.office_files.specs.Pooled.{contents_of}
+use Rattle.office_model.specs.declared.refusal.Refusal.TheVariants as R
+use Rattle.open_sessions.specs.declared.sessions.Asked.{Asked}
 use Rattle.open_sessions.specs.declared.sessions.OpenRestore.{OpenRestore}
 use Rattle.open_sessions.specs.declared.sessions.Place.{Place}
-use Rattle.open_sessions.specs.declared.sessions.Place.TheVariants.{Entry, Content, Piece}
+use Rattle.open_sessions.specs.declared.sessions.Place.TheVariants.{Entry, Content, Piece, Wrong}
 use Rattle.open_sessions.specs.declared.sessions.Sessions.{Sessions}
-use Rattle.open_sessions.specs.Places.{place_after}
-use Rattle.store_parts.specs.declared.parts.StoreParts.{StoreParts}
-use Rattle.store_reads.specs.Shown.{node_in, IsContentFault}
+use Rattle.store_reads.specs.Shown.{node_in}
 
--- ---- frames
+-- ---- entries
 
 -- how many rows the end says; a tree has fewer
 abbrev pub count_of : Rows → ℕ
@@ -44,64 +38,52 @@ abbrev pub frame_found : ℕ → Option (List ℕ × Record) → Frame
 frame_found total None = F.End total
 frame_found total (Some row) = entry_frame total row.0 (node_in row.1)
 
--- a content has to be read before it gives a piece
-abbrev pub frame_at : Rows → Place → Frame
-frame_at rows (Entry row) = frame_found (count_of rows) (slice_get rows row)
-frame_at rows (Content row) = F.Piece []
-frame_at rows (Piece row content given) = F.Piece (take 65536 (drop given content))
+abbrev pub entry_in : Rows → ℕ → Frame
+entry_in rows row = frame_found (count_of rows) (slice_get rows row)
 
--- ---- contents that weren't read
+-- ---- pieces
 
-abbrev pub Unread : Type 0
-Unread = ℕ × Option PoolId
+abbrev pub room_of : Asked → ℕ
+room_of asked = min 65536 (asked.size - asked.from)
 
-abbrev pub unread_node : ℕ → Record → Option Unread
-unread_node row (File file) = Some (row, file.content)
-unread_node row (Dir dir) = None
-unread_node row (Link link) = None
-unread_node row Deleted = None
+abbrev pub is_last : Asked → Bool
+is_last asked = nat_le (asked.size - asked.from) 65536
 
-abbrev pub unread_found : ℕ → Option (List ℕ × Record) → Option Unread
-unread_found row None = None
-unread_found row (Some found) = unread_node row found.1
+abbrev pub HasTaken : {S : Type 0} → (S → List ℕ → Type 0) → Place S → List ℕ → Type 0
+HasTaken holds (Entry row) content = ⊥
+HasTaken holds (Content row) content = content ≡ []
+HasTaken holds (Piece row given digest) content = holds digest content
+HasTaken holds (Wrong content' digest) content = ⊥
 
-abbrev pub unread_in : Rows → Place → Option Unread
-unread_in rows (Entry row) = None
-unread_in rows (Content row) = unread_found row (slice_get rows row)
-unread_in rows (Piece row content given) = None
+module _ {S : Type 0} (holds : S → List ℕ → Type 0) (digest_of : List ℕ → List ℕ) where
+  -- behind the last piece comes the next row's entry, if the digest of all pieces is the one in the content's name
+  abbrev pub IsBehind : Place S → Asked → List ℕ → Place S → Type 0
+  IsBehind place asked piece (Entry row) =
+      (row ≡ asked.row + 1) × (is_last asked ≡ true)
+      × ((content : List ℕ) → HasTaken holds place content → asked.content.digest ≡ digest_of (content ++ piece))
+  IsBehind place asked piece (Content row) = ⊥
+  IsBehind place asked piece (Piece row given digest) =
+      (row ≡ asked.row) × (given ≡ asked.from + 65536) × (is_last asked ≡ false)
+      × ((content : List ℕ) → HasTaken holds place content → holds digest (content ++ piece))
+  IsBehind place asked piece (Wrong content' digest) =
+      (content' ≡ asked.content) × (is_last asked ≡ true) × (digest ≢ asked.content.digest)
+      × ((content : List ℕ) → HasTaken holds place content → digest ≡ digest_of (content ++ piece))
 
-abbrev pub read_as : (PoolId → List ℕ) → Place → Option Unread → Place
-read_as contents place None = place
-read_as contents place (Some unread) = Piece unread.0 (bytes_of contents unread.1) 0
+abbrev pub wrong_in : {S : Type 0} → Place S → Option (List ℕ)
+wrong_in (Entry row) = None
+wrong_in (Content row) = None
+wrong_in (Piece row given digest) = None
+wrong_in (Wrong content digest) = Some digest
 
-abbrev pub place_read : (PoolId → List ℕ) → Rows → Place → Place
-place_read contents rows place = read_as contents place (unread_in rows place)
+-- this content was found to have this digest, or memory was wanting
+abbrev pub IsDamagedOr : PoolId → List ℕ → Refusal → Type 0
+IsDamagedOr content digest (R.Damaged file found) = (file ≡ PoolFile content) × (found ≡ Some digest)
+IsDamagedOr content digest R.Memory = ⊤
+IsDamagedOr content digest refusal = ⊥
 
 -- ---- what is done
 
-pub record MovesTo (old : Sessions) (at : ℕ) (restore : OpenRestore) (place : Place) (new : Sessions) : Type 0 where
+pub record MovesTo {S : Type 0} (old : Sessions S) (at : ℕ) (restore : OpenRestore S) (place : Place S) (new : Sessions S) : Type 0 where
   pub restores : new.restores.items ≡ slice_set old.restores.items at (record restore { place = place })
   pub dumps : new.dumps ≡ old.dumps
   pub sequence : new.sequence ≡ old.sequence
-
-pub record Gives (old : Sessions) (at : ℕ) (restore : OpenRestore) (frame : Frame) (new : Sessions) : Type 0 where
-  pub frame_is : frame ≡ frame_at restore.rows restore.place
-  pub moves : MovesTo old at restore (place_after restore.rows restore.place) new
-
-module _ {D N S : Type 0} {d : DiskGhosts D} {n : NamerGhosts N S} where
-  pub record HasRead (old : StoreParts D N S d n) (at : ℕ) (new : StoreParts D N S d n) : Type 0 where
-    pub quiet : Quiet old.journal new.journal
-    pub pool_same : new.pool ≡ old.pool
-    pub catalog_same : new.catalog ≡ old.catalog
-    pub counts_same : new.counts ≡ old.counts
-    pub views_same : new.views ≡ old.views
-    pub halted_same : new.halted ≡ old.halted
-    pub moves : (all : Files) (restore : OpenRestore) → told old.journal ≡ Some all
-        → slice_get old.sessions.restores.items at ≡ Some restore
-        → MovesTo old.sessions at restore (place_read (contents_of all) restore.rows restore.place) new.sessions
-
-  pub record IsUnreadFault (parts : StoreParts D N S d n) (at : ℕ) (refusal : Refusal) : Type 0 where
-    pub unread : Unread
-    pub is : (restore : OpenRestore) → slice_get parts.sessions.restores.items at ≡ Some restore
-        → unread_in restore.rows restore.place ≡ Some unread
-    pub fault : IsContentFault parts unread.1 refusal

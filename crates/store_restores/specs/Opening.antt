@@ -24,10 +24,10 @@ abbrev pub session_of : ℕ → ℕ → SessionName
 session_of epoch sequence = record { epoch = epoch; sequence = sequence }
 
 -- a restore of these rows that gave no frame
-abbrev pub fresh : SessionName → Rows → OpenRestore
+abbrev pub fresh : {S : Type 0} → SessionName → Rows → OpenRestore S
 fresh name rows = record { name = name; rows = rows; place = Entry 0 }
 
-pub record IsOpened (old : Sessions) (epoch : ℕ) (rows : Rows) (name : SessionName) (new : Sessions) : Type 0 where
+pub record IsOpened {S : Type 0} (old : Sessions S) (epoch : ℕ) (rows : Rows) (name : SessionName) (new : Sessions S) : Type 0 where
   pub name_is : name ≡ session_of epoch old.sequence
   pub restores : new.restores.items ≡ old.restores.items ++ fresh name rows ∷ []
   pub dumps : new.dumps ≡ old.dumps

@@ -16,6 +16,7 @@
 #![tactic(auto)]
 
 mod closing;
+mod digests;
 mod giving;
 mod opening;
 mod reading;

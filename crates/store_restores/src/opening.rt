@@ -24,11 +24,11 @@ use store_parts::StoreParts;
 use store_reads::read_backup;
 
 /// Claims the contents that the rows of the restore at this place name; as many claims must have been made sure of.
-fn claim_restore<N: Namer>(pool: &mut Pool<N>, sessions: &Sessions, at: usize)
+fn claim_restore<N: Namer>(pool: &mut Pool<N>, sessions: &Sessions<N::State>, at: usize)
     requires there { at < length sessions.now.restores.items }
-    requires spare { (restore : OpenRestore) → slice_get sessions.now.restores.items at ≡ Some restore
+    requires spare { (restore : OpenRestore N.State) → slice_get sessions.now.restores.items at ≡ Some restore
         → length restore.rows ≤ pool.old.spare }
-    ensures gains { (restore : OpenRestore) → slice_get sessions.now.restores.items at ≡ Some restore
+    ensures gains { (restore : OpenRestore N.State) → slice_get sessions.now.restores.items at ≡ Some restore
         → ((id : PoolId) → 0 < occurrences id restore.rows → is_given (slots_of pool.old.names id) ≡ true)
         → Gains (λ id. occurrences id restore.rows) (slots_of pool.old.names) (slots_of pool.new.names) }
     ensures form { pool.new.in_one_file ≡ pool.old.in_one_file }

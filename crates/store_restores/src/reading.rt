@@ -1,59 +1,71 @@
 //! A restore gives its next frame.
 
-ghost use Rattle.std.specs.Prelude.{◌≡◌, ◌<◌, false, length, OnOk, OnErr, IfErr, Err};
-ghost use Rattle.fault_counts.specs.Counts.{Counted};
+ghost use Rattle.std.specs.Prelude.{◌≡◌, ◌<◌, ◌-◌, ◌^◌, false, Some, length, slice_get};
 ghost use Rattle.office_model.specs.declared.event.Event.TheVariants.{ReadNext};
+ghost use Rattle.office_model.specs.declared.session.SessionName.{SessionName as SessionNameValue};
+ghost use Rattle.open_sessions.specs.declared.sessions.Next.TheVariants.{Piece as NextPiece};
+ghost use Rattle.open_sessions.specs.declared.sessions.OpenRestore.{OpenRestore};
+ghost use Rattle.open_sessions.specs.Places.{next_in};
 ghost use Rattle.store_parts.specs.Runs.{Runs};
-ghost use Rattle.store_reads.specs.Shown.{Looks};
-ghost use Rattle.store_restores.specs.Giving.{HasRead, IsUnreadFault};
+ghost use Rattle.store_restores.specs.Finding.{place_of};
+ghost use Rattle.store_restores.specs.Giving.{IsDamagedOr};
 
-use crate::giving::{give, unread};
-use disk_trait::Disk;
-use office_model::{Answer, BrokenRule, Refusal, SessionName};
-use open_sessions::Place;
+use crate::digests::{place_behind, room_of, wrong_at};
+use crate::giving::give_entry;
+use disk_trait::{Bytes, Disk, FileId, PoolId};
+use office_model::{Answer, BrokenRule, Frame, Refusal, SessionName};
+use open_sessions::{Asked, Next, Place};
 use pool_name::Namer;
 use std::alloc::Global;
 use store_parts::StoreParts;
-use store_reads::read_content;
+use store_reads::read_piece;
 
-/// Reads the content that the restore at this place is to give next, if it wasn't read. A refusal changes nothing.
-fn read_unread<D: Disk, N: Namer>(
+/// The refusal of a content that has another digest than its own, with that digest; or of want of memory.
+fn wrong_content(alloc: Global, content: PoolId, digest: &[u8]) -> Refusal
+    ensures { IsDamagedOr content digest.now result }
+{
+    match Bytes::from_slice(alloc, digest) {
+        Ok(found) => Refusal::Damaged {
+            file: FileId::Pool(content),
+            found: Some(found),
+        },
+        Err(_) => Refusal::Memory,
+    }
+}
+
+/// Gives the piece that comes next in the restore at an index, which moves on behind it. If the digest of a whole content
+/// is another than its own, that is `Damaged` in the place of the last piece, and the restore stays there.
+fn give_piece<D: Disk, N: Namer>(
     parts: &mut StoreParts<D, N>,
     alloc: Global,
     at: usize,
-) -> Result<(), Refusal>
-    requires ready { parts.old.journal.halted ≡ false }
+    asked: &Asked,
+) -> Result<Answer, Refusal>
+    requires journal_ready { parts.old.journal.halted ≡ false }
     requires there { at < length parts.old.sessions.restores.items }
-    ensures has { OnOk result (HasRead parts.old at parts.new) }
-    ensures looks { OnErr result (Looks parts.old parts.new) }
-    ensures fault { IfErr result (IsUnreadFault parts.old at) }
-    ensures within { length parts.new.sessions.restores.items ≡ length parts.old.sessions.restores.items }
-    ensures counted { Counted (D.fault_count parts.old.journal.disk) (D.fault_count parts.new.journal.disk)
-        (result ≡ Err Refusal.DiskFault) }
+    requires row { asked.now.row < 2 ^ 64 - 1 }
+    requires is { (restore : OpenRestore N.State) → slice_get parts.old.sessions.restores.items at ≡ Some restore
+        → NextPiece asked.now ≡ next_in restore.rows restore.place }
+    ensures { (session : SessionNameValue) → Some at ≡ place_of parts.old.sessions.restores.items session
+        → Runs parts.old (ReadNext session) result parts.new }
 {
-    let restore = &parts.sessions.restores[at];
-    let (row, content) = match unread(restore.rows.rows(), &restore.place) {
-        Some(found) => found,
-        None => return Ok(()),
+    let piece = match read_piece(parts, alloc, asked.content, asked.from, room_of(asked)) {
+        Ok(piece) => piece,
+        Err(refusal) => return Err(refusal),
     };
-    match read_content(parts, alloc, content) {
-        Ok(content) => {
-            parts.sessions.set_place(
-                at,
-                Place::Piece {
-                    row,
-                    content,
-                    given: 0,
-                },
-            );
-            Ok(())
-        }
-        Err(refusal) => Err(refusal),
+    let place = parts.sessions.set_place(at, Place::Entry(0));
+    let next = place_behind(&parts.pool.namer(), place, asked, piece.as_slice());
+    let wrong = wrong_at(&next);
+    let _ = parts.sessions.set_place(at, next);
+    match wrong {
+        None => Ok(Answer::Next(Frame::Piece(piece))),
+        Some(digest) => Err(wrong_content(alloc, asked.content, &digest)),
     }
 }
 
 /// Gives the next frame of a restore, and behind the end the end again. A refusal leaves the restore where it is, so the
-/// same frame comes again: no restore has this name, or a fault of the disk, or want of memory.
+/// same frame comes again: no restore has this name, or a fault of the disk, or want of memory. A content that isn't the
+/// one of its name is `Damaged`, at the latest in the place of its last piece, and then each time again.
 pub fn read_next<D: Disk, N: Namer>(
     parts: &mut StoreParts<D, N>,
     alloc: Global,
@@ -67,12 +79,12 @@ pub fn read_next<D: Disk, N: Namer>(
         Some(at) => at,
         None => return Err(Refusal::Broken(BrokenRule::NoSession)),
     };
-    match read_unread(parts, alloc, at) {
-        Ok(()) => {}
-        Err(refusal) => return Err(refusal),
-    }
-    match give(&mut parts.sessions, alloc, at) {
-        Ok(frame) => Ok(Answer::Next(frame)),
-        Err(_) => Err(Refusal::Memory),
+    match parts.sessions.next(at) {
+        Next::Entry(row) => match give_entry(&mut parts.sessions, alloc, at, row) {
+            Ok(frame) => Ok(Answer::Next(frame)),
+            Err(_) => Err(Refusal::Memory),
+        },
+        Next::Piece(asked) => give_piece(parts, alloc, at, &asked),
+        Next::Wrong { content, digest } => Err(wrong_content(alloc, content, &digest)),
     }
 }

@@ -96,19 +96,20 @@ fn table_of(alloc: Global) -> Result<Bytes, Fail> {
     Ok(write_table(alloc, &table)?)
 }
 
-fn disk_of(alloc: Global) -> Result<MemoryDisk, Fail> {
+// A disk with a backup, whose second content has this file.
+fn disk_of(alloc: Global, second: &[u8]) -> Result<MemoryDisk, Fail> {
     let mut disk = MemoryDisk::new(alloc, Vec::new(alloc), ROOM)?;
     let table = table_of(alloc)?;
     disk.write(FileId::Table(0, NUMBER), table.as_slice())?;
     disk.write(FileId::Pool(id_of(b'a')), &content_of(alloc, b'a', 0)?)?;
-    disk.write(FileId::Pool(id_of(b'b')), &content_of(alloc, b'b', b'c')?)?;
+    disk.write(FileId::Pool(id_of(b'b')), second)?;
     Ok(disk)
 }
 
-fn journal_of(alloc: Global) -> Result<Journal<MemoryDisk>, Fail>
+fn journal_of(alloc: Global, second: &[u8]) -> Result<Journal<MemoryDisk>, Fail>
     ensures { IfOk result (λ journal. journal.halted ≡ false) }
 {
-    match journal_view::open(alloc, disk_of(alloc)?) {
+    match journal_view::open(alloc, disk_of(alloc, second)?) {
         Ok(journal) => Ok(journal),
         Err(_) => Err(Fail::new("the journal doesn't open")),
     }
@@ -167,8 +168,8 @@ fn put(
     make(alloc, journal, catalog, change)
 }
 
-fn parts_of(alloc: Global) -> Result<StoreParts<MemoryDisk, FirstByteNamer>, Fail> {
-    let mut journal = journal_of(alloc)?;
+fn parts_of(alloc: Global, second: &[u8]) -> Result<StoreParts<MemoryDisk, FirstByteNamer>, Fail> {
+    let mut journal = journal_of(alloc, second)?;
     let mut catalog = office_catalog::open(alloc, &mut journal)?;
     add(alloc, &mut journal, &mut catalog)?;
     put(alloc, &mut journal, &mut catalog)?;
@@ -181,11 +182,7 @@ fn parts_of(alloc: Global) -> Result<StoreParts<MemoryDisk, FirstByteNamer>, Fai
         pool,
         catalog,
         counts: HostCounts::new(alloc)?,
-        sessions: Sessions {
-            dumps: Vec::new(alloc),
-            restores: Vec::new(alloc),
-            sequence: 0,
-        },
+        sessions: Sessions::new(alloc),
         views: Views::new(),
         halted: false,
     })
@@ -256,6 +253,18 @@ fn expect_next(
     }
 }
 
+// Whether the next frame is refused for a damaged file.
+fn is_damaged(alloc: Global, parts: &mut TestParts, restore: SessionName) -> Result<bool, Fail> {
+    if parts.halted || parts.journal.halted() {
+        return Err(Fail::new("the store is halted"));
+    }
+    match read_next(parts, alloc, restore) {
+        Ok(_) => Ok(false),
+        Err(Refusal::Damaged { .. }) => Ok(true),
+        Err(_) => Err(Fail::new("another refusal")),
+    }
+}
+
 fn expect_closed(parts: &mut TestParts, restore: SessionName, is_open: bool) -> Result<(), Fail> {
     if parts.halted {
         return Err(Fail::new("the store is halted"));
@@ -270,7 +279,7 @@ fn expect_closed(parts: &mut TestParts, restore: SessionName, is_open: bool) -> 
 #[test]
 fn a_restore_gives_each_frame_of_its_backup(rt: HostRuntime) -> Result<(), Fail> {
     let alloc = rt.alloc();
-    let mut parts = parts_of(alloc)?;
+    let mut parts = parts_of(alloc, &content_of(alloc, b'b', b'c')?)?;
     let Some(restore) = open(alloc, &mut parts, b"a", NUMBER)? else {
         return Err(Fail::new("no restore"));
     };
@@ -284,11 +293,28 @@ fn a_restore_gives_each_frame_of_its_backup(rt: HostRuntime) -> Result<(), Fail>
 #[test]
 fn only_a_backup_is_restored(rt: HostRuntime) -> Result<(), Fail> {
     let alloc = rt.alloc();
-    let mut parts = parts_of(alloc)?;
+    let mut parts = parts_of(alloc, &content_of(alloc, b'b', b'c')?)?;
     for (host, number) in [(b"a", 4), (b"b", NUMBER)] {
         if open(alloc, &mut parts, host, number)?.is_some() {
             return Err(Fail::new("a restore of no backup"));
         }
     }
     expect(parts.sessions.restores.is_empty(), "an open restore")
+}
+
+// A content of another digest, and one that is a byte too short.
+#[test]
+fn another_content_is_damaged_in_the_place_of_its_last_piece(rt: HostRuntime) -> Result<(), Fail> {
+    let alloc = rt.alloc();
+    for (first, last) in [(b'x', b'c'), (b'b', 0)] {
+        let mut parts = parts_of(alloc, &content_of(alloc, first, last)?)?;
+        let Some(restore) = open(alloc, &mut parts, b"a", NUMBER)? else {
+            return Err(Fail::new("no restore"));
+        };
+        for damaged in [false, false, false, false, false, true, true] {
+            let answer = is_damaged(alloc, &mut parts, restore)?;
+            expect(answer == damaged, "another answer")?;
+        }
+    }
+    Ok(())
 }

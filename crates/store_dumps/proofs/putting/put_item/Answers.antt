@@ -31,6 +31,6 @@ says_same dumps at result path path' node item content same is says =
     (subst (λ (p : List ℕ). Says dumps at result p (is_dir node)) same says)
 
 pub returns-clause-rule : goal.returns-clause-rule
-returns-clause-rule c =
+returns-clause-rule g c =
     says_same c.args.sessions.now.dumps.items c.args.at c.put.result _ _ _ c.args.item.now c.args.content
     c.in_ok-path.ensures c.in_ok-node.ensures c.put.ensures.rule
