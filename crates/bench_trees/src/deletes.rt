@@ -1,4 +1,4 @@
-//! The deletion of one backup of many, beside reading the tables of all.
+//! The deletion of one backup of many, of ten neighbours and of ten that stand apart, beside reading the tables of all.
 
 use crate::corpus::{file_path, file_record};
 use crate::fault::Fault;
@@ -83,28 +83,73 @@ fn count_written(changes: &[TableChange]) -> usize {
     rows
 }
 
-/// Folds the backups without number 1, whose tables reach from the oldest to the newest.
-fn fold_one(alloc: Global, lines: &[Line], tables: &[Table]) -> Result<Folded, Fault> {
+/// Ten numbers of backups from 1 on, with this step from one to the next, or as many as there are before the newest.
+fn numbers_by(alloc: Global, step: u32, backups: u32) -> Result<Vec<u32>, Fault> {
+    let mut numbers = Vec::new(alloc);
+    for turn in 0..10u32 {
+        let number = turn.saturating_mul(step).saturating_add(1);
+        if number.saturating_add(1) < backups {
+            numbers.push(number)?;
+        }
+    }
+    Ok(numbers)
+}
+
+/// Folds the backups without these numbers.
+fn fold_without(
+    alloc: Global,
+    lines: &[Line],
+    tables: &[Table],
+    numbers: &[u32],
+) -> Result<Folded, Fault> {
     if lines.len() != tables.len() {
         return Err(Fault::Words);
     }
-    Ok(fold(alloc, lines, tables, &[1])?)
+    Ok(fold(alloc, lines, tables, numbers)?)
 }
 
-/// Reads the tables of all backups, and deletes the oldest but one.
+/// Deletes the backups of these numbers.
+fn delete(
+    report: &Report,
+    what: &'static str,
+    lines: &[Line],
+    tables: &[Table],
+    numbers: &[u32],
+) -> Result<(), Fault> {
+    let begin = report.begin()?;
+    let folded = fold_without(report.alloc(), lines, tables, numbers)?;
+    let micros = report.micros_since(begin)?;
+    let rows = count_written(folded.tables.as_slice());
+    report.say(
+        micros,
+        format_args!(
+            "{what}: {} left, {rows} entries written",
+            folded.lines.len()
+        ),
+    )
+}
+
+/// Reads the tables of all backups, and deletes of them the oldest but one; ten neighbours from it on; and ten from it on
+/// that stand apart.
 pub fn measure(report: &Report, sizes: FoldSizes) -> Result<(), Fault> {
+    let FoldSizes { backups, .. } = sizes;
+    let alloc = report.alloc();
     let (tables, read_micros) = read_tables(report, sizes)?;
     report.say(
         read_micros,
         format_args!("read all: {} tables", tables.len()),
     )?;
-    let lines = lines_of(report.alloc(), sizes.backups)?;
-    let begin = report.begin()?;
-    let folded = fold_one(report.alloc(), lines.as_slice(), tables.as_slice())?;
-    let micros = report.micros_since(begin)?;
-    let rows = count_written(folded.tables.as_slice());
-    report.say(
-        micros,
-        format_args!("fold: {} left, {rows} entries written", folded.lines.len()),
-    )
+    let lines = lines_of(alloc, backups)?;
+    let (lines, tables) = (lines.as_slice(), tables.as_slice());
+    delete(report, "fold", lines, tables, &[1])?;
+    let neighbours = numbers_by(alloc, 1, backups)?;
+    delete(
+        report,
+        "fold neighbours",
+        lines,
+        tables,
+        neighbours.as_slice(),
+    )?;
+    let apart = numbers_by(alloc, (backups / 10).max(2), backups)?;
+    delete(report, "fold apart", lines, tables, apart.as_slice())
 }
