@@ -47,8 +47,10 @@ pub const WEEKLY: Row = Row("PUT /hosts/pc1/rules?FillCycle=7", "", DONE);
 /// they hold after a stop at the last sync.
 pub const CHOICES: [Choice; 3] = [Choice::Written, Choice::Absent, Choice::One(0x4F)];
 
-/// When nothing else is said.
-pub const NOW: &[u64] = &[1_700_000_000];
+/// When nothing else is said: a Tuesday, 22:13:20 in UTC.
+pub const START: u64 = 1_700_000_000;
+
+pub const NOW: &[u64] = &[START];
 
 const ROOM: DiskRoom = DiskRoom {
     changes: 1_000,
@@ -60,10 +62,13 @@ pub fn blank_disk(alloc: Global, fails: &[u64]) -> Result<MemoryDisk, AllocError
     MemoryDisk::new(alloc, Vec::from_slice(alloc, fails)?, ROOM)
 }
 
-/// Writes a request, with its body's length.
-fn put_request(out: &mut Vec<u8>, alloc: Global, row: &Row) -> Result<(), AllocError> {
-    let ask = row.0;
-    let body = row.1;
+/// Writes a request of this method and target, with its body's length.
+pub fn put_request(
+    out: &mut Vec<u8>,
+    alloc: Global,
+    ask: &str,
+    body: &str,
+) -> Result<(), AllocError> {
     let count = body.len();
     let text = format!(in alloc;
         "{ask} HTTP/1.1\r\nHost: b\r\nContent-Length: {count}\r\n\r\n{body}"
@@ -73,7 +78,7 @@ fn put_request(out: &mut Vec<u8>, alloc: Global, row: &Row) -> Result<(), AllocE
 }
 
 /// Writes a response of this status and this type.
-fn put_response(
+pub fn put_response(
     out: &mut Vec<u8>,
     alloc: Global,
     status: &str,
@@ -90,7 +95,7 @@ fn put_response(
 }
 
 /// Writes the response that has an answer.
-fn put_answer(out: &mut Vec<u8>, alloc: Global, says: Says) -> Result<(), AllocError> {
+pub fn put_answer(out: &mut Vec<u8>, alloc: Global, says: Says) -> Result<(), AllocError> {
     match says {
         Says::Json(status, body) => put_response(out, alloc, status, "json", body.as_bytes()),
         Says::Bytes(body) => put_response(out, alloc, "200 OK", "octet-stream", body),
@@ -101,7 +106,7 @@ fn put_answer(out: &mut Vec<u8>, alloc: Global, says: Says) -> Result<(), AllocE
 pub fn input_of(alloc: Global, rows: &[Row]) -> Result<Vec<u8>, AllocError> {
     let mut bytes = Vec::new(alloc);
     for row in rows {
-        put_request(&mut bytes, alloc, row)?;
+        put_request(&mut bytes, alloc, row.0, row.1)?;
     }
     Ok(bytes)
 }
@@ -155,20 +160,20 @@ fn expect_file(
     Err(Fail::new(format_args!("{file} is {found:?}")))
 }
 
-/// Runs the program on what is asked.
-pub fn talk<N: Namer + Send>(
+/// Runs the program on this input.
+pub fn pipe<N: Namer + Send>(
     rt: &impl Machine,
     disk: MemoryDisk,
     namer: N,
     seconds: &[u64],
-    rows: &[Row],
+    input: Vec<u8>,
 ) -> Result<Talked, Fail>
 where
     N::State: Send,
 {
     let alloc = rt.alloc();
     let words = words_of(alloc, "backup_server pipe --store store")?;
-    let link = MemoryLink::new(alloc, input_of(alloc, rows)?, 65_536, Vec::new(alloc))?;
+    let link = MemoryLink::new(alloc, input, 65_536, Vec::new(alloc))?;
     let mut clock = clock_of(alloc, seconds)?;
     Ok(run(
         rt,
@@ -181,6 +186,20 @@ where
         link,
         Vec::new(alloc),
     ))
+}
+
+/// Runs the program on what is asked.
+pub fn talk<N: Namer + Send>(
+    rt: &impl Machine,
+    disk: MemoryDisk,
+    namer: N,
+    seconds: &[u64],
+    rows: &[Row],
+) -> Result<Talked, Fail>
+where
+    N::State: Send,
+{
+    pipe(rt, disk, namer, seconds, input_of(rt.alloc(), rows)?)
 }
 
 /// Whether a run answered so.

@@ -1,121 +1,65 @@
 //! Trees that change from backup to backup, and the tables that are kept of them.
 
-use crate::talks::{
-    ABSENT, CONFLICT, DONE, HOST, MADE, NOW, OK, Row, Says, WEEKLY, blank_disk, expect_files,
-    expect_talk,
-};
+use crate::scripts::Step::{Ask, Commit, Dump, File, Open, Read};
+use crate::scripts::{Put, Step, expect_steps};
+use crate::talks::{ABSENT, CONFLICT, DONE, HOST, Row, Says, WEEKLY, blank_disk, expect_files};
 use disk_trait::FileId;
-use pool_name::Md5Namer;
 use std::test::Fail;
 
 /// A directory that isn't there, is there with three files, isn't there, and is there without files.
-const DIRECTORY: &[Row] = &[
-    HOST,
-    WEEKLY,
-    Row(
-        "POST /hosts/pc1/dumps?kind=full",
-        "",
-        Says::Json(MADE, "{\"dump\":\"1-0\"}"),
-    ),
-    Row("PUT /dumps/1-0/entry?path=k&kind=file", "one", DONE),
-    Row(
-        "POST /dumps/1-0/commit",
-        "",
-        Says::Json(MADE, "{\"number\":0}"),
-    ),
-    Row(
-        "POST /hosts/pc1/dumps?kind=incr",
-        "",
-        Says::Json(MADE, "{\"dump\":\"1-1\"}"),
-    ),
-    Row("PUT /dumps/1-1/entry?path=d&kind=dir", "", DONE),
-    Row("PUT /dumps/1-1/entry?path=d/x&kind=file", "x", DONE),
-    Row("PUT /dumps/1-1/entry?path=d/y&kind=file", "y", DONE),
-    Row("PUT /dumps/1-1/entry?path=d/z&kind=file", "z", DONE),
-    Row(
-        "POST /dumps/1-1/commit",
-        "",
-        Says::Json(MADE, "{\"number\":1}"),
-    ),
-    Row(
-        "POST /hosts/pc1/dumps?kind=incr",
-        "",
-        Says::Json(MADE, "{\"dump\":\"1-2\"}"),
-    ),
-    Row("DELETE /dumps/1-2/entry?path=d", "", DONE),
-    Row(
-        "POST /dumps/1-2/commit",
-        "",
-        Says::Json(MADE, "{\"number\":2}"),
-    ),
-    Row(
-        "POST /hosts/pc1/dumps?kind=incr",
-        "",
-        Says::Json(MADE, "{\"dump\":\"1-3\"}"),
-    ),
-    Row("PUT /dumps/1-3/entry?path=d&kind=dir", "", DONE),
-    Row(
-        "POST /dumps/1-3/commit",
-        "",
-        Says::Json(MADE, "{\"number\":3}"),
-    ),
+const DIRECTORY: &[Step] = &[
+    Ask(HOST),
+    Ask(WEEKLY),
+    Dump(0, "full", &[Put("k", "one")]),
+    Open(1, "incr"),
+    Ask(Row("PUT /dumps/1-1/entry?path=d&kind=dir", "", DONE)),
+    Ask(Row("PUT /dumps/1-1/entry?path=d/x&kind=file", "x", DONE)),
+    Ask(Row("PUT /dumps/1-1/entry?path=d/y&kind=file", "y", DONE)),
+    Ask(Row("PUT /dumps/1-1/entry?path=d/z&kind=file", "z", DONE)),
+    Commit(1),
+    Open(2, "incr"),
+    Ask(Row("DELETE /dumps/1-2/entry?path=d", "", DONE)),
+    Commit(2),
+    Open(3, "incr"),
+    Ask(Row("PUT /dumps/1-3/entry?path=d&kind=dir", "", DONE)),
+    Commit(3),
 ];
 
 /// What the four backups show of it.
-const SHOWN: &[Row] = &[
-    Row(
+const SHOWN: &[Step] = &[
+    Ask(Row(
         "GET /hosts/pc1/backups/0/list?path=d",
         "",
         Says::Json(ABSENT, "{\"refused\":\"NoPath\"}"),
+    )),
+    Read(
+        "/hosts/pc1/backups/1/list?path=d",
+        "{\"entries\":[{\"gid\":0,\"group\":0,\"kind\":\"file\",\"mode\":\"0644\",\"mtime\":0,\"name\":\"x\",\"nanos\":0,\"size\":1,\"uid\":0},{\"gid\":0,\"group\":0,\"kind\":\"file\",\"mode\":\"0644\",\"mtime\":0,\"name\":\"y\",\"nanos\":0,\"size\":1,\"uid\":0},{\"gid\":0,\"group\":0,\"kind\":\"file\",\"mode\":\"0644\",\"mtime\":0,\"name\":\"z\",\"nanos\":0,\"size\":1,\"uid\":0}]}",
     ),
-    Row(
-        "GET /hosts/pc1/backups/1/list?path=d",
-        "",
-        Says::Json(
-            OK,
-            "{\"entries\":[{\"gid\":0,\"group\":0,\"kind\":\"file\",\"mode\":\"0644\",\"mtime\":0,\"name\":\"x\",\"nanos\":0,\"size\":1,\"uid\":0},{\"gid\":0,\"group\":0,\"kind\":\"file\",\"mode\":\"0644\",\"mtime\":0,\"name\":\"y\",\"nanos\":0,\"size\":1,\"uid\":0},{\"gid\":0,\"group\":0,\"kind\":\"file\",\"mode\":\"0644\",\"mtime\":0,\"name\":\"z\",\"nanos\":0,\"size\":1,\"uid\":0}]}",
-        ),
-    ),
-    Row(
-        "GET /hosts/pc1/backups/1/file?path=d/y",
-        "",
-        Says::Bytes(b"y"),
-    ),
-    Row(
+    File(1, "d/y", b"y"),
+    Ask(Row(
         "GET /hosts/pc1/backups/2/list?path=d",
         "",
         Says::Json(ABSENT, "{\"refused\":\"NoPath\"}"),
-    ),
-    Row(
+    )),
+    Ask(Row(
         "GET /hosts/pc1/backups/2/file?path=d/y",
         "",
         Says::Json(ABSENT, "{\"refused\":\"NoPath\"}"),
-    ),
-    Row(
-        "GET /hosts/pc1/backups/3/list?path=d",
-        "",
-        Says::Json(OK, "{\"entries\":[]}"),
-    ),
-    Row(
+    )),
+    Read("/hosts/pc1/backups/3/list?path=d", "{\"entries\":[]}"),
+    Ask(Row(
         "GET /hosts/pc1/backups/3/list?path=k",
         "",
         Says::Json(CONFLICT, "{\"refused\":\"NotADirectory\"}"),
-    ),
-    Row(
+    )),
+    Ask(Row(
         "GET /hosts/pc1/backups/3/file?path=d",
         "",
         Says::Json(CONFLICT, "{\"refused\":\"NotAFile\"}"),
-    ),
-    Row(
-        "GET /hosts/pc1/backups/0/file?path=k",
-        "",
-        Says::Bytes(b"one"),
-    ),
-    Row(
-        "GET /hosts/pc1/backups/3/file?path=k",
-        "",
-        Says::Bytes(b"one"),
-    ),
+    )),
+    File(0, "k", b"one"),
+    File(3, "k", b"one"),
 ];
 
 /// A table of `d` with its three files. Seals and contents are MD5 (RFC 1321) as Python's `hashlib` computes it, here and below.
@@ -141,96 +85,52 @@ const TABLES: [(FileId, Option<&[u8]>); 4] = [
 fn a_directory_goes_and_comes_back(rt: HostRuntime) -> Result<(), Fail> {
     let alloc = rt.alloc();
     let blank = blank_disk(alloc, &[])?;
-    let disk = expect_talk(&rt, blank, Md5Namer, NOW, DIRECTORY)?;
-    let mut disk = expect_talk(&rt, disk, Md5Namer, NOW, SHOWN)?;
+    let disk = expect_steps(&rt, blank, DIRECTORY)?;
+    let mut disk = expect_steps(&rt, disk, SHOWN)?;
     expect_files(alloc, &mut disk, &TABLES)
 }
 
 /// A file, a directory and a link at one path, each in its backup.
-const KINDS: &[Row] = &[
-    HOST,
-    WEEKLY,
-    Row(
-        "POST /hosts/pc1/dumps?kind=full",
-        "",
-        Says::Json(MADE, "{\"dump\":\"1-0\"}"),
-    ),
-    Row(
+const KINDS: &[Step] = &[
+    Ask(HOST),
+    Ask(WEEKLY),
+    Open(0, "full"),
+    Ask(Row(
         "PUT /dumps/1-0/entry?path=q/r&kind=file",
         "a",
         Says::Json(CONFLICT, "{\"refused\":\"NoParent\"}"),
-    ),
-    Row("PUT /dumps/1-0/entry?path=p&kind=file", "a", DONE),
-    Row(
-        "POST /dumps/1-0/commit",
-        "",
-        Says::Json(MADE, "{\"number\":0}"),
-    ),
-    Row(
-        "POST /hosts/pc1/dumps?kind=incr",
-        "",
-        Says::Json(MADE, "{\"dump\":\"1-1\"}"),
-    ),
-    Row("PUT /dumps/1-1/entry?path=p&kind=dir", "", DONE),
-    Row(
-        "POST /dumps/1-1/commit",
-        "",
-        Says::Json(MADE, "{\"number\":1}"),
-    ),
-    Row(
-        "POST /hosts/pc1/dumps?kind=incr",
-        "",
-        Says::Json(MADE, "{\"dump\":\"1-2\"}"),
-    ),
-    Row(
+    )),
+    Ask(Row("PUT /dumps/1-0/entry?path=p&kind=file", "a", DONE)),
+    Commit(0),
+    Open(1, "incr"),
+    Ask(Row("PUT /dumps/1-1/entry?path=p&kind=dir", "", DONE)),
+    Commit(1),
+    Open(2, "incr"),
+    Ask(Row(
         "PUT /dumps/1-2/entry?path=p&kind=link",
         "../t",
         Says::Json(CONFLICT, "{\"refused\":\"IsDirectory\"}"),
-    ),
-    Row("DELETE /dumps/1-2/entry?path=p", "", DONE),
-    Row("PUT /dumps/1-2/entry?path=p&kind=link", "../t", DONE),
-    Row(
-        "POST /dumps/1-2/commit",
-        "",
-        Says::Json(MADE, "{\"number\":2}"),
-    ),
+    )),
+    Ask(Row("DELETE /dumps/1-2/entry?path=p", "", DONE)),
+    Ask(Row("PUT /dumps/1-2/entry?path=p&kind=link", "../t", DONE)),
+    Commit(2),
 ];
 
-const EACH_KIND: &[Row] = &[
-    Row(
-        "GET /hosts/pc1/backups/0/entry?path=p",
-        "",
-        Says::Json(
-            OK,
-            "{\"gid\":0,\"group\":0,\"kind\":\"file\",\"mode\":\"0644\",\"mtime\":0,\"nanos\":0,\"size\":1,\"uid\":0}",
-        ),
+const EACH_KIND: &[Step] = &[
+    Read(
+        "/hosts/pc1/backups/0/entry?path=p",
+        "{\"gid\":0,\"group\":0,\"kind\":\"file\",\"mode\":\"0644\",\"mtime\":0,\"nanos\":0,\"size\":1,\"uid\":0}",
     ),
-    Row(
-        "GET /hosts/pc1/backups/1/entry?path=p",
-        "",
-        Says::Json(
-            OK,
-            "{\"gid\":0,\"kind\":\"dir\",\"mode\":\"0755\",\"mtime\":0,\"nanos\":0,\"uid\":0}",
-        ),
+    Read(
+        "/hosts/pc1/backups/1/entry?path=p",
+        "{\"gid\":0,\"kind\":\"dir\",\"mode\":\"0755\",\"mtime\":0,\"nanos\":0,\"uid\":0}",
     ),
-    Row(
-        "GET /hosts/pc1/backups/2/entry?path=p",
-        "",
-        Says::Json(
-            OK,
-            "{\"gid\":0,\"kind\":\"link\",\"mode\":\"0777\",\"mtime\":0,\"nanos\":0,\"target\":\"../t\",\"uid\":0}",
-        ),
+    Read(
+        "/hosts/pc1/backups/2/entry?path=p",
+        "{\"gid\":0,\"kind\":\"link\",\"mode\":\"0777\",\"mtime\":0,\"nanos\":0,\"target\":\"../t\",\"uid\":0}",
     ),
-    Row(
-        "GET /hosts/pc1/backups/0/file?path=p",
-        "",
-        Says::Bytes(b"a"),
-    ),
-    Row(
-        "GET /hosts/pc1/backups/1/list?path=p",
-        "",
-        Says::Json(OK, "{\"entries\":[]}"),
-    ),
+    File(0, "p", b"a"),
+    Read("/hosts/pc1/backups/1/list?path=p", "{\"entries\":[]}"),
 ];
 
 /// The table of backup 1, which isn't filled: the directory.
@@ -250,7 +150,7 @@ const KIND_TABLES: [(FileId, Option<&[u8]>); 2] = [
 fn a_path_has_another_kind_in_each_backup(rt: HostRuntime) -> Result<(), Fail> {
     let alloc = rt.alloc();
     let blank = blank_disk(alloc, &[])?;
-    let disk = expect_talk(&rt, blank, Md5Namer, NOW, KINDS)?;
-    let mut disk = expect_talk(&rt, disk, Md5Namer, NOW, EACH_KIND)?;
+    let disk = expect_steps(&rt, blank, KINDS)?;
+    let mut disk = expect_steps(&rt, disk, EACH_KIND)?;
     expect_files(alloc, &mut disk, &KIND_TABLES)
 }
