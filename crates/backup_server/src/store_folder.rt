@@ -84,7 +84,13 @@ pub fn make_folder<R: Files>(rt: &R, alloc: Global, path: &str) -> io::Result<()
 /// The lock on a store's folder: no other process has it until the file is dropped. None if another has it.
 pub fn lock_folder(rt: &HostRuntime, folder: &str) -> io::Result<Option<File>> {
     let path = format!(in rt.alloc(); "{folder}/lock")?;
-    let file = open_file(rt, path.as_str(), Access::Append)?;
+    let file = match open_file(rt, path.as_str(), Access::Append) {
+        // another process made it meanwhile
+        Err(error) if error.kind() == ErrorKind::AlreadyExists => {
+            open_file(rt, path.as_str(), Access::Append)?
+        }
+        opened => opened?,
+    };
     match file.try_lock() {
         Ok(()) => Ok(Some(file)),
         Err(TryLockError::WouldBlock) => Ok(None),
