@@ -235,3 +235,13 @@ within_bytes names over good lies id some = (good id (step (slots_in over id) re
     step : (slot : Option Slot) → slots_in over id ≡ slot → is_some (item_of id (slot_or (slots_in over id) (slots_in names id))) ≡ true → is_some (slots_in names id) ≡ true
     step None is some = used (slots_in names id) (sym (ap (λ (s : Option Slot). is_some (item_of id (slot_or s (slots_in names id)))) is) ∙ some)
     step (Some slot) is some = lies id (ap is_some is)
+
+-- ---- what lies over used names, with one more of them
+
+pub still_used : (under old new : Slots) (id : PoolId) (slot : Slot) (over : Option Slot) → Some slot ≡ under id → IsSet old new id over → IsOver under old → IsOver under new
+still_used under old new id slot over is set before asked some = elim (either (is_same_id asked id)) [
+  | inl same ↦ ap (λ (x : PoolId). is_some (under x)) (one_id asked id same) ∙ sym (ap is_some is)
+  | inr other ↦
+      let here : new asked ≡ old asked = set asked ∙ rw other refl in
+      before asked (sym (ap is_some here) ∙ some)
+]

@@ -34,13 +34,27 @@ fn is_digest(digest: [u8; 16])
     let _bytes = digest.as_slice();
 }
 
+/// Which of two numbers comes first. By branches, since a search of a map then tests each key once: `u128::cmp` makes an
+/// answer without them, which is tested again.
+fn compare_numbers(a: u128, b: u128) -> Ordering
+    ensures { result ≡ nat_cmp a b }
+{
+    if a > b {
+        return Ordering::Greater;
+    }
+    if a < b {
+        return Ordering::Less;
+    }
+    Ordering::Equal
+}
+
 /// Which of two digests comes first.
 fn compare_digests(a: [u8; 16], b: [u8; 16]) -> Ordering
     ensures { result ≡ slice_cmp nat_cmp a b }
 {
     is_digest(a);
     is_digest(b);
-    u128::from_be_bytes(a).cmp(&u128::from_be_bytes(b))
+    compare_numbers(u128::from_be_bytes(a), u128::from_be_bytes(b))
 }
 
 impl Key {
@@ -86,7 +100,10 @@ impl Ord for Key {
     ghost matches_eq = { λ x y. refl };
 
     fn cmp(&self, other: &Key) -> Ordering {
-        let digests = compare_digests(self.id.digest, other.id.digest);
-        digests.then(self.id.extension.cmp(&other.id.extension))
+        match compare_digests(self.id.digest, other.id.digest) {
+            Ordering::Less => Ordering::Less,
+            Ordering::Greater => Ordering::Greater,
+            Ordering::Equal => self.id.extension.cmp(&other.id.extension),
+        }
     }
 }

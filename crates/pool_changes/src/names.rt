@@ -1,6 +1,6 @@
 //! The used names of a pool.
 
-ghost use Rattle.std.specs.Prelude.{◌≡◌, ◌∷◌, None, Some, OnOk, OnErr, IfSome, true, ℕ, ◌≤◌, ◌<◌, length, replicate};
+ghost use Rattle.std.specs.Prelude.{◌≡◌, ◌∷◌, None, Some, OnOk, OnErr, IfOk, IfSome, true, ℕ, ◌≤◌, ◌<◌, length, replicate};
 ghost use Rattle.pool_changes.specs.Slots.{slots_in, least_of, greatest_of};
 ghost use Rattle.pool_changes.specs.Named.{IsName, AreNames, AreSized, NoneDoomed, NoneDoomedBelow};
 
@@ -99,6 +99,20 @@ impl Names {
         is_name(id);
         match self.map.insert(Key { id }, SmallSlot::of(slot)) {
             Ok(_) => Ok(()),
+            Err(_) => Err(AllocError),
+        }
+    }
+
+    /// Gives a name a slot, and hands out the one that it had.
+    pub(crate) fn swap(&mut self, id: PoolId, slot: Slot) -> Result<Option<Slot>, AllocError>
+        requires { is_given (Some slot) ≡ true → 0 < size_of (Some slot) }
+        ensures had { IfOk result (λ had. had ≡ slots_of self.old id) }
+        ensures set { OnOk result (IsSet (slots_of self.old) (slots_of self.new) id (Some slot)) }
+    {
+        is_name(id);
+        match self.map.insert(Key { id }, SmallSlot::of(slot)) {
+            Ok(Some(had)) => Ok(Some(had.to_slot())),
+            Ok(None) => Ok(None),
             Err(_) => Err(AllocError),
         }
     }

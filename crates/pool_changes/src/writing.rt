@@ -31,8 +31,8 @@ fn slot_over(names: &Names, over: &Names, id: PoolId) -> Option<Slot>
     }
 }
 
-/// Turns the slot of a name, over the names as they are.
-fn turn_over(names: &Names, over: &mut Names, id: PoolId, turn: Turn) -> Result<(), AllocError>
+/// Turns the slot of a name, over the names as they are, wherever it lies.
+fn turn_layered(names: &Names, over: &mut Names, id: PoolId, turn: Turn) -> Result<(), AllocError>
     ensures turned { OnOk result (IsSame (with_slot (layered (slots_of names.now) (slots_of over.old)) id (turned turn (layered (slots_of names.now) (slots_of over.old) id)))
         (layered (slots_of names.now) (slots_of over.new))) }
     ensures over { OnOk result (IsOver (slots_of names.now) (slots_of over.old) → IsOver (slots_of names.now) (slots_of over.new)) }
@@ -43,6 +43,27 @@ fn turn_over(names: &Names, over: &mut Names, id: PoolId, turn: Turn) -> Result<
             Err(fault) => Err(fault),
         },
         None => Ok(()),
+    }
+}
+
+/// Turns the slot of a name, over the names as they are. A name that doesn't lie over them yet, as most don't, is looked
+/// up there once, when its new slot is put.
+fn turn_over(names: &Names, over: &mut Names, id: PoolId, turn: Turn) -> Result<(), AllocError>
+    ensures turned { OnOk result (IsSame (with_slot (layered (slots_of names.now) (slots_of over.old)) id (turned turn (layered (slots_of names.now) (slots_of over.old) id)))
+        (layered (slots_of names.now) (slots_of over.new))) }
+    ensures over { OnOk result (IsOver (slots_of names.now) (slots_of over.old) → IsOver (slots_of names.now) (slots_of over.new)) }
+{
+    let slot = match names.get(id) {
+        Some(slot) => slot,
+        None => return turn_layered(names, over, id, turn),
+    };
+    match over.swap(id, slot.turned(turn)) {
+        Ok(None) => Ok(()),
+        Ok(Some(had)) => match over.put(id, had.turned(turn)) {
+            Ok(()) => Ok(()),
+            Err(fault) => Err(fault),
+        },
+        Err(fault) => Err(fault),
     }
 }
 

@@ -5,5 +5,5 @@ use Rattle.pool_changes.proofs.key.compare_digests.Goals as goal
 
 pub returns : goal.returns
 returns c =
-    c.cmp.ensures ∙ (λ i. nat_cmp (c.from_be_bytes.ensures i) (c.from_be_bytes-2.ensures i))
+    c.compare_numbers.ensures ∙ (λ i. nat_cmp (c.from_be_bytes.ensures i) (c.from_be_bytes-2.ensures i))
     ∙ digests_in_order c.args.a c.args.b c.is_digest.ensures.long c.is_digest-2.ensures.long c.is_digest.ensures.bytes c.is_digest-2.ensures.bytes

@@ -1,19 +1,14 @@
-use Rattle.std.proofs.Common.{sym, ◌∙◌}
+use Rattle.std.proofs.Common.{Some, sym, ◌∙◌}
 use Rattle.pool_changes.specs.Kept.{slots_of}
-use Rattle.pool_changes.proofs.Layering.{sized_turned, turned_over, still_over, turned_nothing}
+use Rattle.pool_changes.proofs.Layering.{still_used}
 use Rattle.pool_changes.proofs.writing.turn_over.Goals as goal
 
-pub put-requires : goal.put-requires
-put-requires c = sized_turned c.args.turn c.in-Some.slot c.turned.result (slots_of c.args.names.now) (slots_of c.args.over.now) c.args.id (sym c.in-Some.is ∙ c.slot_over.ensures) c.turned.ensures c.args.names.now.sized c.args.over.now.sized
+pub returns-in-Ok-None-clause-over : goal.returns-in-Ok-None-clause-over
+returns-in-Ok-None-clause-over c = still_used (slots_of c.args.names.now) (slots_of c.args.over.now) (slots_of c.swap.new.self) c.args.id c.in-Some.slot (Some c.turned.result)
+    (sym c.in-Some.is ∙ c.get.ensures) c.in-Ok-None.ensures.set
 
-pub returns-in-Ok : goal.returns-in-Ok
-returns-in-Ok c = record {
-  turned = turned_over c.args.turn (slots_of c.args.names.now) (slots_of c.args.over.now) (slots_of c.put.new.self) c.args.id c.in-Some.slot c.turned.result (sym c.in-Some.is ∙ c.slot_over.ensures) c.turned.ensures c.in-Ok.ensures.ok;
-  over = still_over c.args.turn (slots_of c.args.names.now) (slots_of c.args.over.now) (slots_of c.put.new.self) c.args.id c.in-Some.slot c.turned.result (sym c.in-Some.is ∙ c.slot_over.ensures) c.turned.ensures c.in-Ok.ensures.ok;
-}
-
-pub returns-in-None : goal.returns-in-None
-returns-in-None c = record {
-  turned = turned_nothing c.args.turn _ c.args.id (sym c.in-None.is ∙ c.slot_over.ensures);
-  over = λ lies. lies;
-}
+pub returns-in-Ok-clause-over : goal.returns-in-Ok-clause-over
+returns-in-Ok-clause-over c =
+    let used = sym c.in-Some.is ∙ c.get.ensures in
+    λ before. still_used (slots_of c.args.names.now) (slots_of c.swap.new.self) (slots_of c.put.new.self) c.args.id c.in-Some.slot (Some c.turned-in-Ok-Some.result) used c.in-Ok.ensures.ok
+    (still_used (slots_of c.args.names.now) (slots_of c.args.over.now) (slots_of c.swap.new.self) c.args.id c.in-Some.slot (Some c.turned.result) used c.in-Ok-Some.ensures.set before)
