@@ -16,8 +16,6 @@ mod limits;
 mod names;
 mod nodes;
 mod paths;
-#[cfg(test)]
-mod tests;
 mod trees;
 
 pub use limits::{

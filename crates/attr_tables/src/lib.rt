@@ -19,8 +19,6 @@ mod reading;
 mod records;
 mod rows;
 mod table;
-#[cfg(test)]
-mod tests;
 mod writing;
 
 pub use file::{TableFault, TableFile, read_table};

@@ -23,8 +23,6 @@ mod entries;
 mod lines;
 mod numbers;
 mod runs;
-#[cfg(test)]
-mod tests;
 mod trees;
 mod walk;
 

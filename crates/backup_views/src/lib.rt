@@ -20,6 +20,3 @@ mod tables;
 pub use fault::ViewFault;
 pub use kept::{KeptView, Views};
 pub use tables::{read_entries, read_tree};
-
-#[cfg(test)]
-mod tests;

@@ -14,8 +14,6 @@ mod names;
 mod reading;
 mod replies;
 mod statuses;
-#[cfg(test)]
-mod tests;
 
 pub use connection::{Served, serve_connection};
 pub use end::End;

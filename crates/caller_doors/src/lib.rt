@@ -13,8 +13,6 @@ mod came;
 mod door;
 mod flag_gate;
 mod list_door;
-#[cfg(test)]
-mod tests;
 
 pub use came::Came;
 pub use door::Door;

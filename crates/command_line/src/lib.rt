@@ -25,8 +25,6 @@
 mod commands;
 mod line;
 mod matches;
-#[cfg(test)]
-mod tests;
 mod usage;
 
 pub use line::{CommandLine, LineFault, Work, parse};

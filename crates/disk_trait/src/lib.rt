@@ -20,6 +20,3 @@ pub use ids::{FileId, PoolId};
 pub use image::Choice;
 pub use list::FileList;
 pub use memory::{DiskRoom, MemoryDisk};
-
-#[cfg(test)]
-mod tests;

@@ -8,8 +8,6 @@ mod nodes;
 mod removed;
 mod session;
 mod subtree;
-#[cfg(test)]
-mod tests;
 
 pub use nodes::NodeKind;
 pub use session::{PutFault, RemoveFault, Session};

@@ -12,6 +12,3 @@ mod names;
 mod scan;
 
 pub use names::file_named;
-
-#[cfg(test)]
-mod tests;

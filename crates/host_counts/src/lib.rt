@@ -17,8 +17,6 @@
 mod fault;
 mod held;
 mod reading;
-#[cfg(test)]
-mod tests;
 
 pub use fault::HostCountsFault;
 pub use held::HostCounts;

@@ -19,8 +19,6 @@ mod keys;
 mod numbers;
 mod query;
 mod scan;
-#[cfg(test)]
-mod tests;
 
 pub use keys::{Key, QueryRule};
 pub use numbers::{read_mode, read_seconds};

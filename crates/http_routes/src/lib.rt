@@ -23,8 +23,6 @@ mod laws;
 mod matching;
 mod parts;
 mod route;
-#[cfg(test)]
-mod tests;
 
 pub use actions::Action;
 pub use laws::{forms_have_routes, routes_have_forms};

@@ -17,8 +17,6 @@ mod body;
 mod head;
 mod response;
 mod sending;
-#[cfg(test)]
-mod tests;
 mod wire;
 
 pub use body::{BodyRead, read_body};

@@ -27,6 +27,3 @@ pub use laws::{
     openings_and_crashes,
 };
 pub use opening::{open, reopen};
-
-#[cfg(test)]
-mod tests;

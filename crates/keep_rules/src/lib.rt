@@ -16,8 +16,6 @@ mod gaps;
 mod groups;
 mod laws;
 mod naming;
-#[cfg(test)]
-mod tests;
 mod walk;
 
 pub use laws::{

@@ -7,8 +7,6 @@
 mod listing;
 mod merging;
 mod rules;
-#[cfg(test)]
-mod tests;
 mod views;
 
 pub use listing::{children, within};

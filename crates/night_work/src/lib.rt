@@ -21,8 +21,6 @@
 
 mod ends;
 mod events;
-#[cfg(test)]
-mod tests;
 mod texts;
 mod work;
 

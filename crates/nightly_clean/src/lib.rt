@@ -17,6 +17,3 @@ mod fate;
 
 pub use cleaning::{Cleaning, clean};
 pub use fate::Fate;
-
-#[cfg(test)]
-mod tests;

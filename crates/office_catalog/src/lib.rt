@@ -30,8 +30,6 @@ mod named;
 mod opening;
 mod proposals;
 mod reading;
-#[cfg(test)]
-mod tests;
 
 pub use catalog::Catalog;
 pub use edits::CatalogChange;

@@ -32,6 +32,3 @@ mod store;
 pub use port::DirectPort;
 pub use store::Store;
 pub use store_opening::OpenRefusal;
-
-#[cfg(test)]
-mod tests;

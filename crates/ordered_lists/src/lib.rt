@@ -10,8 +10,6 @@
 mod entries;
 mod merges;
 mod searches;
-#[cfg(test)]
-mod tests;
 
 pub use entries::Entry;
 pub use merges::{Rule, merge};

@@ -22,6 +22,3 @@ pub use fault::IndexFault;
 pub use file::read_index;
 pub use item::{IndexItem, is_behind};
 pub use writing::write_bucket;
-
-#[cfg(test)]
-mod tests;

@@ -11,6 +11,3 @@ mod namer;
 pub use first_byte::FirstByteNamer;
 pub use md5_namer::Md5Namer;
 pub use namer::Namer;
-
-#[cfg(test)]
-mod tests;

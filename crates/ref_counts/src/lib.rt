@@ -20,8 +20,6 @@ mod item;
 mod laws;
 mod reading;
 mod tally;
-#[cfg(test)]
-mod tests;
 mod writing;
 
 pub use cleaning::next_mark;

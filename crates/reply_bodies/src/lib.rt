@@ -29,8 +29,6 @@ mod laws;
 mod lists;
 mod members;
 mod refusals;
-#[cfg(test)]
-mod tests;
 mod texts;
 
 pub use answers::{answer_body, answer_text};

@@ -36,8 +36,6 @@ mod refusal;
 mod restores;
 mod rules;
 mod target;
-#[cfg(test)]
-mod tests;
 mod values;
 
 pub use defaults::Defaults;

@@ -30,8 +30,6 @@ mod laws;
 mod made;
 mod nodes;
 mod reading;
-#[cfg(test)]
-mod tests;
 mod writing;
 
 pub use faults::ReadStreamFault;

@@ -12,8 +12,6 @@ mod counts;
 mod fault;
 mod periods;
 mod pieces;
-#[cfg(test)]
-mod tests;
 
 pub use counts::read_counts;
 pub use fault::TextFault;

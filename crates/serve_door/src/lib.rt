@@ -7,8 +7,6 @@
 
 mod end;
 mod serving;
-#[cfg(test)]
-mod tests;
 
 pub use end::DoorEnd;
 pub use serving::serve_door;

@@ -14,8 +14,6 @@ mod key;
 mod read;
 mod rules;
 mod schedule;
-#[cfg(test)]
-mod tests;
 mod unknown;
 mod values;
 

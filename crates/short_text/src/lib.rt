@@ -9,8 +9,6 @@
 //! ```
 #![tactic(auto)]
 
-#[cfg(test)]
-mod tests;
 mod text;
 
 pub use text::{SHORT_TEXT_LIMIT, ShortText};

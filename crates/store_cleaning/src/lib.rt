@@ -13,8 +13,6 @@
 
 mod cleaning;
 mod sweeping;
-#[cfg(test)]
-mod tests;
 
 pub use cleaning::clean;
 pub use sweeping::sweep;

@@ -25,8 +25,6 @@ mod plan;
 mod planning;
 mod shorten;
 mod tables;
-#[cfg(test)]
-mod tests;
 
 pub use deleting::delete;
 pub use expiring::expire;

@@ -20,6 +20,3 @@ pub use again::reopen;
 pub use fault::OpenRefusal;
 pub use laws::disk_without_files_is_blank;
 pub use start::open;
-
-#[cfg(test)]
-mod tests;

@@ -22,8 +22,6 @@ mod load;
 mod lookup_event;
 mod nodes;
 mod read_file_event;
-#[cfg(test)]
-mod tests;
 mod tree;
 
 pub use content::{read_content, read_piece};

@@ -20,8 +20,6 @@ mod digests;
 mod giving;
 mod opening;
 mod reading;
-#[cfg(test)]
-mod tests;
 
 pub use closing::close_read;
 pub use opening::open_read;

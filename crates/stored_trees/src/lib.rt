@@ -9,8 +9,6 @@
 mod laws;
 mod nodes;
 mod occurrences;
-#[cfg(test)]
-mod tests;
 
 pub use laws::{equality_law, kept_law, put_law, remove_law, reverse_law, rows_law, view_law};
 pub use nodes::{find, resolve};

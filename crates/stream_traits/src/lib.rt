@@ -8,8 +8,6 @@ mod link;
 mod memory;
 mod memory_clock;
 mod reading;
-#[cfg(test)]
-mod tests;
 mod writing;
 
 pub use clock::{Clock, Moment};

@@ -24,6 +24,3 @@ mod port;
 
 pub use locked::{LockedStore, StorePass, StoreTurn, close_store, lock_store};
 pub use port::TurnPort;
-
-#[cfg(test)]
-mod tests;

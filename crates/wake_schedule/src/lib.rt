@@ -17,8 +17,6 @@
 mod contact;
 mod fixed;
 mod nights;
-#[cfg(test)]
-mod tests;
 mod zone;
 
 pub use contact::{blackout, due};

@@ -46,6 +46,3 @@ pub use sealing::{open_sealed, seal};
 pub use writing::{
     put_bytes, put_flag, put_i64, put_text8, put_text16, put_u8, put_u16, put_u32, put_u64,
 };
-
-#[cfg(test)]
-mod tests;

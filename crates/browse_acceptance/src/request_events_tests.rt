@@ -1,0 +1,250 @@
+use attr_records::{Attr, BadPath, Item};
+use backup_rules::{Rules, Setting};
+use http_heads::{Front, read_front};
+use http_query::QueryRule;
+use http_routes::{Route, router};
+use office_model::Event;
+use request_events::*;
+use std::alloc::Global;
+use std::test::Fail;
+use stream_traits::Moment;
+use wake_schedule::Zone;
+
+/// Heads without their ends, each of which has an event.
+const TAKEN: [&str; 27] = [
+    "GET /hosts",
+    "PUT /hosts/pc1",
+    "PUT /hosts/pc1/rules",
+    "PUT /hosts/pc1/rules?FillCycle=7&FullKeepCnt=4,2&BlackoutPeriods=&OldFullKeepCnt=0",
+    "POST /hosts/pc1/dumps?kind=full",
+    "POST /hosts/pc1/dumps?kind=incr",
+    "PUT /dumps/1-0/entry?path=a&kind=dir&mode=0700&uid=4294967295&gid=0&mtime=-1&nanos=999999999",
+    "DELETE /dumps/1-0/entry?path=a%2Fb",
+    "POST /dumps/1-0/commit",
+    "POST /dumps/x/commit",
+    "DELETE /dumps/1-0",
+    "GET /hosts/pc1/backups",
+    "DELETE /hosts/pc1/backups/4294967295",
+    "GET /hosts/pc1/backups/0/list",
+    "GET /hosts/pc1/backups/0/list?path=a",
+    "GET /hosts/pc1/backups/0/entry?path=a",
+    "GET /hosts/pc1/backups/0/file?path=a%2Fb+c",
+    "POST /hosts/pc1/backups/0/restores",
+    "POST /hosts/pc1/backups/0/keep?on=1",
+    "GET /restores/1-0/next",
+    "DELETE /restores/1-0",
+    "POST /hosts/pc1/expire",
+    "POST /hosts/pc1/contacts?good=0",
+    "GET /hosts/pc1/due",
+    "POST /night/clean?bucket=255",
+    "POST /night/sweep",
+    "GET /stats",
+];
+
+const UTF8: RequestRefusal = RequestRefusal::BadQuery(QueryRule::Utf8);
+
+const UNKNOWN: RequestRefusal = RequestRefusal::BadQuery(QueryRule::Unknown);
+
+const REPEATED: RequestRefusal = RequestRefusal::BadQuery(QueryRule::Repeated);
+
+const MISSING: RequestRefusal = RequestRefusal::BadQuery(QueryRule::Missing);
+
+const VALUE: RequestRefusal = RequestRefusal::BadQuery(QueryRule::Value);
+
+/// Heads without their ends, and why each is refused.
+const REFUSED: [(&str, RequestRefusal); 30] = [
+    ("GET /host", RequestRefusal::NoRoute),
+    ("PUT /hosts", RequestRefusal::NoMethod(Route::Hosts)),
+    ("PUT /hosts/PC1/rules?x=1", RequestRefusal::BadName),
+    ("GET /hosts/A/backups/x/file", RequestRefusal::BadName),
+    ("GET /hosts/a/backups/01/file", RequestRefusal::BadNumber),
+    ("PUT /hosts/a?x=%FF", UTF8),
+    ("PUT /hosts/a?x=1", UNKNOWN),
+    ("POST /reopen?x", UNKNOWN),
+    ("PUT /hosts/a/rules?Zone=UTC", UNKNOWN),
+    ("PUT /hosts/a/rules?OldAge=1&OldAge=1", REPEATED),
+    ("POST /hosts/a/dumps?kind=full&kind=full", REPEATED),
+    ("POST /hosts/a/dumps", MISSING),
+    ("PUT /dumps/x/entry", MISSING),
+    ("POST /hosts/a/dumps?kind=x", VALUE),
+    ("PUT /hosts/a/rules?FullPeriod=0", VALUE),
+    ("PUT /hosts/a/rules?OldAge=36501", VALUE),
+    ("PUT /hosts/a/rules?FullKeepCnt=", VALUE),
+    ("PUT /hosts/a/rules?BlackoutPeriods=x", VALUE),
+    ("POST /hosts/a/contacts?good=yes", VALUE),
+    ("POST /night/clean?bucket=256", VALUE),
+    ("PUT /dumps/x/entry?kind=tar&path=a", VALUE),
+    ("PUT /dumps/x/entry?kind=dir&path=/a&mode=8", VALUE),
+    (
+        "PUT /dumps/x/entry?kind=file&path=/a&nanos=1000000000",
+        VALUE,
+    ),
+    ("PUT /dumps/x/entry?kind=file&path=/a&group=x", VALUE),
+    ("PUT /dumps/x/entry?kind=dir&path=a&group=1", UNKNOWN),
+    ("PUT /dumps/x/entry?path=a&group=1", UNKNOWN),
+    (
+        "PUT /dumps/x/entry?kind=file&path=/a",
+        RequestRefusal::BadPath(BadPath::EmptyComponent),
+    ),
+    (
+        "GET /hosts/a/backups/0/list?path=",
+        RequestRefusal::BadPath(BadPath::Empty),
+    ),
+    (
+        "PUT /dumps/x/entry?kind=link&path=a",
+        RequestRefusal::BadTarget,
+    ),
+    (
+        "PUT /dumps/x/entry?kind=file&path=a&group=1",
+        RequestRefusal::NoLength,
+    ),
+];
+
+/// Rules of which nothing is said, and a zone an hour ahead of UTC.
+fn defaults(alloc: Global) -> Result<Defaults, Fail> {
+    let Ok(zone) = Zone::read("+01:00") else {
+        return Err(Fail::new("no zone"));
+    };
+    Ok(Defaults {
+        rules: Rules::defaults(alloc)?,
+        zone,
+    })
+}
+
+/// The event of a head, with a body if its fields name a length.
+fn asked(
+    alloc: Global,
+    head: &str,
+    body: &[u8],
+    defaults: &Defaults,
+) -> Result<Event, RequestFault> {
+    let Ok(router) = router(alloc) else {
+        return Err(RequestFault::Memory);
+    };
+    let bytes = format!(in alloc; "{head}\r\n\r\n")?;
+    match read_front(alloc, bytes.as_bytes())? {
+        Front::Whole { len: _, head } => {
+            let body = Vec::from_slice(alloc, body)?;
+            event_asked(alloc, &router, &head, body, Moment::first(), defaults)
+        }
+        _ => Err(RequestFault::Memory),
+    }
+}
+
+/// The event of a line without fields.
+fn asked_by_line(alloc: Global, line: &str) -> Result<Result<Event, RequestFault>, Fail> {
+    let defaults = defaults(alloc)?;
+    let head = format!(in alloc; "{line} HTTP/1.0")?;
+    Ok(asked(alloc, head.as_str(), b"", &defaults))
+}
+
+fn expect_taken(alloc: Global, line: &str) -> Result<(), Fail> {
+    match asked_by_line(alloc, line)? {
+        Ok(_) => Ok(()),
+        Err(_) => Err(Fail::new("a request refused")),
+    }
+}
+
+fn expect_refused(alloc: Global, line: &str, refusal: RequestRefusal) -> Result<(), Fail> {
+    match asked_by_line(alloc, line)? {
+        Err(RequestFault::Refused(found)) if found == refusal => Ok(()),
+        _ => Err(Fail::new("another outcome")),
+    }
+}
+
+#[test]
+fn each_head_is_judged(rt: HostRuntime) -> Result<(), Fail> {
+    for line in TAKEN {
+        expect_taken(rt.alloc(), line)?;
+    }
+    for (line, refusal) in REFUSED {
+        expect_refused(rt.alloc(), line, refusal)?;
+    }
+    Ok(())
+}
+
+/// The queries of puts, and the mode, nanoseconds and group of the item of each, whose bytes or target are `hello`.
+const PUTS: [(&str, u16, u32, u32); 4] = [
+    ("kind=file&nanos=5&group=7", 0o644, 5, 7),
+    ("kind=dir", 0o755, 0, 0),
+    ("kind=link", 0o777, 0, 0),
+    ("kind=file&mode=7&mtime=-3", 0o7, 0, 0),
+];
+
+/// The attributes of an item, its group and its bytes or target.
+fn parts_of(item: &Item) -> (Attr, u32, &[u8]) {
+    match item {
+        Item::File(file) => (file.attr, file.group, file.bytes.as_slice()),
+        Item::Dir(dir) => (dir.attr, 0, b"hello"),
+        Item::Link(link) => (link.attr, 0, link.target.as_slice()),
+    }
+}
+
+fn expect_put(alloc: Global, query: &str, wanted: (u16, u32, u32)) -> Result<(), Fail> {
+    let defaults = defaults(alloc)?;
+    let head = format!(in alloc;
+        "PUT /dumps/1-0/entry?path=a&{query} HTTP/1.0\r\nContent-Length: 5"
+    )?;
+    let Ok(
+        Event::Put {
+            dump,
+            path: _,
+            item,
+        },
+    ) = asked(alloc, head.as_str(), b"hello", &defaults)
+    else {
+        return Err(Fail::new("no put"));
+    };
+    let (attr, group, bytes) = parts_of(&item);
+    if (attr.mode(), attr.nanos(), group) == wanted
+        && bytes == b"hello".as_slice()
+        && dump.epoch == 1
+    {
+        return Ok(());
+    }
+    Err(Fail::new("another item"))
+}
+
+#[test]
+fn a_put_has_its_item(rt: HostRuntime) -> Result<(), Fail> {
+    for (query, mode, nanos, group) in PUTS {
+        expect_put(rt.alloc(), query, (mode, nanos, group))?;
+    }
+    Ok(())
+}
+
+#[test]
+fn settings_go_into_events(rt: HostRuntime) -> Result<(), Fail> {
+    let Ok(Event::AddHost { host: _, rules }) = asked_by_line(rt.alloc(), "PUT /hosts/pc1")? else {
+        return Err(Fail::new("no host"));
+    };
+    assert_eq!(rt; rules.number(Setting::FullPeriod), 602_208);
+    let Ok(
+        Event::Due {
+            host: _,
+            now: _,
+            local,
+        },
+    ) = asked_by_line(rt.alloc(), "GET /hosts/pc1/due")?
+    else {
+        return Err(Fail::new("nothing due"));
+    };
+    assert_eq!(rt; (local.day, local.minute, local.weekday), (0, 60, 4));
+    Ok(())
+}
+
+#[test]
+fn rules_are_read_from_a_query(rt: HostRuntime) -> Result<(), Fail> {
+    let line = "PUT /hosts/pc1/rules?OldAge=3&FullKeepCnt=4,2&BlackoutPeriods=1-2:0";
+    let Ok(Event::SetRules { host: _, change }) = asked_by_line(rt.alloc(), line)? else {
+        return Err(Fail::new("no rules"));
+    };
+    assert_eq!(rt; change.number(Setting::OldAge), Some(3));
+    assert_eq!(rt; change.number(Setting::FillCycle), None);
+    let Some(counts) = change.full_keep_cnt() else {
+        return Err(Fail::new("no counts"));
+    };
+    assert_eq!(rt; counts.as_slice(), [4, 2].as_slice());
+    assert_eq!(rt; change.old_full_keep_cnt().is_some(), false);
+    Ok(())
+}

@@ -1,0 +1,205 @@
+//! Lines as they are typed, which no clause names: clap's answers to them are from outside.
+use command_line::{LineFault, USAGE, complaint, parse};
+use std::alloc::{AllocError, Global};
+
+/// Some words, and what they say: the work, the store and the settings.
+struct Taken {
+    words: &'static str,
+    says: &'static str,
+}
+
+static TAKEN: [Taken; 20] = [
+    Taken {
+        words: "b pipe --store S",
+        says: "Pipe S None",
+    },
+    Taken {
+        words: "elsewhere/b pipe --store S",
+        says: "Pipe S None",
+    },
+    Taken {
+        words: "b pipe --store=S",
+        says: "Pipe S None",
+    },
+    Taken {
+        words: "b pipe --store=",
+        says: "Pipe  None",
+    },
+    Taken {
+        words: "b pipe --store -",
+        says: "Pipe - None",
+    },
+    Taken {
+        words: "b pipe --store pipe",
+        says: "Pipe pipe None",
+    },
+    Taken {
+        words: "b pipe --store S --settings F",
+        says: "Pipe S Some(\"F\")",
+    },
+    Taken {
+        words: "b pipe --settings F --store S",
+        says: "Pipe S Some(\"F\")",
+    },
+    Taken {
+        words: "b pipe --settings=F --store=S",
+        says: "Pipe S Some(\"F\")",
+    },
+    Taken {
+        words: "b serve --store S --listen A",
+        says: "Serve { listen: \"A\", connections: None } S None",
+    },
+    Taken {
+        words: "b serve --listen=127.0.0.1:8080 --settings F --connections 4 --store S",
+        says: "Serve { listen: \"127.0.0.1:8080\", connections: Some(4) } S Some(\"F\")",
+    },
+    Taken {
+        words: "b serve --store S --listen A --connections 0",
+        says: "Serve { listen: \"A\", connections: Some(0) } S None",
+    },
+    Taken {
+        words: "b serve --store S --listen A --connections 4294967295",
+        says: "Serve { listen: \"A\", connections: Some(4294967295) } S None",
+    },
+    Taken {
+        words: "b serve --store S --listen A --connections +4",
+        says: "Serve { listen: \"A\", connections: Some(4) } S None",
+    },
+    Taken {
+        words: "b serve --store S --listen A --connections 004",
+        says: "Serve { listen: \"A\", connections: Some(4) } S None",
+    },
+    Taken {
+        words: "b night --store S",
+        says: "Night { scheduled: false } S None",
+    },
+    Taken {
+        words: "b night --store S --scheduled",
+        says: "Night { scheduled: true } S None",
+    },
+    Taken {
+        words: "b night --scheduled --settings F --store S",
+        says: "Night { scheduled: true } S Some(\"F\")",
+    },
+    Taken {
+        words: "b night --settings F --scheduled --store S",
+        says: "Night { scheduled: true } S Some(\"F\")",
+    },
+    Taken {
+        words: "b night --store S --settings F",
+        says: "Night { scheduled: false } S Some(\"F\")",
+    },
+];
+
+static REFUSED: [&str; 44] = [
+    "b",
+    "b frob",
+    "b frob --store S",
+    "b PIPE --store S",
+    "b pip --store S",
+    "b help",
+    "b help pipe",
+    "b --help",
+    "b -h",
+    "b pipe --help",
+    "b pipe",
+    "b night",
+    "b night --scheduled",
+    "b pipe S",
+    "b pipe --store",
+    "b pipe --settings F",
+    "b pipe --store S --settings",
+    "b pipe --store --settings F",
+    "b night --store --scheduled",
+    "b pipe --store S --store T",
+    "b pipe --store S --store S",
+    "b pipe --store S --settings F --settings G",
+    "b night --store S --scheduled --scheduled",
+    "b night --store S --scheduled=true",
+    "b pipe --store S --scheduled",
+    "b pipe --store S --verbose",
+    "b pipe --store S extra",
+    "b pipe --store S T",
+    "b pipe --store -S",
+    "b pipe --sto S",
+    "b pipe -store S",
+    "b --store S pipe",
+    "b pipe night --store S",
+    "b serve --store S",
+    "b serve --listen A",
+    "b serve --store S --listen",
+    "b serve --store S --listen A --listen B",
+    "b serve --store S --listen A --connections",
+    "b serve --store S --listen A --connections 4 --connections 4",
+    "b serve --store S --listen A --connections 4294967296",
+    "b serve --store S --listen A --connections -5",
+    "b serve --store S --listen A --connections=",
+    "b serve --store S --listen A --connections 4x",
+    "b pipe --store S --listen A",
+];
+
+fn words_of(alloc: Global, line: &str) -> Result<Vec<String>, AllocError> {
+    let mut words = Vec::new(alloc);
+    for word in line.split(' ') {
+        words.push(String::from_str(alloc, word)?)?;
+    }
+    Ok(words)
+}
+
+#[test]
+fn reads_lines(rt: HostRuntime) -> Result<(), LineFault> {
+    for taken in &TAKEN {
+        let words = words_of(rt.alloc(), taken.words)?;
+        let line = parse(rt.alloc(), words.as_slice())?;
+        let says = format!(in rt.alloc(); "{:?} {} {:?}", line.work, line.store, line.settings)?;
+        assert_eq!(rt; says.as_str(), taken.says, "{}", taken.words);
+    }
+    Ok(())
+}
+
+#[test]
+fn refuses_lines(rt: HostRuntime) -> Result<(), LineFault> {
+    for line in &REFUSED {
+        let words = words_of(rt.alloc(), line)?;
+        let fault = parse(rt.alloc(), words.as_slice()).err();
+        assert_eq!(rt; fault, Some(LineFault::NoParse), "{line}");
+    }
+    let fault = parse(rt.alloc(), &[]).err();
+    assert_eq!(rt; fault, Some(LineFault::NoParse), "no words at all");
+    Ok(())
+}
+
+#[test]
+fn says_what_is_wrong(rt: HostRuntime) -> Result<(), AllocError> {
+    let rows = [
+        (
+            "b frob",
+            "error: unrecognized subcommand 'frob'\n\nUsage: b <COMMAND>\n",
+        ),
+        (
+            "b pipe",
+            "error: the following required arguments were not provided:\n  --store <store>\n\nUsage: b pipe --store <store>\n",
+        ),
+        (
+            "b night --store S x",
+            "error: unexpected argument 'x' found\n\nUsage: b night [OPTIONS] --store <store>\n",
+        ),
+        ("b pipe --store S", ""),
+    ];
+    for (line, message) in rows {
+        let words = words_of(rt.alloc(), line)?;
+        let said = complaint(rt.alloc(), words.as_slice())?;
+        let wanted = format!(in rt.alloc(); "{message}{USAGE}")?;
+        assert_eq!(rt; said.as_str(), wanted.as_str(), "{line}");
+    }
+    Ok(())
+}
+
+#[test]
+fn faults_have_texts(rt: HostRuntime) -> Result<(), AllocError> {
+    let no_line = format!(in rt.alloc(); "{}", LineFault::NoParse)?;
+    assert_eq!(rt; no_line.as_str(), USAGE);
+    let memory = format!(in rt.alloc(); "{}", LineFault::from(AllocError))?;
+    assert_eq!(rt; memory.as_str(), "no memory");
+    Ok(())
+}
