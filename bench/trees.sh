@@ -34,7 +34,7 @@ echo "measuring deletions of one and of ten of 100 backups"
 uptime
 out/bench_trees fold 100 1000 time | awk '
     { micros = $0; sub(/.*; /, "", micros); micros += 0 }
-    /^read all:/ { reading = micros }
+    /^read (all|sparse):/ { reading = micros }
     /^fold/ && reading > 0 { printf "%s, %.2f times the reading\n", $0, micros / reading; next }
     { print }
 '

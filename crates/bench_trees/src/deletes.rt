@@ -1,4 +1,5 @@
-//! The deletion of one backup of many, of ten neighbours and of ten that stand apart, beside reading the tables of all.
+//! The deletion of one backup of many, of ten neighbours and of ten that stand apart, beside reading the tables of all; and
+//! the deletion of every second of them, beside reading tables that have few paths each.
 
 use crate::corpus::{file_path, file_record};
 use crate::fault::Fault;
@@ -25,11 +26,13 @@ fn push_files(alloc: Global, table: &mut Table, folder: u32, backup: u32) -> Res
     Ok(())
 }
 
-/// The table of a backup in which each file is another than in the next newer one.
-fn build(alloc: Global, folders: u32, backup: u32) -> Result<Table, Fault> {
+/// The table of a backup in which each file of one of `share` folders is another than in the next newer one.
+fn build(alloc: Global, folders: u32, backup: u32, share: u32) -> Result<Table, Fault> {
     let mut table = Table::new(alloc);
     for folder in 0..folders {
-        push_files(alloc, &mut table, folder, backup)?;
+        if folder.checked_rem(share) == backup.checked_rem(share) {
+            push_files(alloc, &mut table, folder, backup)?;
+        }
     }
     Ok(table)
 }
@@ -43,12 +46,15 @@ fn read_back(report: &Report, table: &Table) -> Result<(Table, u64), Fault> {
     Ok((read.table, micros))
 }
 
-/// The tables of backups, the oldest first, and the microseconds that reading them took.
-fn read_tables(report: &Report, sizes: FoldSizes) -> Result<(Vec<Table>, u64), Fault> {
+/// The tables of backups, the oldest first, each of one of `share` folders but the newest, which is of all; and the microseconds
+/// that reading them took.
+fn read_tables(report: &Report, sizes: FoldSizes, share: u32) -> Result<(Vec<Table>, u64), Fault> {
     let mut tables = Vec::new(report.alloc());
     let mut total = 0u64;
     for backup in 0..sizes.backups {
-        let made = build(report.alloc(), sizes.folders, backup)?;
+        let is_newest = backup.wrapping_add(1) == sizes.backups;
+        let own = if is_newest { 1 } else { share };
+        let made = build(report.alloc(), sizes.folders, backup, own)?;
         let (table, micros) = read_back(report, &made)?;
         tables.push(table)?;
         total = total.wrapping_add(micros);
@@ -83,10 +89,10 @@ fn count_written(changes: &[TableChange]) -> usize {
     rows
 }
 
-/// Ten numbers of backups from 1 on, with this step from one to the next, or as many as there are before the newest.
-fn numbers_by(alloc: Global, step: u32, backups: u32) -> Result<Vec<u32>, Fault> {
+/// This many numbers of backups from 1 on, with this step from one to the next, or as many as there are before the newest.
+fn numbers_by(alloc: Global, count: u32, step: u32, backups: u32) -> Result<Vec<u32>, Fault> {
     let mut numbers = Vec::new(alloc);
-    for turn in 0..10u32 {
+    for turn in 0..count {
         let number = turn.saturating_mul(step).saturating_add(1);
         if number.saturating_add(1) < backups {
             numbers.push(number)?;
@@ -129,12 +135,12 @@ fn delete(
     )
 }
 
-/// Reads the tables of all backups, and deletes of them the oldest but one; ten neighbours from it on; and ten from it on
-/// that stand apart.
-pub fn measure(report: &Report, sizes: FoldSizes) -> Result<(), Fault> {
+/// Reads the tables of all backups, which have all files, and deletes of them the oldest but one; ten neighbours from it on;
+/// and ten from it on that stand apart.
+fn measure_full(report: &Report, sizes: FoldSizes) -> Result<(), Fault> {
     let FoldSizes { backups, .. } = sizes;
     let alloc = report.alloc();
-    let (tables, read_micros) = read_tables(report, sizes)?;
+    let (tables, read_micros) = read_tables(report, sizes, 1)?;
     report.say(
         read_micros,
         format_args!("read all: {} tables", tables.len()),
@@ -142,7 +148,7 @@ pub fn measure(report: &Report, sizes: FoldSizes) -> Result<(), Fault> {
     let lines = lines_of(alloc, backups)?;
     let (lines, tables) = (lines.as_slice(), tables.as_slice());
     delete(report, "fold", lines, tables, &[1])?;
-    let neighbours = numbers_by(alloc, 1, backups)?;
+    let neighbours = numbers_by(alloc, 10, 1, backups)?;
     delete(
         report,
         "fold neighbours",
@@ -150,6 +156,31 @@ pub fn measure(report: &Report, sizes: FoldSizes) -> Result<(), Fault> {
         tables,
         neighbours.as_slice(),
     )?;
-    let apart = numbers_by(alloc, (backups / 10).max(2), backups)?;
+    let apart = numbers_by(alloc, 10, (backups / 10).max(2), backups)?;
     delete(report, "fold apart", lines, tables, apart.as_slice())
+}
+
+/// Reads tables of which twenty neighbours have no path in common, and deletes every second of them.
+fn measure_sparse(report: &Report, sizes: FoldSizes) -> Result<(), Fault> {
+    let FoldSizes { backups, .. } = sizes;
+    let (tables, read_micros) = read_tables(report, sizes, 20)?;
+    report.say(
+        read_micros,
+        format_args!("read sparse: {} tables", tables.len()),
+    )?;
+    let lines = lines_of(report.alloc(), backups)?;
+    let seconds = numbers_by(report.alloc(), backups, 2, backups)?;
+    delete(
+        report,
+        "fold seconds",
+        lines.as_slice(),
+        tables.as_slice(),
+        seconds.as_slice(),
+    )
+}
+
+/// Measures deletions, over tables of all files and over such as have few.
+pub fn measure(report: &Report, sizes: FoldSizes) -> Result<(), Fault> {
+    measure_full(report, sizes)?;
+    measure_sparse(report, sizes)
 }

@@ -1,15 +1,11 @@
-//! Tests of the events of a store and of the office in memory. They use only what the crates show, and stand apart from them,
-//! so that each crate is proved once.
+//! Tests of single events of a store, and of the office in memory. They use only what the crates show, and stand apart from
+//! them, so that each crate is proved once.
 #![tactic(auto)]
 
-#[cfg(test)]
-mod office_store_tests;
 #[cfg(test)]
 mod open_sessions_tests;
 #[cfg(test)]
 mod store_cleaning_tests;
-#[cfg(test)]
-mod store_deletions_tests;
 #[cfg(test)]
 mod store_hosts_tests;
 #[cfg(test)]
@@ -20,5 +16,3 @@ mod store_reads_tests;
 mod store_restores_tests;
 #[cfg(test)]
 mod tree_office_tests;
-#[cfg(test)]
-mod turn_port_tests;

@@ -7,8 +7,6 @@ mod attr_records_tests;
 #[cfg(test)]
 mod attr_tables_tests;
 #[cfg(test)]
-mod backup_delete_tests;
-#[cfg(test)]
 mod backup_views_tests;
 #[cfg(test)]
 mod dump_session_tests;
