@@ -22,16 +22,21 @@ def tables_of(store):
     return found
 
 
-def touched(before, after):
-    """What a change of tables read and wrote: the files that went or changed, and those that it left in their place."""
-    read = [data for name, data in before.items() if after.get(name) != data]
+def number_of(name):
+    """The number of the backup whose table has this name."""
+    return int(name.rpartition("-")[2])
+
+
+def touched(before, after, oldest):
+    """What a deletion reads and writes: the tables from the older neighbour of the oldest backup that goes up to the newest, which
+    alone is filled here, and those that it leaves in the place of others."""
+    read = [data for name, data in before.items() if number_of(name) >= oldest]
     wrote = [data for name, data in after.items() if before.get(name) != data]
     return read, wrote
 
 
-def read_and_written(room, store, before, after):
-    """The time that reading and hashing the tables that went or changed takes, and writing those that came, with a sync each."""
-    read, wrote = touched(before, after)
+def read_and_written(room, read, wrote):
+    """The time that reading and hashing tables takes, and writing others, with a sync each."""
     os.makedirs(f"{room}/read", exist_ok=True)
     for at, data in enumerate(read):
         with open(f"{room}/read/{at}", "wb") as it:
@@ -70,19 +75,24 @@ def measure_deletion(program, room, backups, entries):
         dump(server, "pc1", "incr", range(turn % 100, entries, 100), turn)
     print(f"{backups} backups of {entries} entries")
     middle = backups // 2
-    for what, number in (("one in the middle", middle), ("the newest", backups - 1)):
+
+    def measure(what, oldest, text):
+        """Times a request that deletes backups, beside a listing of the older neighbour of the oldest of them, which reads the same
+        tables."""
+        say(what)
         before = tables_of(store)
-        say(f"deleting {what}")
-        taken, _ = server.timed(server.ask, request(f"DELETE /hosts/pc1/backups/{number}"))
-        time, label = read_and_written(room, store, before, tables_of(store))
-        beside(f"deletion of {what}", taken, (label, time), (label, time))
-    say("an expiry of ten")
+        listed, _ = server.timed(server.ask, request(f"GET /hosts/pc1/backups/{oldest}/list"))
+        taken, answer = server.timed(server.ask, text)
+        read, wrote = touched(before, tables_of(store), oldest)
+        time, label = read_and_written(room, read, wrote)
+        beside(f"{what} {answer.decode()}".strip(), taken, (label, time), (label, time))
+        print(f"    a listing that reads these tables: of processor {listed.busy:.3f} s; the deletion {taken.busy / max(listed.busy, 1e-6):.2g} times as much")
+
+    measure("deletion of one in the middle", middle - 1, request(f"DELETE /hosts/pc1/backups/{middle}"))
+    measure("deletion of the newest", backups - 2, request(f"DELETE /hosts/pc1/backups/{backups - 1}"))
     left = backups - 2
     server.ask(request(f"PUT /hosts/pc1/rules?IncrKeepCnt={left - 12}&FullKeepCnt=1&IncrKeepCntMin=1&FullKeepCntMin=1"))
-    before = tables_of(store)
-    taken, answer = server.timed(server.ask, request("POST /hosts/pc1/expire"))
-    time, label = read_and_written(room, store, before, tables_of(store))
-    beside(f"expiry ({answer.decode()})", taken, (label, time), (label, time))
+    measure("expiry of ten", 0, request("POST /hosts/pc1/expire"))
     server.end()
 
 

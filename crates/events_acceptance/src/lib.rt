@@ -1,9 +1,7 @@
-//! Tests of single events of a store, and of the office in memory. They use only what the crates show, and stand apart from
-//! them, so that each crate is proved once.
+//! Tests of single events of a store. They use only what the crates show, and stand apart from them, so that each crate is
+//! proved once.
 #![tactic(auto)]
 
-#[cfg(test)]
-mod open_sessions_tests;
 #[cfg(test)]
 mod store_cleaning_tests;
 #[cfg(test)]
@@ -14,5 +12,3 @@ mod store_opening_tests;
 mod store_reads_tests;
 #[cfg(test)]
 mod store_restores_tests;
-#[cfg(test)]
-mod tree_office_tests;

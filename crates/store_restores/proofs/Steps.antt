@@ -186,11 +186,11 @@ module _ (contents : PoolId → List ℕ) where
             → IsPiece place asked
         is_piece (Entry row) asked within e = absurd cc
         is_piece (Wrong content digest) asked within e = absurd within
-        is_piece (Content row) asked within e = record {
-          row = row;
+        is_piece (Content at) asked within e = record {
+          row = at;
           from = 0;
           is_in = record { left = refl; inside = within; taken = refl };
-          is_asked = asked_at row 0 asked (sym e);
+          is_asked = asked_at at 0 asked (sym e);
         }
         is_piece (Piece row given digest) asked within e = record {
           row = row;
@@ -210,14 +210,14 @@ module _ (contents : PoolId → List ℕ) where
             → Next.Wrong content digest ≡ next_in rows place → ⊥
         not_wrong (Entry row) content digest within e = cc
         not_wrong (Wrong content' digest') content digest within e = within
-        not_wrong (Content row) content digest within e = no_wrong row 0 (slice_get rows row) content digest (sym e)
+        not_wrong (Content at) content digest within e = no_wrong at 0 (slice_get rows at) content digest (sym e)
         not_wrong (Piece row given digest') content digest within e = no_wrong row given (slice_get rows row) content digest (sym e)
 
         -- ---- the entry of a row
 
         -- what is left behind the entry of a row
-        record IsAfter (row : ℕ) (place : Place S) : Type 0 where
-          pub left : left_from tree row 0 ≡ frames_from tree place
+        record IsAfter (at : ℕ) (place : Place S) : Type 0 where
+          pub left : left_from tree at 0 ≡ frames_from tree place
           pub within : IsPlace n.holds tree place
 
         passed : (row : ℕ) → bytes_at tree row ≡ [] → IsAfter row (Entry (row + 1))
@@ -252,14 +252,14 @@ module _ (contents : PoolId → List ℕ) where
           found_gives row is None e =
               gives_end n.holds shows (Entry row) (F.End (count_of rows)) is
               (end_left tree row (none_at rows row e) ∙ ap (λ m. F.End m ∷ []) (sym count_is))
-          found_gives row is (Some found) e =
-              let behind = behind_is row found.0 found.1 e in
+          found_gives at is (Some found) e =
+              let behind = behind_is at found.0 found.1 e in
               let frame : entry_frame (count_of rows) found.0 (node_in found.1) ≡ F.Entry found.0 (node_of (resolved_item contents found.1)) =
-              entry_told (count_of rows) found.0 found.1 (told_at (IsTold given contents) rows row found of.told e)
-              (unmarked_at rows row found of.whole.no_marks e) in
-              gives_next n.holds shows (Entry row) (entry_frame (count_of rows) found.0 (node_in found.1)) is (behind_node row found.1)
-              (entry_left tree row (shown found) (shown_at rows row found e)
-              ∙ ap (λ f. f ∷ left_from tree row 0) (sym frame)
+              entry_told (count_of rows) found.0 found.1 (told_at (IsTold given contents) rows at found of.told e)
+              (unmarked_at rows at found of.whole.no_marks e) in
+              gives_next n.holds shows (Entry at) (entry_frame (count_of rows) found.0 (node_in found.1)) is (behind_node at found.1)
+              (entry_left tree at (shown found) (shown_at rows at found e)
+              ∙ ap (λ f. f ∷ left_from tree at 0) (sym frame)
               ∙ ap (λ fs. entry_frame (count_of rows) found.0 (node_in found.1) ∷ fs) behind.left)
               behind.within
 

@@ -9,8 +9,6 @@ mod attr_tables_tests;
 #[cfg(test)]
 mod backup_views_tests;
 #[cfg(test)]
-mod dump_session_tests;
-#[cfg(test)]
 mod host_counts_tests;
 #[cfg(test)]
 mod merge_view_tests;
