@@ -6,3 +6,5 @@ pub mod RunFolds
 pub mod TableLaws
 pub mod Trees
 pub mod Walks
+pub mod Windows
+pub mod WindowLaws

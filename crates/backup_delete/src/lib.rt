@@ -11,6 +11,9 @@
 //! takes the two trees beside it, each in one pass over a filled table. Further runs pass over newer tables again, as far
 //! as they lack their paths.
 //!
+//! A caller that has the tables on a disk reads only those that a deletion touches: [`window_of`] names them, and
+//! [`fold_within`] makes of them alone what [`fold`] makes of all.
+//!
 //! ```text
 //! let folded = fold(alloc, index.lines(), tables.as_slice(), &[2])?;
 //! let counts = take(alloc, &add(alloc, &counts, &folded.added)?, &folded.taken)?;
@@ -25,6 +28,8 @@ mod numbers;
 mod runs;
 mod trees;
 mod walk;
+mod windows;
 
 pub use changes::TableChange;
 pub use deletion::{Folded, fold};
+pub use windows::{Window, fold_within, window_of};

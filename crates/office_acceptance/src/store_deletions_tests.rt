@@ -1,11 +1,13 @@
-ghost use Rattle.std.specs.Prelude.{◌≡◌, false, OnOk};
+ghost use Rattle.std.specs.Prelude.{◌≡◌, false, OnOk, IfOk};
+ghost use Rattle.intent_journal.specs.Changes.{AreChanges};
 
 use attr_records::{Attr, File, HostName, Item, PathName};
 use backup_rules::{Kind, RuleChange, Rules, Setting};
-use disk_trait::{Bytes, DiskRoom, MemoryDisk};
+use disk_trait::{Bytes, DiskRoom, FileId, MemoryDisk};
+use intent_journal::{Change, Changes};
 use office_model::{Answer, BrokenRule, Refusal};
 use pool_name::Md5Namer;
-use std::alloc::Global;
+use std::alloc::{AllocError, Global};
 use std::test::Fail;
 use store_commits::commit_dump;
 use store_deletions::{delete, expire};
@@ -36,6 +38,8 @@ enum Ask {
     // The file of a backup.
     Read(u32),
     Reopen,
+    // The table of a backup is taken away.
+    Lose(u32),
 }
 
 // What is answered.
@@ -46,6 +50,7 @@ enum Want {
     Count(u32),
     Bytes(&'static [u8]),
     Broken(BrokenRule),
+    Damaged,
 }
 
 // What is asked, and the answer.
@@ -86,6 +91,26 @@ const STEPS: [Step; 33] = [
     Step(Ask::Reopen, Want::Number(3)),
     Step(Ask::Read(0), Want::Bytes(b"first")),
     Step(Ask::Delete(0), Want::Done),
+];
+
+// By the cycle backups 0, 3 and 6 stay filled. Where 2 goes, the tables of 1 to 3 are read, and no other is missed; where 5 goes,
+// its older neighbour's is.
+const LOSING_STEPS: [Step; 15] = [
+    Step(Ask::Add, Want::Done),
+    Step(Ask::Set(Setting::FillCycle, 3), Want::Done),
+    Step(Ask::Commit(b"first"), Want::Number(0)),
+    Step(Ask::Commit(b"second"), Want::Number(1)),
+    Step(Ask::Commit(b"third"), Want::Number(2)),
+    Step(Ask::Commit(b"fourth"), Want::Number(3)),
+    Step(Ask::Commit(b"fifth"), Want::Number(4)),
+    Step(Ask::Commit(b"sixth"), Want::Number(5)),
+    Step(Ask::Commit(b"seventh"), Want::Number(6)),
+    Step(Ask::Lose(0), Want::Done),
+    Step(Ask::Lose(4), Want::Done),
+    Step(Ask::Delete(2), Want::Done),
+    Step(Ask::Read(1), Want::Bytes(b"second")),
+    Step(Ask::Read(3), Want::Bytes(b"fourth")),
+    Step(Ask::Delete(5), Want::Damaged),
 ];
 
 fn expect(holds: bool, text: &'static str) -> Result<(), Fail> {
@@ -145,6 +170,25 @@ fn commit(
     Ok(commit_dump(parts, alloc, dump, moment()))
 }
 
+// The change that takes the table of a backup of the one host away.
+fn without_table(alloc: Global, number: u32) -> Result<Changes, AllocError>
+    ensures { IfOk result AreChanges }
+{
+    let change = Change {
+        file: FileId::Table(0, number),
+        bytes: None,
+    };
+    Ok(Changes::from_vec(Vec::from_array(alloc, [change])?))
+}
+
+// The table of a backup is taken away.
+fn lose(alloc: Global, parts: &mut Parts, number: u32) -> Result<Result<Answer, Refusal>, Fail> {
+    expect_ready(parts)?;
+    let changes = without_table(alloc, number)?;
+    parts.journal.commit(alloc, &changes)?;
+    Ok(Ok(Answer::Done))
+}
+
 fn carry_out(
     alloc: Global,
     parts: &mut Parts,
@@ -161,6 +205,7 @@ fn carry_out(
         Ask::Expire => Ok(expire(parts, alloc, host, moment())),
         Ask::Read(number) => Ok(read_file(parts, alloc, host, number, &path(alloc)?)),
         Ask::Reopen => Ok(reopen(parts, alloc, Md5Namer)),
+        Ask::Lose(number) => lose(alloc, parts, number),
     }
 }
 
@@ -173,22 +218,34 @@ fn is_wanted(answer: &Result<Answer, Refusal>, want: Want) -> bool {
         (Ok(Answer::Expired(count)), Want::Count(n)) => *count == n,
         (Ok(Answer::Content(found)), Want::Bytes(bytes)) => found.as_slice() == bytes,
         (Err(Refusal::Broken(rule)), Want::Broken(broken)) => *rule == broken,
+        (Err(Refusal::Damaged { .. }), Want::Damaged) => true,
         _ => false,
     }
 }
 
-#[test]
-fn backups_leave_and_the_others_stay(rt: HostRuntime) -> Result<(), Fail> {
-    let alloc = rt.alloc();
+// What is behind all of these steps, from a disk without files on.
+fn carry_out_all(alloc: Global, steps: &[Step]) -> Result<Parts, Fail> {
     let host = HostName::read(alloc, b"pc1")?;
     let disk = MemoryDisk::new(alloc, Vec::new(alloc), ROOM)?;
     let Ok(mut parts) = open(alloc, disk, Md5Namer) else {
         return Err(Fail::new("not opened"));
     };
-    for step in &STEPS {
+    for step in steps {
         let answer = carry_out(alloc, &mut parts, &host, step.0)?;
         expect(is_wanted(&answer, step.1), "another answer")?;
     }
+    Ok(parts)
+}
+
+#[test]
+fn a_deletion_misses_no_table_outside_of_its_window(rt: HostRuntime) -> Result<(), Fail> {
+    let _parts = carry_out_all(rt.alloc(), &LOSING_STEPS)?;
+    Ok(())
+}
+
+#[test]
+fn backups_leave_and_the_others_stay(rt: HostRuntime) -> Result<(), Fail> {
+    let parts = carry_out_all(rt.alloc(), &STEPS)?;
     let left = parts.catalog.hosts().first();
     expect(
         left.is_some_and(|index| index.lines().is_empty()),

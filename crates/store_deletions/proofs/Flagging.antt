@@ -1,5 +1,4 @@
 -- The numbers of lines that the keeping rules name.
---     rise_sound      the lines of an index rise
 --     few_named      fewer are named than there may be numbers
 use Rattle.std.specs.Prelude.{◌≡◌, ℕ, zero, suc, ◌+◌, ◌<◌, ◌≤◌, ◌^◌, Bool, true, false, List, [], ◌∷◌, ◌++◌, length, get_or}
 use Rattle.std.proofs.Common.{ap, ◌∙◌, arith, length-append}
@@ -8,17 +7,9 @@ use Rattle.backup_index.specs.Lines.{LinesFrom, IsSound}
 use Rattle.backup_rules.specs.Values.{RuleSet}
 use Rattle.keep_rules.specs.Flags.{named_flags}
 use Rattle.keep_rules.specs.FlagLaws.{newest_stays}
-use Rattle.keep_rules.specs.Named.{Rise, RiseFrom}
 use Rattle.office_model.specs.laws.ExpireLaws.{unsnoc}
 use Rattle.office_deletion.specs.ExpiryLaws.{flagged_numbers}
 use Rattle.store_deletions.specs.Shortens.{named_numbers}
-
-rise_from_sound : (low next : ℕ) (lines : List Line) → LinesFrom low next lines → RiseFrom low lines
-rise_from_sound low next [] sound = tt
-rise_from_sound low next (line ∷ lines) sound = (sound.0.rising, rise_from_sound (line.number + 1) next lines sound.1)
-
-pub rise_sound : (next : ℕ) (lines : List Line) → IsSound next lines → Rise lines
-rise_sound next lines sound = rise_from_sound 0 next lines sound.in_turn
 
 -- numbers that rise and are below the next one are no more than that
 few_lines : (low next : ℕ) (lines : List Line) → low ≤ next → LinesFrom low next lines → low + length lines ≤ next

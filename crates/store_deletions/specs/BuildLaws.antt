@@ -14,6 +14,7 @@ use Rattle.merge_view.specs.Views.{Rows}
 use Rattle.ref_counts.specs.Numbers.{Items, number, total, capped}
 use Rattle.ref_counts.specs.Layout.{IsCounts}
 use Rattle.backup_delete.specs.Folds.{left_lines, Change as TableChange, changes, added_tables, taken_tables}
+use Rattle.backup_delete.specs.Windows.{part, IsWindow}
 use Rattle.office_catalog.specs.declared.edits.CatalogChange.{CatalogChange}
 use Rattle.office_catalog.specs.Known.{Known, known_of, IsCatalog, with_change, changed_at, given_lines}
 use Rattle.office_catalog.specs.Changed.{after, IsFor, Leads, Proposes}
@@ -50,24 +51,25 @@ pub record IsTaken (change new : CatalogChange) (taken : List Change) : Type 0 w
   pub changes : taken ≡ change.changes
   pub edit : new.edit ≡ change.edit
 
-pub built_of : (catalog : Known) (host file : ℕ) (index : HostIndex) (tables : List Rows)
+pub built_of : (catalog : Known) (host file : ℕ) (index : HostIndex) (first end : ℕ) (tables : List Rows)
     (old taken added counts : Items) (numbers : List ℕ)
     (lines : List Line) (made : List TableChange) (change new : CatalogChange) (listed all : List Change)
-    → IsCatalog catalog.hosts → slice_get catalog.hosts host ≡ Some index → file ≡ index.host
-    → lines ≡ left_lines numbers index.lines → made ≡ changes numbers index.lines tables
+    → IsCatalog catalog.hosts → slice_get catalog.hosts host ≡ Some index → file ≡ index.host → IsWindow numbers index.lines first end
+    → lines ≡ left_lines numbers index.lines → made ≡ changes numbers (part first end index.lines) tables
     → ((id : PoolId) → number added id ≡ capped (total id (added_tables made)))
-    → ((id : PoolId) → number taken id ≡ capped (total id (taken_tables numbers index.lines tables)))
+    → ((id : PoolId) → number taken id ≡ capped (total id (taken_tables numbers (part first end index.lines) tables)))
     → ((id : PoolId) → number counts id ≡ capped ((number old id - number taken id) + number added id))
     → Proposes catalog (with_change catalog host (λ i. given_lines i.next lines i)) (HostFile host ∷ []) change → IsFor catalog change
     → IsTaken change new listed → AreFit made → IsCounts counts → all ≡ written listed file made counts
-    → IsBuilt catalog host tables old numbers (record { catalog = new; counts = counts; changes = all })
-built_of catalog host file index tables old taken added counts numbers lines made change new listed all are here file_is lines_are made_are added_are taken_are counted proposes fits is_taken fit counts_fit written_is =
+    → IsBuilt catalog host first end tables old numbers (record { catalog = new; counts = counts; changes = all })
+built_of catalog host file index first end tables old taken added counts numbers lines made change new listed all are here file_is window lines_are made_are added_are taken_are counted proposes fits is_taken fit counts_fit written_is =
     let left = same_left catalog host index numbers lines here lines_are in
     let is_host = are.each host index here in
     record {
       index = index;
       here = here;
       is_host = is_host;
+      window = window;
       fits = subst (λ e. IsFor catalog (record change { edit = e })) (sym is_taken.edit) fits;
       known = ap (λ e. after (record change { edit = e }) catalog) is_taken.edit ∙ proposes.after_is ∙ left;
       listed = listed;
@@ -77,6 +79,6 @@ built_of catalog host file index tables old taken added counts numbers lines mad
       counts_fit = counts_fit;
       changes_are = written_is ∙ (λ i. written listed ((file_is ∙ is_host.number) i) (made_are i) counts);
       counted = λ id. counted id ∙ (λ i. capped ((number old id - taken_are id i) + added_are id i))
-          ∙ ap (λ (m : List TableChange). capped ((number old id - capped (total id (taken_tables numbers index.lines tables)))
+          ∙ ap (λ (m : List TableChange). capped ((number old id - capped (total id (taken_tables numbers (part first end index.lines) tables)))
           + capped (total id (added_tables m)))) made_are;
     }

@@ -1,10 +1,12 @@
 -- What a refusal of a plan comes to.
 --     IsReadRefusal      what a fault of reading a table is to a caller
+--     part_damaged      a table of the part is one of the host's
 --     plan_fault      a fault of reading a table is one of the plan
 --     fault_at_work      if the files stand for the host, it is a fault of the disk, or want of memory
-use Rattle.std.specs.Prelude.{◌≡◌, ◌⊎◌, ℕ, List, Option, Some, slice_get}
+use Rattle.std.specs.Prelude.{◌≡◌, ◌⊎◌, ℕ, ◌+◌, List, Option, Some, slice_get}
 use Rattle.std.proofs.Common.{refl, sym, ap, ◌∙◌, subst, inl, inr}
 use Rattle.disk_trait.specs.Files.{Files}
+use Rattle.backup_rules.specs.declared.lines.Line.{Line}
 use Rattle.backup_index.specs.Index.{Index as HostIndex}
 use Rattle.backup_views.specs.Stored.{IsTableFile}
 use Rattle.backup_views.specs.Faults.{IsDamaged, SaysOneDamaged}
@@ -13,6 +15,7 @@ use Rattle.backup_views.specs.declared.fault.ViewFault.TheVariants as V
 use Rattle.pool_index.specs.Index.{Index}
 use Rattle.ref_counts.specs.Numbers.{Items}
 use Rattle.ref_counts.specs.Stored.{Backup as StoredBackup, stored}
+use Rattle.backup_delete.specs.Windows.{part}
 use Rattle.office_model.specs.Office.{Host}
 use Rattle.office_model.specs.declared.refusal.Refusal.{Refusal}
 use Rattle.office_model.specs.declared.refusal.Refusal.TheVariants as R
@@ -22,6 +25,7 @@ use Rattle.office_files.specs.Pairs.{other_at}
 use Rattle.office_files.specs.Pooled.{contents_of, IsListed}
 use Rattle.store_deletions.specs.Planned.{IsHostAtWork, IsPlanFault}
 use Rattle.store_deletions.specs.Tables.{tables_of_host}
+use Rattle.store_deletions.specs.PartLaws.{slice_get-part}
 
 abbrev pub IsReadRefusal : ViewFault → Refusal → Type 0
 IsReadRefusal V.Disk refusal = refusal ≡ R.DiskFault
@@ -30,6 +34,18 @@ IsReadRefusal (V.Damaged file found) refusal = refusal ≡ R.Damaged file found
 
 some_same : {A : Type 0} (x y : A) → Some x ≡ Some y → x ≡ y
 some_same x y e = cc
+
+pub part_damaged : (told : Option Files) (host first end : ℕ) (lines : List Line) (fault : ViewFault)
+    → SaysOneDamaged told host (part first end lines) fault → SaysOneDamaged told host lines fault
+part_damaged told host first end lines fault says = λ file found is.
+    let d = says file found is in
+    record {
+      index = first + d.index;
+      line = d.line;
+      is_line = slice_get-part first end lines d.index d.line d.is_line;
+      file_is = d.file_is;
+      no_table = d.no_table;
+    }
 
 pub plan_fault : (told : Option Files) (catalog : Known) (host file : ℕ) (index : HostIndex) (fault : ViewFault) (refusal : Refusal)
     → slice_get catalog.hosts host ≡ Some index → file ≡ host → IsReadRefusal fault refusal

@@ -6,6 +6,7 @@ pub mod WrittenLaws
 pub mod LeftLaws
 pub mod BoundLaws
 pub mod BuildLaws
+pub mod PartLaws
 pub mod PlanLaws
 pub mod Faults
 pub mod Shortens

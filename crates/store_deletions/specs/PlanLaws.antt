@@ -1,6 +1,7 @@
 -- What was built is the plan.
 --     planned_of      if the tables are those that the files tell
 --     planned_by      by the tables that were read
+--     same_window, as_many      what is read of them is a window's
 use Rattle.std.specs.Prelude.{◌≡◌, ℕ, zero, suc, ◌+◌, ◌-◌, ◌<◌, ◌≤◌, ◌^◌, List, [], ◌∷◌, length, Option, Some, slice_get}
 use Rattle.std.proofs.Common.{refl, sym, ap, ◌∙◌, subst, arith}
 use Rattle.std.proofs.lemmas.Bool.Decides.{nat_tests}
@@ -19,6 +20,8 @@ use Rattle.ref_counts.specs.Stored.{Backup as StoredBackup, stored, AreWhole}
 use Rattle.backup_delete.specs.Folds.{folded_tables, Change as TableChange, changes, change_at, added_tables, taken_tables}
 use Rattle.backup_delete.specs.FoldLaws.{folded-stored}
 use Rattle.backup_delete.specs.Counted.{folded-total, taken-within}
+use Rattle.backup_delete.specs.Windows.{part, IsWindow}
+use Rattle.backup_delete.specs.WindowLaws.{changes-part, taken-part}
 use Rattle.office_model.specs.Office.{Host}
 use Rattle.office_model.specs.Parts.{lines_of}
 use Rattle.office_catalog.specs.Known.{Known, IsCatalog, with_change, changed_at}
@@ -35,6 +38,7 @@ use Rattle.store_deletions.specs.Tables.{AreTables, tables_of_host}
 use Rattle.store_deletions.specs.Written.{table_part, written}
 use Rattle.store_deletions.specs.WrittenLaws.{IsOne, one_change, are_tables, are_written, at_index, at_table, at_counts, at_other}
 use Rattle.store_deletions.specs.LeftLaws.{left_numbered}
+use Rattle.store_deletions.specs.PartLaws.{part_tables, rise_sound, rise_part}
 use Rattle.store_deletions.specs.BoundLaws.{few_counted}
 
 some_same : {A : Type 0} (x y : A) → Some x ≡ Some y → x ≡ y
@@ -91,17 +95,19 @@ module _ (pool : Index) (catalog : Known) (counts : Items) (all : Files) (number
   index_left : left_index numbers (index_of_host number host) ≡ index_of_host number (left_host numbers host)
   index_left = ap (λ (ls : List Line). record (index_of_host number host) { lines = ls }) (sym (lines_left numbers host.backups))
 
-module _ (catalog : Known) (told : Option Files) (old : Items) (number : ℕ) (numbers : List ℕ) (tables : List Rows) (plan : DeletionPlan)
-    (b : IsBuilt catalog number tables old numbers plan)
-    (read : (all : Files) (others : List Rows) → told ≡ Some all → AreTables all number b.index.lines others → tables ≡ others) where
+module _ (catalog : Known) (told : Option Files) (old : Items) (number first end : ℕ) (numbers : List ℕ) (tables : List Rows) (plan : DeletionPlan)
+    (b : IsBuilt catalog number first end tables old numbers plan)
+    (read : (all : Files) (others : List Rows) → told ≡ Some all → AreTables all number (part first end b.index.lines) others → tables ≡ others) where
   abbrev made : List TableChange
-  made = changes numbers b.index.lines tables
+  made = changes numbers (part first end b.index.lines) tables
 
   one : IsOne b.listed (F.Host number)
   one = one_change b.listed (F.Host number) b.leads.named
 
   once : AreChanges (table_part number made)
-  once = are_tables number 0 b.index.next numbers b.index.lines tables b.is_host.sound.in_turn
+  once =
+      are_tables number 0 numbers (part first end b.index.lines) tables
+      (rise_part first end b.index.lines (rise_sound b.index.next b.index.lines b.is_host.sound))
 
   module _ (pool : Index) (all : Files) (host : Host) (shown : List StoredBackup) (is : told ≡ Some all)
       (at : IsHostAtWork pool catalog old all number host shown) where
@@ -111,15 +117,33 @@ module _ (catalog : Known) (told : Option Files) (old : Items) (number : ℕ) (n
     lines_are : b.index.lines ≡ lines_of host.backups
     lines_are = ap (λ (i : HostIndex). i.lines) index_is
 
-    tables_are : tables ≡ stored shown
-    tables_are = read all (stored shown) is (subst (λ (ls : List Line). AreTables all number ls (stored shown)) (sym lines_are)
-        (tables_of_host (IsListed pool) (contents_of all) all number host shown at.stands))
+    tables_are : tables ≡ part first end (stored shown)
+    tables_are = read all (part first end (stored shown)) is
+        (part_tables all number first end b.index.lines (stored shown)
+        (subst (λ (ls : List Line). AreTables all number ls (stored shown)) (sym lines_are)
+        (tables_of_host (IsListed pool) (contents_of all) all number host shown at.stands)))
+
+    window : IsWindow numbers (lines_of host.backups) first end
+    window = subst (λ (ls : List Line). IsWindow numbers ls first end) lines_are b.window
+
+    same : length (stored shown) ≡ length (lines_of host.backups)
+    same = same_length pool catalog old all number host shown numbers at
+
+    -- what the part tells is what all backups tell
+    made_is : made ≡ changes numbers (lines_of host.backups) (stored shown)
+    made_is =
+        (λ i. changes numbers (part first end (lines_are i)) (tables_are i))
+        ∙ sym (changes-part numbers (lines_of host.backups) (stored shown) first end window same)
+
+    taken_is : taken_tables numbers (part first end b.index.lines) tables ≡ taken_tables numbers (lines_of host.backups) (stored shown)
+    taken_is =
+        (λ i. taken_tables numbers (part first end (lines_are i)) (tables_are i))
+        ∙ sym (taken-part numbers (lines_of host.backups) (stored shown) first end window same)
 
     counted : (id : PoolId) → N.number plan.counts id ≡ total id (stored (left_shown numbers host shown))
     counted id =
         b.counted id
-        ∙ (λ i. capped ((N.number old id - capped (total id (taken_tables numbers (lines_are i) (tables_are i))))
-        + capped (total id (added_tables (changes numbers (lines_are i) (tables_are i))))))
+        ∙ (λ i. capped ((N.number old id - capped (total id (taken_is i))) + capped (total id (added_tables (made_is i)))))
         ∙ left_counted pool catalog old all number host shown numbers at id
 
     image_is : applied plan.changes all ≡ applied (written b.listed number made plan.counts) all
@@ -144,7 +168,7 @@ module _ (catalog : Known) (told : Option Files) (old : Items) (number : ℕ) (n
           (sym (at_file (F.Table number n)))
           (subst (λ (m : List TableChange). IsChangedTo (change_at m n) (all (F.Table number n))
           (applied (written b.listed number made plan.counts) all (F.Table number n)))
-          (λ i. changes numbers (lines_are i) (tables_are i))
+          made_is
           (at_table b.listed number made plan.counts one once all b.fit n));
       counts = record {
         items = plan.counts;
@@ -166,21 +190,32 @@ module _ (catalog : Known) (told : Option Files) (old : Items) (number : ℕ) (n
   }
 
 -- the tables that were read are those of the host's lines
-pub planned_by : (catalog : Known) (told : Option Files) (old : Items) (number file : ℕ) (numbers : List ℕ) (tables given : List Rows)
+pub planned_by : (catalog : Known) (told : Option Files) (old : Items) (number file first end : ℕ) (numbers : List ℕ) (tables given : List Rows)
     (index : HostIndex) (all_lines : List Line) (plan : DeletionPlan) → IsCatalog catalog.hosts → slice_get catalog.hosts number ≡ Some index
     → file ≡ index.host → all_lines ≡ index.lines → given ≡ tables
-    → ((all : Files) (others : List Rows) → told ≡ Some all → AreTables all file all_lines others → tables ≡ others)
-    → IsBuilt catalog number given old numbers plan → IsPlanned catalog told old number numbers plan
-planned_by catalog told old number file numbers tables given index all_lines plan are here file_is are_lines same reads b =
-    planned_of catalog told old number numbers given plan b
+    → ((all : Files) (others : List Rows) → told ≡ Some all → AreTables all file (part first end all_lines) others → tables ≡ others)
+    → IsBuilt catalog number first end given old numbers plan → IsPlanned catalog told old number numbers plan
+planned_by catalog told old number file first end numbers tables given index all_lines plan are here file_is are_lines same reads b =
+    planned_of catalog told old number first end numbers given plan b
     (λ all others is told_are. same ∙ reads all others is
-    (subst (λ (f : ℕ). AreTables all f all_lines others) (sym (file_is ∙ (are.each number index here).number))
-    (subst (λ (ls : List Line). AreTables all number ls others)
+    (subst (λ (f : ℕ). AreTables all f (part first end all_lines) others) (sym (file_is ∙ (are.each number index here).number))
+    (subst (λ (ls : List Line). AreTables all number (part first end ls) others)
     (ap (λ (i : HostIndex). i.lines) (some_same b.index index (sym b.here ∙ here)) ∙ sym are_lines) told_are)))
 
--- and the host's index has as many lines
-pub as_many : (catalog : Known) (number : ℕ) (index : HostIndex) (all_lines : List Line) (tables given : List Rows)
-    → slice_get catalog.hosts number ≡ Some index → all_lines ≡ index.lines → given ≡ tables → length tables ≡ length all_lines
-    → (other : HostIndex) → slice_get catalog.hosts number ≡ Some other → length given ≡ length other.lines
-as_many catalog number index all_lines tables given here are_lines same each other there =
-    ap length same ∙ each ∙ ap length are_lines ∙ ap (λ (i : HostIndex). length i.lines) (some_same index other (sym here ∙ there))
+-- what is a window of the lines that are read is one of the host's
+pub same_window : (catalog : Known) (number first end : ℕ) (numbers : List ℕ) (index : HostIndex) (all_lines : List Line)
+    → slice_get catalog.hosts number ≡ Some index → all_lines ≡ index.lines → IsWindow numbers all_lines first end
+    → (other : HostIndex) → slice_get catalog.hosts number ≡ Some other → IsWindow numbers other.lines first end
+same_window catalog number first end numbers index all_lines here are_lines window other there =
+    subst (λ (ls : List Line). IsWindow numbers ls first end)
+    (are_lines ∙ ap (λ (i : HostIndex). i.lines) (some_same index other (sym here ∙ there))) window
+
+-- and the host's index has as many lines there
+pub as_many : (catalog : Known) (number first end : ℕ) (index : HostIndex) (all_lines : List Line) (tables given : List Rows)
+    → slice_get catalog.hosts number ≡ Some index → all_lines ≡ index.lines → given ≡ tables
+    → length tables ≡ length (part first end all_lines)
+    → (other : HostIndex) → slice_get catalog.hosts number ≡ Some other → length given ≡ length (part first end other.lines)
+as_many catalog number first end index all_lines tables given here are_lines same each other there =
+    ap length same ∙ each
+    ∙ ap (λ (ls : List Line). length (part first end ls))
+    (are_lines ∙ ap (λ (i : HostIndex). i.lines) (some_same index other (sym here ∙ there)))

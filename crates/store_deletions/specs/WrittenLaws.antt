@@ -19,7 +19,7 @@ use Rattle.attr_tables.specs.declared.layouts.TableLayout.TheVariants.{Second}
 use Rattle.attr_tables.specs.Layout.{IsTable}
 use Rattle.attr_tables.specs.Tables.{table_file}
 use Rattle.backup_rules.specs.declared.lines.Line.{Line}
-use Rattle.backup_index.specs.Lines.{LinesFrom}
+use Rattle.keep_rules.specs.Named.{RiseFrom}
 use Rattle.merge_view.specs.Views.{Rows, reverse}
 use Rattle.ref_counts.specs.Numbers.{Items}
 use Rattle.ref_counts.specs.CountsFile.{counts_file}
@@ -86,16 +86,16 @@ module _ (host : ℕ) where
   one_out false false number asked new other = refl
 
   -- of lines from a number on none below it is
-  out_below : (asked low next : ℕ) (numbers : List ℕ) (lines : List Line) (tables : List Rows) → asked < low → LinesFrom low next lines
+  out_below : (asked low : ℕ) (numbers : List ℕ) (lines : List Line) (tables : List Rows) → asked < low → RiseFrom low lines
       → names (table_part host (changes numbers lines tables)) (F.Table host asked) ≡ false
-  out_below asked low next numbers [] tables below from = refl
-  out_below asked low next numbers (line ∷ lines) [] below from = refl
-  out_below asked low next numbers (line ∷ lines) (table ∷ tables) below from =
+  out_below asked low numbers [] tables below from = refl
+  out_below asked low numbers (line ∷ lines) [] below from = refl
+  out_below asked low numbers (line ∷ lines) (table ∷ tables) below from =
       let one = option_to_list (change_of numbers line table lines tables) in
-      let rising = from.0.rising in
+      let rising = from.0 in
       ap (λ (cs : List Change). names cs (F.Table host asked)) (map-append (table_change host) (changes numbers lines tables) one)
       ∙ names_none (table_part host (changes numbers lines tables)) (table_part host one) (F.Table host asked)
-      (out_below asked (line.number + 1) next numbers lines tables (omega (arith, below, rising)) from.1)
+      (out_below asked (line.number + 1) numbers lines tables (omega (arith, below, rising)) from.1)
       (one_out (is_gone numbers line.number) (needs_fold numbers line lines) line.number asked
       (reverse (tree_of (line ∷ lines) (table ∷ tables)) (next_tree numbers lines tables)) (λ same. omega (arith, below, rising, same)))
 
@@ -111,17 +111,17 @@ module _ (host : ℕ) where
       nothing_more (x ∷ xs) = ap (λ l. x ∷ l) (nothing_more xs)
 
   -- each table is named once
-  pub are_tables : (low next : ℕ) (numbers : List ℕ) (lines : List Line) (tables : List Rows) → LinesFrom low next lines
+  pub are_tables : (low : ℕ) (numbers : List ℕ) (lines : List Line) (tables : List Rows) → RiseFrom low lines
       → AreChanges (table_part host (changes numbers lines tables))
-  are_tables low next numbers [] tables from = tt
-  are_tables low next numbers (line ∷ lines) [] from = tt
-  are_tables low next numbers (line ∷ lines) (table ∷ tables) from =
+  are_tables low numbers [] tables from = tt
+  are_tables low numbers (line ∷ lines) [] from = tt
+  are_tables low numbers (line ∷ lines) (table ∷ tables) from =
       let one = option_to_list (change_of numbers line table lines tables) in
       subst AreChanges (sym (map-append (table_change host) (changes numbers lines tables) one))
       (one_more (is_gone numbers line.number) (needs_fold numbers line lines) line.number
       (reverse (tree_of (line ∷ lines) (table ∷ tables)) (next_tree numbers lines tables)) (table_part host (changes numbers lines tables))
-      (are_tables (line.number + 1) next numbers lines tables from.1)
-      (out_below line.number (line.number + 1) next numbers lines tables (omega arith) from.1))
+      (are_tables (line.number + 1) numbers lines tables from.1)
+      (out_below line.number (line.number + 1) numbers lines tables (omega arith) from.1))
 
   changed_to : (table : Option Rows) (before after : Option (List ℕ)) → IfSome table (IsTable Second)
       → after ≡ option_map (table_file Second) table → IsChangedTo (Some table) before after

@@ -10,6 +10,7 @@ ghost use Rattle.store_deletions.specs.Faults.{IsReadRefusal};
 use crate::build::build;
 use crate::plan::DeletionPlan;
 use crate::tables::read_tables;
+use backup_delete::window_of;
 use backup_views::ViewFault;
 use disk_trait::Disk;
 use intent_journal::Journal;
@@ -33,8 +34,8 @@ fn refusal_of(fault: ViewFault) -> Refusal
     }
 }
 
-/// The plan of the deletion of the backups of these numbers from a host of a catalog, by its counts and by the tables of all its
-/// backups, which are read.
+/// The plan of the deletion of the backups of these numbers from a host of a catalog, by its counts and by the tables of those of
+/// its backups that the deletion touches, which are read.
 fn plan_of<D: Disk>(
     alloc: Global,
     journal: &mut Journal<D>,
@@ -51,18 +52,33 @@ fn plan_of<D: Disk>(
     ensures counted { Counted (D.fault_count journal.old.disk) (D.fault_count journal.new.disk) (IsErrOf result Refusal.DiskFault) }
 {
     let index = &catalog.hosts()[host];
-    let tables = match read_tables(alloc, journal, index.host(), index.lines().lines()) {
+    let lines = index.lines().lines();
+    let window = match window_of(alloc, lines, numbers) {
+        Ok(window) => window,
+        Err(_) => return Err(Refusal::Memory),
+    };
+    let touched = &lines[window.first..window.end];
+    let tables = match read_tables(alloc, journal, index.host(), touched) {
         Ok(tables) => tables,
         Err(fault) => return Err(refusal_of(fault)),
     };
-    match build(alloc, catalog, host, tables.as_slice(), counts, numbers) {
+    match build(
+        alloc,
+        catalog,
+        host,
+        window,
+        tables.as_slice(),
+        counts,
+        numbers,
+    ) {
         Ok(plan) => Ok(plan),
         Err(_) => Err(Refusal::Memory),
     }
 }
 
-/// Plans the deletion of the backups of these numbers from a host. The tables of all its backups are read; nothing changes. A host
-/// without counts is refused: a store at work has none.
+/// Plans the deletion of the backups of these numbers from a host; nothing changes. The tables that the deletion touches are read,
+/// and no other: from the older neighbour of the oldest backup that goes up to the first filled one that stays behind the newest
+/// of them, or to the end. A host without counts is refused: a store at work has none.
 pub fn plan_deletion<D: Disk, N: Namer>(
     parts: &mut StoreParts<D, N>,
     alloc: Global,

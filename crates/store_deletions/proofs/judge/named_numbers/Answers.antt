@@ -1,7 +1,7 @@
 -- The lines of an index rise.
 use Rattle.std.proofs.Common.{sym, ◌∙◌, subst}
 use Rattle.keep_rules.specs.Named.{Rise}
-use Rattle.store_deletions.proofs.Flagging.{rise_sound}
+use Rattle.store_deletions.specs.PartLaws.{rise_sound}
 use Rattle.store_deletions.proofs.judge.named_numbers.Goals as goal
 
 pub named-requires-clause-rise : goal.named-requires-clause-rise

@@ -1,34 +1,46 @@
 -- What was read and built is the plan.
-use Rattle.std.proofs.Common.{List, subst, ◌∙◌}
+use Rattle.std.proofs.Common.{◌≡◌, List, Some, slice_get, subst, ◌∙◌}
 use Rattle.journal_view.specs.View.{told}
 use Rattle.backup_rules.specs.declared.lines.Line.{Line}
 use Rattle.backup_views.specs.Faults.{SaysOneDamaged}
 use Rattle.store_deletions.specs.BuildLaws.{index_there}
-use Rattle.store_deletions.specs.Faults.{plan_fault}
-use Rattle.store_deletions.specs.PlanLaws.{planned_by, as_many}
+use Rattle.store_deletions.specs.Faults.{part_damaged, plan_fault}
+use Rattle.store_deletions.specs.PlanLaws.{planned_by, same_window, as_many}
 use Rattle.store_deletions.proofs.planning.plan_of.Goals as goal
 
-pub returns-in-Err-clause-refused : goal.returns-in-Err-clause-refused
-returns-in-Err-clause-refused g c =
+pub returns-in-Err-read_tables-clause-refused : goal.returns-in-Err-read_tables-clause-refused
+returns-in-Err-read_tables-clause-refused g c =
     let here = index_there c.args.catalog.now.hosts c.hosts.result.now c.args.host c.index-hosts-host.result c.requires.within
     c.hosts.ensures.hosts c.index-hosts-host.is in
-    plan_fault (told c.args.journal.now) c.args.catalog.now c.args.host c.host.result c.index-hosts-host.result c.in-Err.fault
+    plan_fault (told c.args.journal.now) c.args.catalog.now c.args.host c.host.result c.index-hosts-host.result c.in-Err-read_tables.fault
     c.refusal_of.result here (c.host.ensures ∙ (c.hosts.ensures.are.each c.args.host c.index-hosts-host.result here).number) c.refusal_of.ensures.kind
-    (subst (λ (ls : List Line). SaysOneDamaged (told c.args.journal.now) c.host.result ls c.in-Err.fault)
-    (c.lines-2.ensures ∙ c.lines.ensures.lines)
-    c.in-Err.ensures.damaged)
+    (subst (λ (ls : List Line). SaysOneDamaged (told c.args.journal.now) c.host.result ls c.in-Err-read_tables.fault)
+    (c.lines-lines.ensures ∙ c.lines.ensures.lines)
+    (part_damaged (told c.args.journal.now) c.host.result c.in-Ok.window.first c.in-Ok.window.end c.lines-lines.result.now
+    c.in-Err-read_tables.fault c.in-Err-read_tables.ensures.damaged))
+
+pub build-requires-clause-window : goal.build-requires-clause-window
+build-requires-clause-window g c =
+    same_window c.args.catalog.now c.args.host c.in-Ok.window.first c.in-Ok.window.end c.args.numbers.now c.index-hosts-host.result
+    c.lines-lines.result.now
+    (index_there c.args.catalog.now.hosts c.hosts.result.now c.args.host c.index-hosts-host.result c.requires.within c.hosts.ensures.hosts
+    c.index-hosts-host.is)
+    (c.lines-lines.ensures ∙ c.lines.ensures.lines) c.in-Ok.ensures
 
 pub build-requires-clause-each : goal.build-requires-clause-each
 build-requires-clause-each g c =
-    as_many c.args.catalog.now c.args.host c.index-hosts-host.result c.lines-2.result.now c.in-Ok.tables.items c.as_slice.result.now
+    as_many c.args.catalog.now c.args.host c.in-Ok.window.first c.in-Ok.window.end c.index-hosts-host.result c.lines-lines.result.now
+    c.in-Ok-read_tables.tables.items c.as_slice.result.now
     (index_there c.args.catalog.now.hosts c.hosts.result.now c.args.host c.index-hosts-host.result c.requires.within c.hosts.ensures.hosts
     c.index-hosts-host.is)
-    (c.lines-2.ensures ∙ c.lines.ensures.lines) c.as_slice.ensures.value c.in-Ok.ensures.each
+    (c.lines-lines.ensures ∙ c.lines.ensures.lines) c.as_slice.ensures.value c.in-Ok-read_tables.ensures.each
 
 pub returns-in-Ok-build-clause-planned : goal.returns-in-Ok-build-clause-planned
 returns-in-Ok-build-clause-planned g c =
-    planned_by c.args.catalog.now (told c.args.journal.now) c.args.counts.now c.args.host c.host.result c.args.numbers.now
-    c.in-Ok.tables.items c.as_slice.result.now c.index-hosts-host.result c.lines-2.result.now c.in-Ok-build.plan c.hosts.ensures.are
+    planned_by c.args.catalog.now (told c.args.journal.now) c.args.counts.now c.args.host c.host.result c.in-Ok.window.first
+    c.in-Ok.window.end c.args.numbers.now c.in-Ok-read_tables.tables.items c.as_slice.result.now c.index-hosts-host.result
+    c.lines-lines.result.now c.in-Ok-build.plan c.hosts.ensures.are
     (index_there c.args.catalog.now.hosts c.hosts.result.now c.args.host c.index-hosts-host.result c.requires.within c.hosts.ensures.hosts
     c.index-hosts-host.is)
-    c.host.ensures (c.lines-2.ensures ∙ c.lines.ensures.lines) c.as_slice.ensures.value c.in-Ok.ensures.one c.in-Ok-build.ensures
+    c.host.ensures (c.lines-lines.ensures ∙ c.lines.ensures.lines) c.as_slice.ensures.value c.in-Ok-read_tables.ensures.one
+    c.in-Ok-build.ensures

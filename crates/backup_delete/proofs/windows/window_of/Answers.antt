@@ -1,0 +1,69 @@
+-- From the older neighbour of the oldest one on, none before it is deleted; up to a filled one, none behind it.
+use Rattle.std.proofs.Common.{◌≡◌, ◌-◌, ◌<◌, ◌≤◌, ℕ, zero, suc, Bool, true, false, ◌||◌, List, [], ◌∷◌, length, take, drop, refl, arith, rules}
+use Rattle.backup_rules.specs.declared.lines.Line.{Line}
+use Rattle.backup_delete.specs.Trees.{is_first_filled, is_gone, is_next_gone}
+use Rattle.backup_delete.specs.Windows.{any_gone, IsWindow}
+use Rattle.backup_delete.specs.WindowLaws.{or_left, or_right}
+use Rattle.backup_delete.proofs.windows.window_of.Goals as goal
+
+module _ (numbers : List ℕ) where
+  fewer_before : (m n : ℕ) (lines : List Line) → m ≤ n → any_gone numbers (take n lines) ≡ false → any_gone numbers (take m lines) ≡ false
+  fewer_before zero n lines less none = refl
+  fewer_before (suc m) n [] less none = refl
+  fewer_before (suc m) zero (line ∷ lines) less none = absurd (omega (arith, less))
+  fewer_before (suc m) (suc n) (line ∷ lines) less none =
+      step (is_gone numbers line.number) none (λ rest. fewer_before m n lines (omega (arith, less)) rest)
+    where
+      step : (b : Bool) → (b || any_gone numbers (take n lines)) ≡ false
+          → (any_gone numbers (take n lines) ≡ false → any_gone numbers (take m lines) ≡ false)
+          → (b || any_gone numbers (take m lines)) ≡ false
+      step true e rest = e
+      step false e rest = rest e
+
+  stays_before : (m n : ℕ) (lines : List Line) → m < n → any_gone numbers (take n lines) ≡ false → is_next_gone numbers (drop m lines) ≡ false
+  stays_before zero n [] less none = refl
+  stays_before (suc m) n [] less none = refl
+  stays_before m zero (line ∷ lines) less none = absurd (omega (arith, less))
+  stays_before zero (suc n) (line ∷ lines) less none = or_left (is_gone numbers line.number) (any_gone numbers (take n lines)) none
+  stays_before (suc m) (suc n) (line ∷ lines) less none =
+      stays_before m n lines (omega (arith, less)) (or_right (is_gone numbers line.number) (any_gone numbers (take n lines)) none)
+
+  fewer_behind : (m n : ℕ) (lines : List Line) → m ≤ n → any_gone numbers (drop m lines) ≡ false → any_gone numbers (drop n lines) ≡ false
+  fewer_behind zero zero lines less none = none
+  fewer_behind (suc m) zero lines less none = absurd (omega (arith, less))
+  fewer_behind zero (suc n) [] less none = refl
+  fewer_behind zero (suc n) (line ∷ lines) less none =
+      fewer_behind zero n lines (omega arith) (or_right (is_gone numbers line.number) (any_gone numbers lines) none)
+  fewer_behind (suc m) (suc n) [] less none = refl
+  fewer_behind (suc m) (suc n) (line ∷ lines) less none = fewer_behind m n lines (omega (arith, less)) none
+
+  first_stays : (lines : List Line) → any_gone numbers lines ≡ false → is_next_gone numbers lines ≡ false
+  first_stays [] none = refl
+  first_stays (line ∷ lines) none = or_left (is_gone numbers line.number) (any_gone numbers lines) none
+
+  is_window : (lines : List Line) (oldest behind first end : ℕ) → any_gone numbers (take oldest lines) ≡ false → oldest ≤ behind
+      → any_gone numbers (drop behind lines) ≡ false → first ≡ oldest - 1 → behind ≤ end → end ≤ length lines
+      → (end < length lines → behind < end) → (end < length lines → is_first_filled (drop (end - 1) lines) ≡ true)
+      → IsWindow numbers lines first end
+  is_window lines oldest behind first end none after rest is more within some filled = record {
+    within = within;
+    before = fewer_before first oldest lines (omega (arith, is)) none;
+    behind = fewer_behind behind end lines more rest;
+    rises = omega (arith, is, after, more);
+    some = λ newer. omega (arith, newer, is, after, more);
+    oldest = λ newer. stays_before first oldest lines (omega (arith, newer, is)) none;
+    some_before = λ less. let past = some less in omega (arith, is, after, past);
+    newest = λ less.
+        let past = some less in
+        record {
+          filled = filled less;
+          stays = first_stays (drop (end - 1) lines) (fewer_behind behind (end - 1) lines (omega (arith, past)) rest);
+        };
+  }
+
+pub returns : goal.returns
+returns c =
+    is_window c.args.numbers.now c.args.lines.now c.oldest_gone-oldest.result c.behind_gone-behind.result c.saturating_sub-first.result
+    c.behind_filled-end.result c.oldest_gone-oldest.ensures.before c.behind_gone-behind.ensures.after c.behind_gone-behind.ensures.behind
+    (search rules) c.behind_filled-end.ensures.after c.behind_filled-end.ensures.within c.behind_filled-end.ensures.more
+    c.behind_filled-end.ensures.filled
