@@ -1,14 +1,14 @@
 -- A deletion, computed from the part of the backups that it touches.
 --     changes-part, taken-part      the changes, and the tables that are removed or replaced, are those of the part alone
-use Rattle.std.specs.Prelude.{◌≡◌, ℕ, zero, suc, ◌+◌, ◌-◌, ◌<◌, ◌≤◌, Bool, true, false, not, ◌&&◌, ◌||◌, List, [], ◌∷◌, ◌++◌, length, take, drop, Option, Some, None, nat_lt, if◌then◌else◌}
+use Rattle.std.specs.Prelude.{◌≡◌, ℕ, zero, suc, ◌+◌, ◌-◌, ◌<◌, ◌≤◌, Bool, true, false, not, ◌&&◌, ◌||◌, List, [], ◌∷◌, ◌++◌, length, take, drop, Some, None, nat_lt, if◌then◌else◌}
 use Rattle.std.specs.Option.{option_to_list}
 use Rattle.std.proofs.Common.{refl, sym, ap, ◌∙◌, subst, arith}
 use Rattle.std.proofs.lemmas.Bool.Decides.{nat_tests}
 use Rattle.std.proofs.lemmas.List.{append-nil, take_all, length-drop, drop-drop}
 use Rattle.backup_rules.specs.declared.lines.Line.{Line}
 use Rattle.merge_view.specs.Views.{Rows, view, reverse}
-use Rattle.backup_delete.specs.Trees.{tree_of, is_first_filled, is_gone, is_next_gone, needs_fold}
-use Rattle.backup_delete.specs.Folds.{next_tree, new_table, Change, replaced, change_of, changes, taken_tables}
+use Rattle.backup_delete.specs.Trees.{tree_of, is_first_filled, is_gone, are_gone, is_next_gone, needs_fold}
+use Rattle.backup_delete.specs.Folds.{next_tree, new_table, replaced, change_of, changes, taken_tables}
 use Rattle.backup_delete.specs.Windows.{part, any_gone, IsFilledStay, IsWindow}
 
 pub or_left : (a b : Bool) → (a || b) ≡ false → a ≡ false
@@ -18,6 +18,14 @@ or_left false b e = refl
 pub or_right : (a b : Bool) → (a || b) ≡ false → b ≡ false
 or_right true b e = absurd cc
 or_right false b e = e
+
+and_left : (a b : Bool) → (a && b) ≡ true → a ≡ true
+and_left true b e = refl
+and_left false b e = e
+
+and_right : (a b : Bool) → (a && b) ≡ true → b ≡ true
+and_right true b e = e
+and_right false b e = absurd cc
 
 -- the backups' number less one, if they are some
 one_less : (n : ℕ) → suc n - 1 ≡ n
@@ -54,6 +62,11 @@ module _ (numbers : List ℕ) where
   no_change line table newer tables stays same =
       ap (λ b. if b then Some (line.number, None) else replaced line.number (new_table numbers line table newer tables)) stays
       ∙ ap (λ b. replaced line.number (if b then Some (reverse (tree_of (line ∷ newer) (table ∷ tables)) (next_tree numbers newer tables)) else None)) same
+
+  one_gone : (line : Line) (table : Rows) (newer : List Line) (tables : List Rows) → is_gone numbers line.number ≡ true
+      → change_of numbers line table newer tables ≡ Some (line.number, None)
+  one_gone line table newer tables gone =
+      ap (λ b. if b then Some (line.number, None) else replaced line.number (new_table numbers line table newer tables)) gone
 
   one_same : (line : Line) (table : Rows) (newer : List Line) (tables : List Rows) → is_gone numbers line.number ≡ false
       → needs_fold numbers line newer ≡ false
@@ -177,6 +190,36 @@ module _ (numbers : List ℕ) where
       (λ i. if is_gone numbers line.number || (not line.filled && next_gone_before n lines i)
       then table ∷ taken_before n lines tables none is i else taken_before n lines tables none is i)
 
+  -- ---- without those behind it, if all before these are deleted
+
+  changes_gone : (n : ℕ) (lines : List Line) (tables : List Rows) → are_gone numbers (take n lines) ≡ true
+      → any_gone numbers (drop n lines) ≡ false → changes numbers lines tables ≡ changes numbers (take n lines) (take n tables)
+  changes_gone zero lines tables gone none = all_same lines tables none
+  changes_gone (suc n) [] tables gone none = refl
+  changes_gone (suc n) (line ∷ lines) [] gone none = refl
+  changes_gone (suc n) (line ∷ lines) (table ∷ tables) gone none =
+      (λ i. changes_gone n lines tables (and_right (is_gone numbers line.number) (are_gone numbers (take n lines)) gone) none i
+      ++ option_to_list (one_gone line table lines tables (and_left (is_gone numbers line.number) (are_gone numbers (take n lines)) gone) i))
+      ∙ sym (ap (λ c. changes numbers (take n lines) (take n tables) ++ option_to_list c)
+      (one_gone line table (take n lines) (take n tables) (and_left (is_gone numbers line.number) (are_gone numbers (take n lines)) gone)))
+
+  taken_gone : (n : ℕ) (lines : List Line) (tables : List Rows) → are_gone numbers (take n lines) ≡ true
+      → any_gone numbers (drop n lines) ≡ false → taken_tables numbers lines tables ≡ taken_tables numbers (take n lines) (take n tables)
+  taken_gone zero lines tables gone none = all_left lines tables none
+  taken_gone (suc n) [] tables gone none = refl
+  taken_gone (suc n) (line ∷ lines) [] gone none = refl
+  taken_gone (suc n) (line ∷ lines) (table ∷ tables) gone none =
+      let here = and_left (is_gone numbers line.number) (are_gone numbers (take n lines)) gone in
+      let rest = and_right (is_gone numbers line.number) (are_gone numbers (take n lines)) gone in
+      (λ i. if here i || needs_fold numbers line lines then table ∷ taken_gone n lines tables rest none i else taken_tables numbers lines tables)
+      ∙ sym (λ i. if here i || needs_fold numbers line (take n lines) then table ∷ taken_tables numbers (take n lines) (take n tables)
+      else taken_tables numbers (take n lines) (take n tables))
+
+  -- if one of them stays there is one
+  not_none : (n : ℕ) (lines : List Line) → are_gone numbers (take n lines) ≡ false → 0 < n
+  not_none zero lines stay = absurd cc
+  not_none (suc n) lines stay = omega arith
+
   -- ---- both
 
   -- what is told of backups from the first one on, and up to another, is told of the part
@@ -184,7 +227,9 @@ module _ (numbers : List ℕ) where
       (behind : (n : ℕ) (lines : List Line) (tables : List Rows) → any_gone numbers (take n lines) ≡ false
       → is_next_gone numbers (drop n lines) ≡ false → f lines tables ≡ f (drop n lines) (drop n tables))
       (before : (n : ℕ) (lines : List Line) (tables : List Rows) → any_gone numbers (drop (suc n) lines) ≡ false
-      → IsFilledStay numbers (drop n lines) → f lines tables ≡ f (take (suc n) lines) (take (suc n) tables)) where
+      → IsFilledStay numbers (drop n lines) → f lines tables ≡ f (take (suc n) lines) (take (suc n) tables))
+      (all : (n : ℕ) (lines : List Line) (tables : List Rows) → are_gone numbers (take n lines) ≡ true
+      → any_gone numbers (drop n lines) ≡ false → f lines tables ≡ f (take n lines) (take n tables)) where
     from_first : (n : ℕ) (lines : List Line) (tables : List Rows) → any_gone numbers (take n lines) ≡ false
         → (0 < n → is_next_gone numbers (drop n lines) ≡ false) → f lines tables ≡ f (drop n lines) (drop n tables)
     from_first zero lines tables none stays = refl
@@ -197,18 +242,23 @@ module _ (numbers : List ℕ) where
         before n lines tables none (subst (λ m. IsFilledStay numbers (drop m lines)) (one_less n) is)
 
     up_to_end : (n : ℕ) (lines : List Line) (tables : List Rows) → length tables ≡ length lines
-        → any_gone numbers (drop n lines) ≡ false → (n < length lines → 0 < n)
-        → (n < length lines → IsFilledStay numbers (drop (n - 1) lines)) → f lines tables ≡ f (take n lines) (take n tables)
-    up_to_end n lines tables same none some is = step (nat_lt n (length lines)) refl
+        → any_gone numbers (drop n lines) ≡ false
+        → (n < length lines → are_gone numbers (take n lines) ≡ false → IsFilledStay numbers (drop (n - 1) lines))
+        → f lines tables ≡ f (take n lines) (take n tables)
+    up_to_end n lines tables same none is = step (nat_lt n (length lines)) refl
       where
+        cut : n < length lines → (b : Bool) → are_gone numbers (take n lines) ≡ b → f lines tables ≡ f (take n lines) (take n tables)
+        cut less true e = all n lines tables e none
+        cut less false e = cut_at n lines tables none (not_none n lines e) (is less e)
+
         step : (b : Bool) → nat_lt n (length lines) ≡ b → f lines tables ≡ f (take n lines) (take n tables)
         step true e =
             let less : n < length lines = grind (arith, nat_tests, e) in
-            cut_at n lines tables none (some less) (is less)
+            cut less (are_gone numbers (take n lines)) refl
         step false e =
-            let all : length lines ≤ n = grind (arith, nat_tests, e) in
-            let rows : length tables ≤ n = omega (arith, all, same) in
-            sym (λ i. f (take_all n lines all i) (take_all n tables rows i))
+            let whole : length lines ≤ n = grind (arith, nat_tests, e) in
+            let rows : length tables ≤ n = omega (arith, whole, same) in
+            sym (λ i. f (take_all n lines whole i) (take_all n tables rows i))
 
     told_by_part : (lines : List Line) (tables : List Rows) (first end : ℕ) → IsWindow numbers lines first end
         → length tables ≡ length lines → f lines tables ≡ f (part first end lines) (part first end tables)
@@ -217,14 +267,14 @@ module _ (numbers : List ℕ) where
         ∙ up_to_end (end - first) (drop first lines) (drop first tables)
         (length-drop first tables ∙ ap (λ n. n - first) same ∙ sym (length-drop first lines))
         (subst (λ ls. any_gone numbers ls ≡ false) (sym (at_end first end lines w.rises)) w.behind)
-        (λ less. inside first end (w.some_before (shorter less)))
-        (λ less. subst (IsFilledStay numbers) (sym (at_last first end lines (w.some_before (shorter less)))) (w.newest (shorter less)))
+        (λ less stay. subst (IsFilledStay numbers) (sym (at_last first end lines (risen first end (not_none (end - first) (drop first lines) stay))))
+        (w.newest (shorter less) stay))
       where
         shorter : end - first < length (drop first lines) → end < length lines
         shorter less = let short = length-drop first lines in omega (arith, less, short, w.rises)
 
-        inside : (first end : ℕ) → first < end → 0 < end - first
-        inside first end less = omega (arith, less)
+        risen : (first end : ℕ) → 0 < end - first → first < end
+        risen first end more = omega (arith, more)
 
         at_end : (first end : ℕ) (lines : List Line) → first ≤ end → drop (end - first) (drop first lines) ≡ drop end lines
         at_end first end lines less =
@@ -240,10 +290,10 @@ module _ (numbers : List ℕ) where
   -- what becomes of the tables is told by the part alone
   pub changes-part : (lines : List Line) (tables : List Rows) (first end : ℕ) → IsWindow numbers lines first end
       → length tables ≡ length lines → changes numbers lines tables ≡ changes numbers (part first end lines) (part first end tables)
-  changes-part = told_by_part (changes numbers) changes_behind changes_before
+  changes-part = told_by_part (changes numbers) changes_behind changes_before changes_gone
 
   -- and so are the tables that are removed or replaced
   pub taken-part : (lines : List Line) (tables : List Rows) (first end : ℕ) → IsWindow numbers lines first end
       → length tables ≡ length lines
       → taken_tables numbers lines tables ≡ taken_tables numbers (part first end lines) (part first end tables)
-  taken-part = told_by_part (taken_tables numbers) taken_behind taken_before
+  taken-part = told_by_part (taken_tables numbers) taken_behind taken_before taken_gone

@@ -5,7 +5,7 @@
 --     IsWindow      every table that changes, and every table that the changes are computed from, lies in the part
 use Rattle.std.specs.Prelude.{◌≡◌, ℕ, ◌-◌, ◌<◌, ◌≤◌, Bool, true, false, ◌||◌, List, [], ◌∷◌, length, take, drop}
 use Rattle.backup_rules.specs.declared.lines.Line.{Line}
-use Rattle.backup_delete.specs.Trees.{is_first_filled, is_gone, is_next_gone}
+use Rattle.backup_delete.specs.Trees.{is_first_filled, is_gone, are_gone, is_next_gone}
 
 -- the items from an index on and before another
 abbrev pub part : {A : Type 0} → ℕ → ℕ → List A → List A
@@ -23,7 +23,8 @@ pub record IsFilledStay (numbers : List ℕ) (lines : List Line) : Type 0 where
 
 -- The backups from `first` on and before `end`: none before them and none behind them is deleted. Unless they begin with the
 -- oldest of all, their first one stays, so no table before it is relative to a deleted backup. Unless they end with the newest of
--- all, their last one is filled and stays, so its table is its tree, and no tree of theirs is computed from a table behind it.
+-- all, or all of them are deleted, their last one is filled and stays, so its table is its tree, and no tree of theirs is computed
+-- from a table behind it.
 pub record IsWindow (numbers : List ℕ) (lines : List Line) (first end : ℕ) : Type 0 where
   pub within : end ≤ length lines
   pub before : any_gone numbers (take first lines) ≡ false
@@ -31,5 +32,4 @@ pub record IsWindow (numbers : List ℕ) (lines : List Line) (first end : ℕ) :
   pub rises : first ≤ end
   pub some : 0 < first → first < end
   pub oldest : 0 < first → is_next_gone numbers (drop first lines) ≡ false
-  pub some_before : end < length lines → first < end
-  pub newest : end < length lines → IsFilledStay numbers (drop (end - 1) lines)
+  pub newest : end < length lines → are_gone numbers (part first end lines) ≡ false → IsFilledStay numbers (drop (end - 1) lines)

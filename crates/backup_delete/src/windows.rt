@@ -4,7 +4,7 @@ ghost use Rattle.std.specs.Prelude.{◌≡◌, ◌-◌, ◌<◌, ◌≤◌, List
 ghost use Rattle.disk_trait.specs.declared.ids.PoolId.{PoolId};
 ghost use Rattle.merge_view.specs.Views.{Rows};
 ghost use Rattle.ref_counts.specs.Numbers.{number, total, capped};
-ghost use Rattle.backup_delete.specs.Trees.{is_first_filled};
+ghost use Rattle.backup_delete.specs.Trees.{is_first_filled, are_gone};
 ghost use Rattle.backup_delete.specs.Folds.{left_lines, changes, added_tables, taken_tables};
 ghost use Rattle.backup_delete.specs.Windows.{part, any_gone, IsWindow};
 
@@ -72,8 +72,40 @@ fn behind_filled(lines: &[Line], from: usize) -> usize
     }
 }
 
+/// Whether all of the backups are deleted.
+fn are_gone(lines: &[Line], numbers: &Gone) -> bool
+    ensures { result ≡ are_gone numbers.now lines.now }
+{
+    let mut rest = lines;
+    'up: while let [line, newer @ ..] = rest {
+        if !is_gone(numbers, line.number) {
+            return false;
+        }
+        rest = newer;
+    }
+    true
+}
+
+/// The end of a window that begins at an index, if none from another one on is deleted: that one if all from the first on are
+/// deleted, since then no tree is computed; else the index behind the first filled one from there on.
+fn window_end(lines: &[Line], numbers: &Gone, first: usize, behind: usize) -> usize
+    requires rises { first ≤ behind }
+    requires within { behind ≤ length lines.now }
+    ensures after { behind ≤ result }
+    ensures within { result ≤ length lines.now }
+    ensures more { result < length lines.now → are_gone numbers.now (part first result lines.now) ≡ false → behind < result }
+    ensures filled { result < length lines.now → are_gone numbers.now (part first result lines.now) ≡ false
+        → is_first_filled (drop (result - 1) lines.now) ≡ true }
+{
+    if are_gone(&lines[first..behind], numbers) {
+        return behind;
+    }
+    behind_filled(lines, behind)
+}
+
 /// The part of a host's backups that their deletion touches, or want of memory: from the older neighbour of the oldest one
-/// that is deleted up to the first filled one behind the newest of them, or to the end.
+/// that is deleted up to the first filled one behind the newest of them, or to the end; or just those that are deleted, if they
+/// are the oldest of all.
 pub fn window_of(alloc: Global, lines: &[Line], numbers: &[u32]) -> Result<Window, AllocError>
     ensures { IfOk result (λ window. IsWindow numbers.now lines.now window.first window.end) }
 {
@@ -82,7 +114,7 @@ pub fn window_of(alloc: Global, lines: &[Line], numbers: &[u32]) -> Result<Windo
     let oldest = oldest_gone(lines, &gone);
     let behind = behind_gone(lines, &gone, oldest);
     let first = oldest.saturating_sub(1);
-    let end = behind_filled(lines, behind);
+    let end = window_end(lines, &gone, first, behind);
     Ok(Window { first, end })
 }
 

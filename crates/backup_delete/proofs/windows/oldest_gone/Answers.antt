@@ -1,5 +1,5 @@
 -- The next backup stays, too.
-use Rattle.std.proofs.Common.{◌≡◌, ◌+◌, ◌<◌, ℕ, zero, suc, Bool, true, false, ◌||◌, List, [], ◌∷◌, length, take, refl, sym, ap, ◌∙◌, add-one, arith}
+use Rattle.std.proofs.Common.{◌≡◌, ℕ, zero, suc, Bool, true, false, ◌||◌, List, [], ◌∷◌, take, refl, sym, ap, ◌∙◌, add-one, arith}
 use Rattle.backup_rules.specs.declared.lines.Line.{Line}
 use Rattle.backup_delete.specs.Trees.{is_gone}
 use Rattle.backup_delete.specs.Windows.{any_gone}

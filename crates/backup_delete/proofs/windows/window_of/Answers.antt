@@ -1,8 +1,8 @@
 -- From the older neighbour of the oldest one on, none before it is deleted; up to a filled one, none behind it.
 use Rattle.std.proofs.Common.{◌≡◌, ◌-◌, ◌<◌, ◌≤◌, ℕ, zero, suc, Bool, true, false, ◌||◌, List, [], ◌∷◌, length, take, drop, refl, arith, rules}
 use Rattle.backup_rules.specs.declared.lines.Line.{Line}
-use Rattle.backup_delete.specs.Trees.{is_first_filled, is_gone, is_next_gone}
-use Rattle.backup_delete.specs.Windows.{any_gone, IsWindow}
+use Rattle.backup_delete.specs.Trees.{is_first_filled, is_gone, are_gone, is_next_gone}
+use Rattle.backup_delete.specs.Windows.{part, any_gone, IsWindow}
 use Rattle.backup_delete.specs.WindowLaws.{or_left, or_right}
 use Rattle.backup_delete.proofs.windows.window_of.Goals as goal
 
@@ -43,7 +43,8 @@ module _ (numbers : List ℕ) where
 
   is_window : (lines : List Line) (oldest behind first end : ℕ) → any_gone numbers (take oldest lines) ≡ false → oldest ≤ behind
       → any_gone numbers (drop behind lines) ≡ false → first ≡ oldest - 1 → behind ≤ end → end ≤ length lines
-      → (end < length lines → behind < end) → (end < length lines → is_first_filled (drop (end - 1) lines) ≡ true)
+      → (end < length lines → are_gone numbers (part first end lines) ≡ false → behind < end)
+      → (end < length lines → are_gone numbers (part first end lines) ≡ false → is_first_filled (drop (end - 1) lines) ≡ true)
       → IsWindow numbers lines first end
   is_window lines oldest behind first end none after rest is more within some filled = record {
     within = within;
@@ -52,11 +53,10 @@ module _ (numbers : List ℕ) where
     rises = omega (arith, is, after, more);
     some = λ newer. omega (arith, newer, is, after, more);
     oldest = λ newer. stays_before first oldest lines (omega (arith, newer, is)) none;
-    some_before = λ less. let past = some less in omega (arith, is, after, past);
-    newest = λ less.
-        let past = some less in
+    newest = λ less stay.
+        let past = some less stay in
         record {
-          filled = filled less;
+          filled = filled less stay;
           stays = first_stays (drop (end - 1) lines) (fewer_behind behind (end - 1) lines (omega (arith, past)) rest);
         };
   }
@@ -64,6 +64,6 @@ module _ (numbers : List ℕ) where
 pub returns : goal.returns
 returns c =
     is_window c.args.numbers.now c.args.lines.now c.oldest_gone-oldest.result c.behind_gone-behind.result c.saturating_sub-first.result
-    c.behind_filled-end.result c.oldest_gone-oldest.ensures.before c.behind_gone-behind.ensures.after c.behind_gone-behind.ensures.behind
-    (search rules) c.behind_filled-end.ensures.after c.behind_filled-end.ensures.within c.behind_filled-end.ensures.more
-    c.behind_filled-end.ensures.filled
+    c.window_end-end.result c.oldest_gone-oldest.ensures.before c.behind_gone-behind.ensures.after c.behind_gone-behind.ensures.behind
+    (search rules) c.window_end-end.ensures.after c.window_end-end.ensures.within c.window_end-end.ensures.more
+    c.window_end-end.ensures.filled
