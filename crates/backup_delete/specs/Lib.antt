@@ -2,6 +2,7 @@ pub mod Counted
 pub mod FoldLaws
 pub mod Folds
 pub mod LineLaws
+pub mod Lookups
 pub mod RunFolds
 pub mod TableLaws
 pub mod Trees

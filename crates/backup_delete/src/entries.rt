@@ -2,9 +2,12 @@
 
 ghost use Rattle.std.specs.Prelude.{◌≡◌, IfOk};
 ghost use Rattle.std.specs.Option.{option_copied};
+ghost use Rattle.attr_records.specs.Paths.{path_cmp};
+ghost use Rattle.ordered_lists.specs.Order.{IsInOrder};
 ghost use Rattle.ordered_lists.specs.Merge.{entry_at};
 ghost use Rattle.backup_delete.specs.RunFolds.{differing, elsewhere, resolved, remaining};
 
+use crate::lookups::{are_few, remaining_by_lookup, resolved_by_lookup};
 use attr_tables::{Row, Table};
 use ordered_lists::{Rule, merge};
 use std::alloc::{AllocError, Global};
@@ -122,19 +125,34 @@ impl Rule for Elsewhere {
     }
 }
 
+/// The entries at a table's paths that differ from it, or want of memory: a look-up for each if they are few, else one
+/// pass over both.
 fn resolved_rows(alloc: Global, entries: &[Row], table: &[Row]) -> Result<Vec<Row>, AllocError>
+    requires entries { IsInOrder path_cmp entries.now }
+    requires table { IsInOrder path_cmp table.now }
     ensures { IfOk result (λ rows. rows.items ≡ resolved entries.now table.now) }
 {
+    if are_few(entries, table) {
+        return resolved_by_lookup(alloc, entries, table);
+    }
     merge::<Differing>(alloc, entries, table)
 }
 
+/// The entries at other paths than a table's, or want of memory: a look-up for each if they are few, else one pass over
+/// both.
 fn remaining_rows(alloc: Global, entries: &[Row], table: &[Row]) -> Result<Vec<Row>, AllocError>
+    requires entries { IsInOrder path_cmp entries.now }
+    requires table { IsInOrder path_cmp table.now }
     ensures { IfOk result (λ rows. rows.items ≡ remaining entries.now table.now) }
 {
+    if are_few(entries, table) {
+        return remaining_by_lookup(alloc, entries, table);
+    }
     merge::<Elsewhere>(alloc, entries, table)
 }
 
-/// The entries at a table's paths that differ from it, or want of memory: one pass over both.
+/// The entries at a table's paths that differ from it, or want of memory: one pass over both, or over the entries alone
+/// if they are few.
 #[tactic(auto, using(crate::specs::RunFolds::resolved_in_order))]
 pub(crate) fn resolved(alloc: Global, entries: &Table, table: &Table) -> Result<Table, AllocError>
     ensures { IfOk result (λ here. here ≡ resolved entries.now table.now) }
@@ -143,7 +161,8 @@ pub(crate) fn resolved(alloc: Global, entries: &Table, table: &Table) -> Result<
     Ok(Table::from_rows(rows))
 }
 
-/// The entries at other paths than a table's, or want of memory: one pass over both.
+/// The entries at other paths than a table's, or want of memory: one pass over both, or over the entries alone if they
+/// are few.
 #[tactic(auto, using(crate::specs::RunFolds::remaining_in_order))]
 pub(crate) fn remaining(alloc: Global, entries: &Table, table: &Table) -> Result<Table, AllocError>
     ensures { IfOk result (λ rest. rest ≡ remaining entries.now table.now) }

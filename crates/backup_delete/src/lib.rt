@@ -24,6 +24,7 @@ mod changes;
 mod deletion;
 mod entries;
 mod lines;
+mod lookups;
 mod numbers;
 mod runs;
 mod trees;
