@@ -84,7 +84,7 @@ module _ (lines : List Line) (tables : List Rows) where
   abbrev pub tree_from : ℕ → Rows
   tree_from n = tree_of (drop n lines) (drop n tables)
 
-  from_order : (n : ℕ) → AllInOrder tables → IsInOrder path_cmp (tree_from n)
+  pub from_order : (n : ℕ) → AllInOrder tables → IsInOrder path_cmp (tree_from n)
   from_order n all = tree_order (drop n lines) (drop n tables) (order_drop n tables all)
 
   -- the tree of one that isn't filled

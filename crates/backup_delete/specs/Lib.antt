@@ -5,6 +5,7 @@ pub mod LineLaws
 pub mod Lookups
 pub mod RunFolds
 pub mod TableLaws
+pub mod Towers
 pub mod Trees
 pub mod Walks
 pub mod Windows

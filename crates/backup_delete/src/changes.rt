@@ -6,6 +6,7 @@ ghost use Rattle.merge_view.specs.Tables.{AllInOrder};
 ghost use Rattle.backup_delete.specs.Folds.{changes};
 
 use crate::numbers::Gone;
+use crate::tower::{begun, reach};
 use crate::walk::step;
 use attr_tables::Table;
 use backup_rules::Line;
@@ -78,12 +79,15 @@ pub(crate) fn changes(
     ensures { IfOk result (λ all. all.items ≡ changes numbers.now lines.now tables.now) }
 {
     let mut all = Vec::new(alloc);
+    let mut tower = begun(alloc, lines, numbers);
     let mut next = lines.len();
     let mut index = lines.len();
     'down: while index > 0 {
         index -= 1;
-        let change = step(alloc, lines, tables, numbers, index, &mut next)?;
+        let newer = next;
+        let change = step(alloc, lines, tables, numbers, index, &mut next, &tower)?;
         push_change(&mut all, change)?;
+        reach(alloc, lines, tables, next, newer, &mut tower)?;
     }
     Ok(all)
 }

@@ -1,12 +1,14 @@
 //! A new table, by the tables of a run of deleted neighbours and those of the newer backups.
 
-ghost use Rattle.std.specs.Prelude.{◌≡◌, ◌<◌, ◌≤◌, false, length, drop, IfOk};
+ghost use Rattle.std.specs.Prelude.{◌≡◌, ◌<◌, ◌≤◌, ℕ, false, length, drop, IfOk};
 ghost use Rattle.merge_view.specs.Views.{reverse, trimmed};
 ghost use Rattle.merge_view.specs.Tables.{AllInOrder};
 ghost use Rattle.backup_delete.specs.Trees.{tree_of};
 ghost use Rattle.backup_delete.specs.RunFolds.{goes_on};
+ghost use Rattle.backup_delete.specs.Towers.{IsStack, IsBase, MayStand};
 
 use crate::entries::{remaining, resolved};
+use crate::tower::{Block, Tower};
 use crate::trees::{first_filled, is_filled, run_entries, tree_at};
 use attr_tables::Table;
 use backup_rules::Line;
@@ -95,26 +97,86 @@ fn trimmed_by(
     Ok(stacked(alloc, &done, &last)?)
 }
 
+/// The entries that change the tree from which the blocks of a tower start, or want of memory: one pass over the blocks
+/// from the nearest on, up to the base, or until each entry's path was found.
+fn trimmed_in(
+    alloc: Global,
+    lines: &[Line],
+    tables: &[Table],
+    base: usize,
+    blocks: &[Block],
+    entries: &Table,
+) -> Result<Table, AllocError>
+    requires same { length tables.now ≡ length lines.now }
+    requires order { AllInOrder tables.now }
+    requires based { IsBase lines.now base }
+    ensures { IfOk result (λ kept. (start : ℕ) → IsStack lines.now tables.now base blocks.now start
+        → kept ≡ trimmed (tree_of (drop start lines.now) (drop start tables.now)) entries.now) }
+{
+    if entries.is_empty() {
+        return Ok(Table::new(alloc));
+    }
+    match blocks {
+        [] => Ok(last_trimmed(alloc, lines, tables, base, entries)?),
+        [farther @ .., block] => {
+            let _rows = entries.rows();
+            let _block_rows = block.entries.rows();
+            let here = resolved(alloc, entries, &block.entries)?;
+            let later = remaining(alloc, entries, &block.entries)?;
+            let rest = trimmed_in(alloc, lines, tables, base, farther, &later)?;
+            Ok(stacked(alloc, &here, &rest)?)
+        }
+    }
+}
+
+/// The entries that change the tree of the backup at an index, or want of memory: by the tower that stands for the tables
+/// from there on, if there is one.
+fn trimmed_at(
+    alloc: Global,
+    lines: &[Line],
+    tables: &[Table],
+    index: usize,
+    tower: &Option<Tower>,
+    entries: &Table,
+) -> Result<Table, AllocError>
+    requires same { length tables.now ≡ length lines.now }
+    requires order { AllInOrder tables.now }
+    requires within { index ≤ length lines.now }
+    requires stands { MayStand lines.now tables.now index tower.now }
+    ensures { IfOk result (λ kept. kept ≡ trimmed (tree_of (drop index lines.now) (drop index tables.now)) entries.now) }
+{
+    match tower {
+        None => trimmed_by(alloc, lines, tables, index, entries),
+        Some(tower) => {
+            let blocks = tower.blocks.as_slice();
+            let kept = trimmed_in(alloc, lines, tables, tower.base, blocks, entries)?;
+            Ok(kept)
+        }
+    }
+}
+
 /// The new table of the backup at an index whose next newer one that stays is at another, or want of memory. Only if a
-/// backup between is filled it takes both trees.
+/// backup between is filled it takes both trees. A tower, if there is one, stands for the tables from the newer one on.
 pub(crate) fn folded_table(
     alloc: Global,
     lines: &[Line],
     tables: &[Table],
     index: usize,
     next: usize,
+    tower: &Option<Tower>,
 ) -> Result<Table, AllocError>
     requires same { length tables.now ≡ length lines.now }
     requires order { AllInOrder tables.now }
     requires within { next ≤ length lines.now }
     requires below { index ≤ next }
+    requires stands { MayStand lines.now tables.now next tower.now }
     ensures { IfOk result (λ table. table
         ≡ reverse (tree_of (drop index lines.now) (drop index tables.now)) (tree_of (drop next lines.now) (drop next tables.now))) }
 {
     if first_filled(lines, index, next) == next {
         let entries = run_entries(alloc, lines, tables, index, next)?;
         let _rows = entries.rows();
-        return Ok(trimmed_by(alloc, lines, tables, next, &entries)?);
+        return Ok(trimmed_at(alloc, lines, tables, next, tower, &entries)?);
     }
     let older = tree_at(alloc, lines, tables, index)?;
     let newer = tree_at(alloc, lines, tables, next)?;

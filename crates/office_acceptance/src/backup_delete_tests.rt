@@ -139,13 +139,13 @@ fn the_newest_of_three_contents_is_deleted(rt: HostRuntime) -> Result<(), Fail> 
     Ok(())
 }
 
-// The content of each path in ten backups, the oldest first: A, B, C or none.
+// The content of each path in twenty backups, the oldest first: A, B, C or none.
 const PATHS: [(&[u8], &[u8]); 5] = [
-    (b"a", b"ABCABCABCA"),
-    (b"b", b"AABBCC--AA"),
-    (b"c", b"-AAA-BBB-A"),
-    (b"d", b"--AAAAAAAA"),
-    (b"e", b"BBBBBBBBBB"),
+    (b"a", b"ABCABCABCAAAAAAAAAAB"),
+    (b"b", b"AABBCC--AAAAAAACCCCC"),
+    (b"c", b"-AAA-BBB-AAAA--AAAAA"),
+    (b"d", b"--AAAAAAAAAAAAAAAAAA"),
+    (b"e", b"BBBBBBBBBBBBBBBBBBB-"),
 ];
 
 fn content(contents: &[u8], backup: u32) -> Option<PoolId> {
@@ -202,7 +202,7 @@ fn table_after<'a>(folded: &'a Folded, number: u32, before: &'a Table) -> Option
     Some(before)
 }
 
-// Of ten backups, which are filled, which are deleted, and which stay.
+// Of the first backups, which are filled, which are deleted, and which stay.
 struct Deleted {
     filled: &'static [u32],
     gone: &'static [u32],
@@ -241,9 +241,9 @@ const DELETED: [Deleted; 5] = [
     },
 ];
 
-fn all_lines(alloc: Global, filled: &[u32]) -> Result<Vec<Line>, Fail> {
+fn all_lines(alloc: Global, all: &[u32], filled: &[u32]) -> Result<Vec<Line>, Fail> {
     let mut lines = Vec::new(alloc);
-    for number in &ALL {
+    for number in all {
         lines.push(line(*number, filled.contains(number)))?;
     }
     Ok(lines)
@@ -298,9 +298,9 @@ fn expect_counts(
     Ok(())
 }
 
-fn expect_stored(alloc: Global, case: &Deleted) -> Result<(), Fail> {
-    let lines = all_lines(alloc, case.filled)?;
-    let tables = stored(alloc, &ALL, case.filled)?;
+fn expect_stored(alloc: Global, all: &[u32], case: &Deleted) -> Result<(), Fail> {
+    let lines = all_lines(alloc, all, case.filled)?;
+    let tables = stored(alloc, all, case.filled)?;
     let wanted = stored(alloc, case.left, case.filled)?;
     if tables.len() != lines.len() || wanted.len() != case.left.len() {
         return Err(Fail::new("another number of tables"));
@@ -314,7 +314,33 @@ fn expect_stored(alloc: Global, case: &Deleted) -> Result<(), Fail> {
 #[test]
 fn what_is_left_is_stored_by_the_definition(rt: HostRuntime) -> Result<(), Fail> {
     for case in &DELETED {
-        expect_stored(rt.alloc(), case)?;
+        expect_stored(rt.alloc(), &ALL, case)?;
+    }
+    Ok(())
+}
+
+const MANY: [u32; 20] = [
+    0, 1, 2, 3, 4, 5, 6, 7, 8, 9, 10, 11, 12, 13, 14, 15, 16, 17, 18, 19,
+];
+
+// Nine runs of one backup each; the filled one in the middle stays, or is one of them.
+const MANY_DELETED: [Deleted; 2] = [
+    Deleted {
+        filled: &[10, 19],
+        gone: &[1, 3, 5, 7, 9, 11, 13, 15, 17],
+        left: &[0, 2, 4, 6, 8, 10, 12, 14, 16, 18, 19],
+    },
+    Deleted {
+        filled: &[9, 19],
+        gone: &[1, 3, 5, 7, 9, 11, 13, 15, 17],
+        left: &[0, 2, 4, 6, 8, 10, 12, 14, 16, 18, 19],
+    },
+];
+
+#[test]
+fn many_runs_are_deleted(rt: HostRuntime) -> Result<(), Fail> {
+    for case in &MANY_DELETED {
+        expect_stored(rt.alloc(), &MANY, case)?;
     }
     Ok(())
 }
