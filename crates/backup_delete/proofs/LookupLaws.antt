@@ -17,8 +17,9 @@ use Rattle.attr_records.specs.Paths.{path_cmp}
 use Rattle.attr_records.specs.PathLaws.{path_cmp_total}
 use Rattle.attr_tables.specs.Records.{is_same_record}
 use Rattle.attr_tables.specs.declared.records.Record.{Record}
-use Rattle.merge_view.specs.Views.{Rows}
-use Rattle.backup_delete.specs.Lookups.{differs, is_alone, resolved_by_lookup, remaining_by_lookup}
+use Rattle.attr_tables.specs.declared.records.Record.TheVariants.{File, Dir, Link, Deleted}
+use Rattle.merge_view.specs.Views.{Rows, needed, trimmed}
+use Rattle.backup_delete.specs.Lookups.{differs, is_alone, is_needed, resolved_by_lookup, remaining_by_lookup, trimmed_by_lookup}
 use Rattle.backup_delete.specs.RunFolds.{differing, elsewhere, resolved, remaining}
 
 module _ {K X Y : Type 0} (R : K → K → Ordering) (total : IsTotalOrder R) (f : Option X → Option Y → Option X) (test : X → Option Y → Bool) where
@@ -98,6 +99,26 @@ pub remaining_is : (entries table : Rows) → IsInOrder path_cmp entries → IsI
     → remaining entries table ≡ remaining_by_lookup entries table
 remaining_is entries table g h =
     merge-looked_up path_cmp path_cmp_total elsewhere is_alone (λ base. refl) elsewhere_made entries table g h
+
+-- the rule of the entries that change a tree
+other_made : (entry : Record) (same : Bool) → cond same None (Some entry) ≡ cond (not same) (Some entry) None
+other_made entry true = refl
+other_made entry false = refl
+
+needed_made : (entry : Record) (there : Option Record) → needed (Some entry) there ≡ cond (is_needed entry there) (Some entry) None
+needed_made Deleted None = refl
+needed_made Deleted (Some base) = refl
+needed_made (File file) None = refl
+needed_made (File file) (Some base) = other_made (File file) (is_same_record (File file) base)
+needed_made (Dir dir) None = refl
+needed_made (Dir dir) (Some base) = other_made (Dir dir) (is_same_record (Dir dir) base)
+needed_made (Link link) None = refl
+needed_made (Link link) (Some base) = other_made (Link link) (is_same_record (Link link) base)
+
+pub trimmed_is : (tree entries : Rows) → IsInOrder path_cmp tree → IsInOrder path_cmp entries
+    → trimmed tree entries ≡ trimmed_by_lookup tree entries
+trimmed_is tree entries h g =
+    merge-looked_up path_cmp path_cmp_total needed is_needed (λ base. refl) needed_made entries tree g h
 
 -- one entry more of a loop over entries, and its end
 module _ {A : Type 0} (p : A → Bool) where

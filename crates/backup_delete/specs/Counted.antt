@@ -1,6 +1,6 @@
 -- What the tables that a deletion writes, removes and replaces change of the totals.
 --     folded-total      what is left and what is taken is what there was and what is added
-use Rattle.std.specs.Prelude.{◌≡◌, ℕ, suc, ◌+◌, ◌≤◌, Bool, true, false, not, ◌&&◌, ◌||◌, List, [], ◌∷◌, ◌++◌, length, Option, Some, None, if◌then◌else◌}
+use Rattle.std.specs.Prelude.{◌≡◌, ℕ, suc, ◌+◌, ◌≤◌, Bool, true, false, ◌||◌, List, [], ◌∷◌, ◌++◌, length, Some, None, if◌then◌else◌}
 use Rattle.std.specs.Option.{unwrap_or, option_to_list}
 use Rattle.std.proofs.Common.{refl, sym, ap, ◌∙◌, arith}
 use Rattle.std.proofs.lemmas.List.Elements.{filter_map-append}
@@ -11,7 +11,7 @@ use Rattle.stored_trees.specs.Occurrences.{occurrences}
 use Rattle.ref_counts.specs.Numbers.{total}
 use Rattle.ref_counts.specs.NumberLaws.{total-append}
 use Rattle.backup_delete.specs.Trees.{tree_of, is_gone, needs_fold}
-use Rattle.backup_delete.specs.Folds.{next_tree, new_table, folded_tables, Change, replaced, change_of, changes, added_tables, taken_tables}
+use Rattle.backup_delete.specs.Folds.{next_tree, folded_tables, Change, replaced, change_of, changes, added_tables, taken_tables}
 
 one_less : (m n : ℕ) → suc m ≡ suc n → m ≡ n
 one_less m n e = omega arith

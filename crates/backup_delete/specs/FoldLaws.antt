@@ -1,15 +1,15 @@
 -- The tables that a deletion makes are those that the shorter list of backups is stored as.
 --     tree_of-stored      the tree of the first of stored backups
 --     folded-stored      the tables of those that stay
-use Rattle.std.specs.Prelude.{◌≡◌, ℕ, suc, Bool, true, false, not, ◌&&◌, List, [], ◌∷◌, length, Option, Some, None, if◌then◌else◌}
+use Rattle.std.specs.Prelude.{◌≡◌, ℕ, suc, Bool, true, false, not, ◌&&◌, List, [], ◌∷◌, length, Some, None, if◌then◌else◌}
 use Rattle.std.specs.Option.{unwrap_or}
 use Rattle.std.proofs.Common.{refl, sym, ap, ◌∙◌, arith}
 use Rattle.backup_rules.specs.declared.lines.Line.{Line}
-use Rattle.merge_view.specs.Views.{Rows, IsWhole, view, reverse}
+use Rattle.merge_view.specs.Views.{Rows, view, reverse}
 use Rattle.merge_view.specs.ViewLaws.{view-reverse}
 use Rattle.merge_view.specs.TableLaws.{view-nil}
 use Rattle.ref_counts.specs.Stored.{Backup, stored_before, stored, AreWhole}
-use Rattle.backup_delete.specs.Trees.{tree_of, backups, is_gone, are_gone, is_next_gone, needs_fold}
+use Rattle.backup_delete.specs.Trees.{tree_of, backups, is_gone, are_gone, needs_fold}
 use Rattle.backup_delete.specs.Folds.{filled, left_lines, left_trees, next_tree, new_table, folded_tables}
 
 -- the first of trees, empty if there is none

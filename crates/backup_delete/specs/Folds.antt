@@ -2,7 +2,7 @@
 --     left_lines, left_trees      the lines and the trees of those that stay; the last of them becomes filled
 --     folded_tables      their tables
 --     changes      what becomes of tables, the newest first: a table, or None where it is removed
-use Rattle.std.specs.Prelude.{ℕ, ◌==◌, Bool, true, false, ◌||◌, List, [], ◌∷◌, ◌++◌, Option, Some, None, if◌then◌else◌}
+use Rattle.std.specs.Prelude.{ℕ, ◌==◌, true, ◌||◌, List, [], ◌∷◌, ◌++◌, Option, Some, None, if◌then◌else◌}
 use Rattle.std.specs.Option.{unwrap_or, option_to_list}
 use Rattle.std.specs.List.{filter_map}
 use Rattle.backup_rules.specs.declared.lines.Line.{Line}

@@ -1,6 +1,6 @@
 -- Lines that are kept, the last of them filled, are those that stay.
-use Rattle.std.specs.Prelude.{◌≡◌, ℕ, Bool, true, false, not, ◌&&◌, List, [], ◌∷◌, if◌then◌else◌}
-use Rattle.std.proofs.Common.{refl, sym, ap, ◌∙◌}
+use Rattle.std.specs.Prelude.{◌≡◌, ℕ, Bool, true, false, ◌&&◌, List, [], ◌∷◌, if◌then◌else◌}
+use Rattle.std.proofs.Common.{refl, ◌∙◌}
 use Rattle.backup_rules.specs.declared.lines.Line.{Line}
 use Rattle.backup_index.specs.Lines.{is_none}
 use Rattle.backup_delete.specs.Trees.{is_gone, are_gone}

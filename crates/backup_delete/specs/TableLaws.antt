@@ -1,14 +1,14 @@
 -- The changes by numbers, and the lines that are left.
 --     changed-left      the tables after the changes are those of the lines that are left
 --     left-sound      the lines that are left keep the rules of a host's lines
-use Rattle.std.specs.Prelude.{◌≡◌, ℕ, ◌+◌, ◌≤◌, ◌<◌, ◌==◌, Bool, true, false, not, ◌&&◌, List, [], ◌∷◌, ◌++◌, Option, Some, None, if◌then◌else◌}
+use Rattle.std.specs.Prelude.{◌≡◌, ℕ, ◌+◌, ◌≤◌, ◌<◌, ◌==◌, Bool, true, false, List, [], ◌∷◌, ◌++◌, Option, Some, None, if◌then◌else◌}
 use Rattle.std.specs.Option.{unwrap_or, option_to_list}
-use Rattle.std.proofs.Common.{refl, sym, ap, ◌∙◌, subst, arith}
+use Rattle.std.proofs.Common.{refl, sym, ap, ◌∙◌, arith}
 use Rattle.std.proofs.lemmas.Bool.{false≢true}
 use Rattle.std.proofs.lemmas.Bool.Decides.{nat_tests}
 use borrow.Author.Tests.{eqb-true}
 use Rattle.backup_rules.specs.declared.lines.Line.{Line}
-use Rattle.backup_index.specs.Lines.{Follows, is_none, LinesFrom, IsSound}
+use Rattle.backup_index.specs.Lines.{LinesFrom, IsSound}
 use Rattle.merge_view.specs.Views.{Rows, reverse}
 use Rattle.backup_delete.specs.Trees.{tree_of, is_gone, are_gone, needs_fold}
 use Rattle.backup_delete.specs.LineLaws.{none_left}

@@ -5,10 +5,12 @@ ghost use Rattle.std.specs.Option.{option_copied};
 ghost use Rattle.attr_records.specs.Paths.{path_cmp};
 ghost use Rattle.ordered_lists.specs.Order.{IsInOrder};
 ghost use Rattle.ordered_lists.specs.Merge.{entry_at};
+ghost use Rattle.merge_view.specs.Views.{trimmed};
 ghost use Rattle.backup_delete.specs.RunFolds.{differing, elsewhere, resolved, remaining};
 
-use crate::lookups::{are_few, remaining_by_lookup, resolved_by_lookup};
+use crate::lookups::{are_few, remaining_by_lookup, resolved_by_lookup, trimmed_by_lookup};
 use attr_tables::{Row, Table};
+use merge_view::trimmed;
 use ordered_lists::{Rule, merge};
 use std::alloc::{AllocError, Global};
 use std::cmp::Ordering;
@@ -169,4 +171,15 @@ pub(crate) fn remaining(alloc: Global, entries: &Table, table: &Table) -> Result
 {
     let rows = remaining_rows(alloc, entries.rows(), table.rows())?;
     Ok(Table::from_rows(rows))
+}
+
+/// The entries that change a tree, or want of memory: one pass over both, or over the entries alone if they are few.
+pub(crate) fn changing(alloc: Global, tree: &Table, entries: &Table) -> Result<Table, AllocError>
+    ensures { IfOk result (λ kept. kept ≡ trimmed tree.now entries.now) }
+{
+    if are_few(entries.rows(), tree.rows()) {
+        let rows = trimmed_by_lookup(alloc, tree.rows(), entries.rows())?;
+        return Ok(Table::from_rows(rows));
+    }
+    Ok(trimmed(alloc, tree, entries)?)
 }

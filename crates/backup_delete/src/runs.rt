@@ -7,7 +7,7 @@ ghost use Rattle.backup_delete.specs.Trees.{tree_of};
 ghost use Rattle.backup_delete.specs.RunFolds.{goes_on};
 ghost use Rattle.backup_delete.specs.Towers.{IsStack, IsBase, MayStand};
 
-use crate::entries::{remaining, resolved};
+use crate::entries::{changing, remaining, resolved};
 use crate::tower::{Block, Tower};
 use crate::trees::{first_filled, is_filled, run_entries, tree_at};
 use attr_tables::Table;
@@ -61,7 +61,7 @@ fn last_trimmed(
     if index == lines.len() {
         return Ok(trimmed(alloc, &Table::new(alloc), entries)?);
     }
-    Ok(trimmed(alloc, &tables[index], entries)?)
+    Ok(changing(alloc, &tables[index], entries)?)
 }
 
 /// The entries that change the tree of the backup at an index, or want of memory: one pass over the tables from there

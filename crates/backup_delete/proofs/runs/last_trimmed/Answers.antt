@@ -6,7 +6,7 @@ use Rattle.backup_delete.proofs.runs.last_trimmed.Goals as goal
 pub returns : goal.returns
 returns c =
     last_is c.args.lines.now c.args.tables.now c.args.index c.index-tables-index.result c.args.entries.now _ (omega (arith, c.if-index-lines.false, c.requires.within)) c.requires.same
-    c.index-tables-index.is c.requires.last c.in_ok-trimmed-2.ensures.value
+    c.index-tables-index.is c.requires.last c.in_ok-changing.ensures
 
 pub returns-then-index-lines : goal.returns-then-index-lines
 returns-then-index-lines c =
