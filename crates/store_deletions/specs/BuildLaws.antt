@@ -1,6 +1,7 @@
 -- A plan is built of its parts.
 --     index_there      the index of the host
 --     same_left      the catalog's change leaves the lines of other numbers
+--     left_sound      these keep the rules of a host's lines
 --     built_of      the plan
 use Rattle.std.specs.Prelude.{◌≡◌, ℕ, zero, suc, ◌+◌, ◌-◌, ◌<◌, List, [], ◌∷◌, length, Some, slice_get, get_or}
 use Rattle.std.proofs.Common.{refl, sym, ap, ◌∙◌, subst}
@@ -9,11 +10,13 @@ use Rattle.disk_trait.specs.declared.ids.PoolId.{PoolId}
 use Rattle.disk_trait.specs.declared.ids.FileId.TheVariants.{Host as HostFile}
 use Rattle.intent_journal.specs.declared.changes.Change.{Change}
 use Rattle.backup_index.specs.Index.{Index as HostIndex}
+use Rattle.backup_index.specs.Lines.{IsSound}
 use Rattle.backup_rules.specs.declared.lines.Line.{Line}
 use Rattle.merge_view.specs.Views.{Rows}
 use Rattle.ref_counts.specs.Numbers.{Items, number, total, capped}
 use Rattle.ref_counts.specs.Layout.{IsCounts}
 use Rattle.backup_delete.specs.Folds.{left_lines, Change as TableChange, changes, added_tables, taken_tables}
+use Rattle.backup_delete.specs.TableLaws.{left-sound}
 use Rattle.backup_delete.specs.Windows.{part, IsWindow}
 use Rattle.office_catalog.specs.declared.edits.CatalogChange.{CatalogChange}
 use Rattle.office_catalog.specs.Known.{Known, known_of, IsCatalog, with_change, changed_at, given_lines}
@@ -45,6 +48,17 @@ same_left : (catalog : Known) (host : ℕ) (index : HostIndex) (numbers : List �
 same_left catalog host index numbers lines here are =
     ap (known_of catalog.epoch) (changed_alike (λ i. given_lines i.next lines i) (left_index numbers) catalog.hosts host index here
     (ap (λ (ls : List Line). given_lines index.next ls index) are))
+
+some_same : {A : Type 0} (x y : A) → Some x ≡ Some y → x ≡ y
+some_same x y e = cc
+
+-- the lines of other numbers keep the rules of a host's lines
+pub left_sound : (hosts : List HostIndex) (host : ℕ) (index : HostIndex) (numbers : List ℕ) (lines : List Line) → IsCatalog hosts
+    → slice_get hosts host ≡ Some index → lines ≡ left_lines numbers index.lines
+    → (other : HostIndex) → slice_get hosts host ≡ Some other → IsSound other.next lines
+left_sound hosts host index numbers lines are here lines_are other there =
+    subst (λ (i : HostIndex). IsSound i.next lines) (some_same index other (sym here ∙ there))
+    (subst (IsSound index.next) (sym lines_are) (left-sound numbers index.next index.lines (are.each host index here).sound))
 
 -- a change of the catalog whose files were taken out
 pub record IsTaken (change new : CatalogChange) (taken : List Change) : Type 0 where

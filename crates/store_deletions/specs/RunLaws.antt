@@ -20,7 +20,6 @@ use Rattle.journal_view.specs.View.{told, Quiet}
 use Rattle.backup_views.specs.declared.kept.KeptView.{KeptView}
 use Rattle.pool_changes.specs.Listed.{index_of}
 use Rattle.ref_counts.specs.Numbers.{Items}
-use Rattle.ref_counts.specs.Stored.{Backup as StoredBackup}
 use Rattle.office_catalog.specs.Known.{Known}
 use Rattle.office_catalog.specs.Changed.{IsFor, after}
 use Rattle.office_model.specs.declared.answer.Answer.{Answer}

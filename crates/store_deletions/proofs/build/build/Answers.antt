@@ -5,7 +5,7 @@ use Rattle.ref_counts.specs.Numbers.{total, capped}
 use Rattle.backup_delete.specs.Folds.{left_lines, Change, changes, taken_tables}
 use Rattle.backup_delete.specs.Windows.{part, IsWindow}
 use Rattle.store_deletions.specs.Written.{written, AreFit}
-use Rattle.store_deletions.specs.BuildLaws.{index_there, built_of}
+use Rattle.store_deletions.specs.BuildLaws.{index_there, left_sound, built_of}
 use Rattle.store_deletions.proofs.build.build.Goals as goal
 
 pub fold_within-requires-clause-window : goal.fold_within-requires-clause-window
@@ -23,6 +23,15 @@ fold_within-requires-clause-same c =
     (index_there c.args.catalog.now.hosts c.hosts.result.now c.args.host c.index-hosts-host.result c.requires.within c.hosts.ensures.hosts
     c.index-hosts-host.is)
     ∙ ap (λ (ls : List Line). length (part c.args.window.first c.args.window.end ls)) (sym same)
+
+pub propose_lines-requires-clause-sound : goal.propose_lines-requires-clause-sound
+propose_lines-requires-clause-sound c =
+    let same : c.lines-2.result.now ≡ c.index-hosts-host.result.lines = c.lines-2.ensures ∙ c.lines.ensures.lines in
+    left_sound c.args.catalog.now.hosts c.args.host c.index-hosts-host.result c.args.numbers.now c.in_ok-folded.folded.lines
+    c.hosts.ensures.are
+    (index_there c.args.catalog.now.hosts c.hosts.result.now c.args.host c.index-hosts-host.result c.requires.within c.hosts.ensures.hosts
+    c.index-hosts-host.is)
+    (c.in_ok-folded.ensures.lines ∙ ap (left_lines c.args.numbers.now) same)
 
 pub returns : goal.returns
 returns c =

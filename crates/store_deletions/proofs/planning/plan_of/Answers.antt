@@ -1,5 +1,5 @@
 -- What was read and built is the plan.
-use Rattle.std.proofs.Common.{◌≡◌, List, Some, slice_get, subst, ◌∙◌}
+use Rattle.std.proofs.Common.{List, subst, ◌∙◌}
 use Rattle.journal_view.specs.View.{told}
 use Rattle.backup_rules.specs.declared.lines.Line.{Line}
 use Rattle.backup_views.specs.Faults.{SaysOneDamaged}
