@@ -4,7 +4,8 @@
 --     IsStack lines tables base blocks start      the blocks lead from a base to a start, each from where the one before it starts
 --     IsBase lines base      a filled backup is there, or none is
 --     IsTower lines tables start tower      the tower's blocks lead from its base to a start
---     MayStand lines tables start tower      the same, if there is a tower
+--     HasReached lines tables index tower      the tower stands from its start on, which isn't before the index
+--     MayStand lines tables index tower      the same, if there is a tower
 use Rattle.std.specs.Prelude.{◌≡◌, ℕ, ◌+◌, ◌<◌, ◌≤◌, true, List, [], ◌∷◌, length, drop, Option, Some, None, if◌then◌else◌}
 use Rattle.backup_rules.specs.declared.lines.Line.{Line}
 use Rattle.merge_view.specs.Views.{Rows, view}
@@ -41,7 +42,13 @@ pub record IsTower (lines : List Line) (tables : List Rows) (start : ℕ) (tower
   pub based : IsBase lines tower.base
   pub stands : IsStack lines tables tower.base tower.blocks.items start
 
+-- The tower stands for the tables from its start on, which isn't before the index.
+pub record HasReached (lines : List Line) (tables : List Rows) (index : ℕ) (tower : Tower) : Type 0 where
+  pub behind : index ≤ tower.start
+  pub within : tower.start ≤ length lines
+  pub stands : IsTower lines tables tower.start tower
+
 -- the same, if there is a tower
 abbrev pub MayStand : List Line → List Rows → ℕ → Option Tower → Type 0
-MayStand lines tables start None = Unit {0}
-MayStand lines tables start (Some tower) = IsTower lines tables start tower
+MayStand lines tables index None = Unit {0}
+MayStand lines tables index (Some tower) = HasReached lines tables index tower

@@ -6,7 +6,7 @@ ghost use Rattle.merge_view.specs.Tables.{AllInOrder};
 ghost use Rattle.backup_delete.specs.Folds.{changes};
 
 use crate::numbers::Gone;
-use crate::tower::{begun, reach};
+use crate::tower::begun;
 use crate::walk::step;
 use attr_tables::Table;
 use backup_rules::Line;
@@ -84,10 +84,8 @@ pub(crate) fn changes(
     let mut index = lines.len();
     'down: while index > 0 {
         index -= 1;
-        let newer = next;
-        let change = step(alloc, lines, tables, numbers, index, &mut next, &tower)?;
+        let change = step(alloc, lines, tables, numbers, index, &mut next, &mut tower)?;
         push_change(&mut all, change)?;
-        reach(alloc, lines, tables, next, newer, &mut tower)?;
     }
     Ok(all)
 }

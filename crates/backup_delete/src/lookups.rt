@@ -102,7 +102,7 @@ fn is_other(entry: &Record, there: Option<&Record>) -> bool
 }
 
 /// Whether an entry changes what is there.
-fn is_needed(entry: &Record, there: Option<&Record>) -> bool
+pub(crate) fn is_needed(entry: &Record, there: Option<&Record>) -> bool
     ensures { result ≡ is_needed entry.now (option_copied there.entry) }
 {
     match entry {

@@ -4,16 +4,20 @@
 //! one: so there are no more blocks than the backups can be halved, and how often an entry is copied in the whole deletion
 //! grows as that number.
 
-ghost use Rattle.std.specs.Prelude.{◌≡◌, ◌-◌, ◌/◌, ◌<◌, ◌≤◌, ◌↔◌, true, ℕ, List, [], length, drop, IfOk, OnOk, IsTrue};
+ghost use Rattle.std.specs.Prelude.{◌≡◌, ◌-◌, ◌/◌, ◌<◌, ◌≤◌, ◌↔◌, true, ℕ, List, [], length, drop, Option, Some, IfOk, OnOk, IsTrue};
+ghost use Rattle.std.specs.Option.{option_copied};
+ghost use Rattle.attr_records.specs.Trees.{node_at};
+ghost use Rattle.attr_tables.specs.declared.records.Record.{Record as RecordValue};
 ghost use Rattle.backup_rules.specs.declared.lines.Line.{Line};
-ghost use Rattle.merge_view.specs.Views.{Rows};
+ghost use Rattle.merge_view.specs.Views.{Rows, laid};
 ghost use Rattle.merge_view.specs.Tables.{AllInOrder};
-ghost use Rattle.backup_delete.specs.Trees.{is_first_filled};
-ghost use Rattle.backup_delete.specs.Towers.{one_fold, folds, IsBlock, IsStack, IsBase, IsTower, MayStand};
+ghost use Rattle.backup_delete.specs.Trees.{tree_of, is_first_filled};
+ghost use Rattle.backup_delete.specs.Towers.{one_fold, folds, IsBlock, IsStack, IsBase, IsTower, HasReached, MayStand};
 
 use crate::numbers::{Gone, is_gone, needs_fold};
 use crate::trees::{first_filled, run_entries};
-use attr_tables::Table;
+use attr_records::PathName;
+use attr_tables::{Record, Table};
 use backup_rules::Line;
 use merge_view::stacked;
 use std::alloc::{AllocError, Global};
@@ -26,11 +30,13 @@ pub(crate) struct Block {
     pub(crate) entries: Table,
 }
 
-/// The tables up to the backup at `base`, which is filled or behind all others; the nearest block is the last one.
+/// The tables from the backup at `start` up to that at `base`, which is filled or behind all others; the nearest block is the
+/// last one.
 #[derive(Debug, Drop)]
 pub(crate) struct Tower {
     pub(crate) blocks: Vec<Block>,
     pub(crate) base: usize,
+    pub(crate) start: usize,
 }
 
 /// One, if a backup stays and gets a new table.
@@ -63,11 +69,13 @@ fn count_folds(lines: &[Line], numbers: &Gone) -> usize
 /// A tower that stands for no tables.
 fn based(alloc: Global, base: usize) -> Tower
     ensures base { result.base ≡ base }
+    ensures start { result.start ≡ base }
     ensures none { result.blocks.items ≡ [] }
 {
     Tower {
         blocks: Vec::new(alloc),
         base,
+        start: base,
     }
 }
 
@@ -123,37 +131,36 @@ fn push(alloc: Global, blocks: &mut Vec<Block>, block: Block) -> Result<(), Allo
     }
 }
 
-/// The tower begins anew at a filled backup, if there is one before the end.
-fn begin_anew(alloc: Global, tower: &mut Tower, filled: usize, end: usize)
-    ensures { (lines : List Line) (tables : List Rows) → filled ≤ end → end ≤ length lines
-        → (filled < end → is_first_filled (drop filled lines) ≡ true)
-        → IsTower lines tables end tower.old → IsTower lines tables filled tower.new }
+/// The tower begins anew at a filled backup, if there is one before its start.
+fn begin_anew(alloc: Global, tower: &mut Tower, filled: usize)
+    ensures start { filled ≤ tower.old.start → tower.new.start ≡ filled }
+    ensures stands { (lines : List Line) (tables : List Rows) → filled ≤ tower.old.start → tower.old.start ≤ length lines
+        → (filled < tower.old.start → is_first_filled (drop filled lines) ≡ true)
+        → IsTower lines tables tower.old.start tower.old → IsTower lines tables filled tower.new }
 {
-    if end <= filled {
+    if tower.start <= filled {
         return;
     }
     *tower = based(alloc, filled);
 }
 
-/// The tower goes on from a backup to an older one: by a block of the tables from there up to the first filled one; or
-/// want of memory.
-fn go_on(
+/// The tower goes on to an older backup: by a block of the tables from there up to the first filled one before its start, or
+/// up to that; or want of memory.
+pub(crate) fn go_on(
     alloc: Global,
     lines: &[Line],
     tables: &[Table],
     index: usize,
-    next: usize,
     tower: &mut Tower,
 ) -> Result<(), AllocError>
     requires same { length tables.now ≡ length lines.now }
     requires order { AllInOrder tables.now }
-    requires within { next ≤ length lines.now }
-    requires below { index ≤ next }
-    requires stands { IsTower lines.now tables.now next tower.old }
-    ensures { OnOk result (IsTower lines.now tables.now index tower.new) }
+    requires reached { HasReached lines.now tables.now index tower.old }
+    ensures start { OnOk result (tower.new.start ≡ index) }
+    ensures stands { OnOk result (IsTower lines.now tables.now tower.new.start tower.new) }
 {
-    let filled = first_filled(lines, index, next);
-    begin_anew(alloc, tower, filled, next);
+    let filled = first_filled(lines, index, tower.start);
+    begin_anew(alloc, tower, filled);
     if index == filled {
         return Ok(());
     }
@@ -164,27 +171,61 @@ fn go_on(
         entries,
     };
     push(alloc, &mut tower.blocks, block)?;
+    tower.start = index;
     Ok(())
 }
 
-/// If there is a tower, it goes on from a backup to an older one; or want of memory.
-pub(crate) fn reach(
-    alloc: Global,
+/// What the tree from which blocks start has at a path.
+fn node_in<'a>(
     lines: &[Line],
-    tables: &[Table],
-    index: usize,
-    next: usize,
-    tower: &mut Option<Tower>,
-) -> Result<(), AllocError>
+    tables: &'a [Table],
+    base: usize,
+    blocks: &'a [Block],
+    path: &PathName,
+) -> Option<&'a Record>
     requires same { length tables.now ≡ length lines.now }
     requires order { AllInOrder tables.now }
-    requires within { next ≤ length lines.now }
-    requires below { index ≤ next }
-    requires stands { MayStand lines.now tables.now next tower.old }
-    ensures { OnOk result (MayStand lines.now tables.now index tower.new) }
+    requires based { IsBase lines.now base }
+    ensures { (start : ℕ) → IsStack lines.now tables.now base blocks.now start
+        → option_copied result ≡ node_at (tree_of (drop start lines.now) (drop start tables.now)) path.now }
 {
-    match tower {
-        None => Ok(()),
-        Some(tower) => Ok(go_on(alloc, lines, tables, index, next, tower)?),
+    match blocks {
+        [] => {
+            if base == lines.len() {
+                return None;
+            }
+            tables[base].find(path)
+        }
+        [farther @ .., block] => match block.entries.find(path) {
+            None => node_in(lines, tables, base, farther, path),
+            Some(record) => unmarked(record),
+        },
     }
+}
+
+/// The record, if it is no deletion mark.
+fn unmarked<'a>(record: &'a Record) -> Option<&'a Record>
+    ensures { (base : Option RecordValue) → option_copied result ≡ laid (Some record.now) base }
+{
+    match record {
+        Record::Deleted => None,
+        Record::File(_) => Some(record),
+        Record::Dir(_) => Some(record),
+        Record::Link(_) => Some(record),
+    }
+}
+
+/// What the tree of the backup at a tower's start has at a path.
+pub(crate) fn find_in<'a>(
+    lines: &[Line],
+    tables: &'a [Table],
+    tower: &'a Tower,
+    path: &PathName,
+) -> Option<&'a Record>
+    requires same { length tables.now ≡ length lines.now }
+    requires order { AllInOrder tables.now }
+    requires stands { IsTower lines.now tables.now tower.now.start tower.now }
+    ensures { option_copied result ≡ node_at (tree_of (drop tower.now.start lines.now) (drop tower.now.start tables.now)) path.now }
+{
+    node_in(lines, tables, tower.base, tower.blocks.as_slice(), path)
 }

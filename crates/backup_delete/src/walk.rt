@@ -17,7 +17,7 @@ use std::alloc::{AllocError, Global};
 
 /// Goes on to the backup at an index: what becomes of its table, if something does; or want of memory. `next` is the
 /// index of the oldest backup so far that stays, or the number of backups before there is one; the tower, if there is one,
-/// stands for the tables from there on.
+/// hasn't gone on past it.
 pub(crate) fn step(
     alloc: Global,
     lines: &[Line],
@@ -25,16 +25,16 @@ pub(crate) fn step(
     numbers: &Gone,
     index: usize,
     next: &mut usize,
-    tower: &Option<Tower>,
+    tower: &mut Option<Tower>,
 ) -> Result<Option<TableChange>, AllocError>
     requires same { length tables.now ≡ length lines.now }
     requires order { AllInOrder tables.now }
     requires within { index < length lines.now }
     requires walk { IsNext numbers.now lines.now tables.now next.old (index + 1) }
-    requires stands { MayStand lines.now tables.now next.old tower.now }
+    requires stands { MayStand lines.now tables.now next.old tower.old }
     ensures change { IfOk result (λ change. changes numbers.now (drop index lines.now) (drop index tables.now)
         ≡ changes numbers.now (drop (index + 1) lines.now) (drop (index + 1) tables.now) ++ option_to_list change) }
-    ensures down { OnOk result (next.new ≤ next.old) }
+    ensures stands { OnOk result (MayStand lines.now tables.now next.new tower.new) }
     ensures walk { OnOk result (IsNext numbers.now lines.now tables.now next.new index) }
 {
     let line = lines[index];
