@@ -3,7 +3,8 @@
 --     any_gone numbers lines      one of the backups is deleted
 --     IsFilledStay numbers lines      the first of the backups is filled and stays
 --     IsWindow      every table that changes, and every table that the changes are computed from, lies in the part
-use Rattle.std.specs.Prelude.{◌≡◌, ℕ, ◌-◌, ◌<◌, ◌≤◌, Bool, true, false, ◌||◌, List, [], ◌∷◌, length, take, drop}
+--     IsNarrow      it is no longer than to the neighbours of those that are deleted
+use Rattle.std.specs.Prelude.{◌≡◌, ℕ, ◌+◌, ◌-◌, ◌<◌, ◌≤◌, Bool, true, false, ◌||◌, List, [], ◌∷◌, length, take, drop}
 use Rattle.backup_rules.specs.declared.lines.Line.{Line}
 use Rattle.backup_delete.specs.Trees.{is_first_filled, is_gone, are_gone, is_next_gone}
 
@@ -33,3 +34,10 @@ pub record IsWindow (numbers : List ℕ) (lines : List Line) (first end : ℕ) :
   pub some : 0 < first → first < end
   pub oldest : 0 < first → is_next_gone numbers (drop first lines) ≡ false
   pub newest : end < length lines → are_gone numbers (part first end lines) ≡ false → IsFilledStay numbers (drop (end - 1) lines)
+
+-- If a backup is deleted, one of the first two backups is the oldest of these, and behind the newest of these none but the last
+-- backup is filled.
+pub record IsNarrow (numbers : List ℕ) (lines : List Line) (first end : ℕ) : Type 0 where
+  pub near : any_gone numbers lines ≡ true → any_gone numbers (take (first + 2) lines) ≡ true
+  pub unfilled : any_gone numbers lines ≡ true → (i : ℕ) → any_gone numbers (drop i lines) ≡ false → i + 1 < end
+      → is_first_filled (drop i lines) ≡ false

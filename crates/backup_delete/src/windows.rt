@@ -1,12 +1,12 @@
 //! The part of a host's backups that a deletion touches.
 
-ghost use Rattle.std.specs.Prelude.{◌≡◌, ◌-◌, ◌<◌, ◌≤◌, List, false, true, length, take, drop, IfOk};
+ghost use Rattle.std.specs.Prelude.{◌≡◌, ◌+◌, ◌-◌, ◌<◌, ◌≤◌, List, ℕ, false, true, length, take, drop, IfOk};
 ghost use Rattle.disk_trait.specs.declared.ids.PoolId.{PoolId};
 ghost use Rattle.merge_view.specs.Views.{Rows};
 ghost use Rattle.ref_counts.specs.Numbers.{number, total, capped};
 ghost use Rattle.backup_delete.specs.Trees.{is_first_filled, are_gone};
 ghost use Rattle.backup_delete.specs.Folds.{left_lines, changes, added_tables, taken_tables};
-ghost use Rattle.backup_delete.specs.Windows.{part, any_gone, IsWindow};
+ghost use Rattle.backup_delete.specs.Windows.{part, any_gone, IsWindow, IsNarrow};
 
 use crate::deletion::{Folded, fold};
 use crate::lines::left_lines;
@@ -28,6 +28,8 @@ pub struct Window {
 fn oldest_gone(lines: &[Line], numbers: &Gone) -> usize
     ensures within { result ≤ length lines.now }
     ensures before { any_gone numbers.now (take result lines.now) ≡ false }
+    ensures here { result < length lines.now → any_gone numbers.now (take (result + 1) lines.now) ≡ true }
+    ensures on { result < length lines.now → any_gone numbers.now (drop result lines.now) ≡ true }
 {
     let mut i = 0;
     'up: while i < lines.len() {
@@ -45,6 +47,7 @@ fn behind_gone(lines: &[Line], numbers: &Gone, from: usize) -> usize
     ensures after { from ≤ result }
     ensures within { result ≤ length lines.now }
     ensures behind { any_gone numbers.now (drop result lines.now) ≡ false }
+    ensures newest { from < result → any_gone numbers.now (drop (result - 1) lines.now) ≡ true }
 {
     let mut end = lines.len();
     'down: while end > from {
@@ -63,6 +66,7 @@ fn behind_filled(lines: &[Line], from: usize) -> usize
     ensures within { result ≤ length lines.now }
     ensures more { result < length lines.now → from < result }
     ensures filled { result < length lines.now → is_first_filled (drop (result - 1) lines.now) ≡ true }
+    ensures unfilled { (i : ℕ) → from ≤ i → i + 1 < result → is_first_filled (drop i lines.now) ≡ false }
 {
     let filled = first_filled(lines, from, lines.len());
     if filled < lines.len() {
@@ -96,6 +100,7 @@ fn window_end(lines: &[Line], numbers: &Gone, first: usize, behind: usize) -> us
     ensures more { result < length lines.now → are_gone numbers.now (part first result lines.now) ≡ false → behind < result }
     ensures filled { result < length lines.now → are_gone numbers.now (part first result lines.now) ≡ false
         → is_first_filled (drop (result - 1) lines.now) ≡ true }
+    ensures unfilled { (i : ℕ) → behind ≤ i → i + 1 < result → is_first_filled (drop i lines.now) ≡ false }
 {
     if are_gone(&lines[first..behind], numbers) {
         return behind;
@@ -107,7 +112,8 @@ fn window_end(lines: &[Line], numbers: &Gone, first: usize, behind: usize) -> us
 /// that is deleted up to the first filled one behind the newest of them, or to the end; or just those that are deleted, if they
 /// are the oldest of all.
 pub fn window_of(alloc: Global, lines: &[Line], numbers: &[u32]) -> Result<Window, AllocError>
-    ensures { IfOk result (λ window. IsWindow numbers.now lines.now window.first window.end) }
+    ensures window { IfOk result (λ window. IsWindow numbers.now lines.now window.first window.end) }
+    ensures narrow { IfOk result (λ window. IsNarrow numbers.now lines.now window.first window.end) }
 {
     let sorted = sorted_numbers(alloc, numbers)?;
     let gone = Gone { numbers, sorted };

@@ -1,5 +1,9 @@
--- From the older neighbour of the oldest one on, none before it is deleted; up to a filled one, none behind it.
-use Rattle.std.proofs.Common.{◌≡◌, ◌-◌, ◌<◌, ◌≤◌, ℕ, zero, suc, Bool, true, false, ◌||◌, List, [], ◌∷◌, length, take, drop, refl, arith, rules}
+-- From the older neighbour of the oldest one on, none before it is deleted; up to a filled one, none behind it. A deleted one is as near.
+use Rattle.std.proofs.Common.{◌≡◌, ◌-◌, ◌<◌, ◌≤◌, ℕ, zero, suc, ◌+◌, Bool, true, false, ◌||◌, List, [], ◌∷◌, length, take, drop, refl, sym, ap, ◌∙◌, arith, rules}
+use Rattle.std.specs.Prelude.{nat_lt}
+use Rattle.std.proofs.lemmas.Bool.{false≢true}
+use Rattle.std.proofs.lemmas.Bool.Decides.{nat_tests}
+use Rattle.std.proofs.lemmas.List.{take_all}
 use Rattle.backup_rules.specs.declared.lines.Line.{Line}
 use Rattle.backup_delete.specs.Trees.{is_first_filled, is_gone, are_gone, is_next_gone}
 use Rattle.backup_delete.specs.Windows.{part, any_gone, IsWindow}
@@ -61,8 +65,65 @@ module _ (numbers : List ℕ) where
         };
   }
 
-pub returns : goal.returns
-returns c =
+  module _ (lines : List Line) (oldest behind : ℕ) (none : any_gone numbers (take oldest lines) ≡ false)
+      (rest : any_gone numbers (drop behind lines) ≡ false) (some : any_gone numbers lines ≡ true) (within : oldest ≤ length lines) where
+    -- one of them is the oldest
+    some_oldest : oldest < length lines
+    some_oldest = step (nat_lt oldest (length lines)) refl
+      where
+        step : (b : Bool) → nat_lt oldest (length lines) ≡ b → oldest < length lines
+        step true e = grind (arith, nat_tests, e)
+        step false e =
+            let all : length lines ≤ oldest = grind (arith, nat_tests, e) in
+            absurd (false≢true (sym (ap (any_gone numbers) (sym (take_all oldest lines all)) ∙ none) ∙ some))
+
+    near : (first : ℕ) → (oldest < length lines → any_gone numbers (take (oldest + 1) lines) ≡ true) → first ≡ oldest - 1
+        → any_gone numbers (take (first + 2) lines) ≡ true
+    near first here is = step (any_gone numbers (take (first + 2) lines)) refl
+      where
+        step : (b : Bool) → any_gone numbers (take (first + 2) lines) ≡ b → b ≡ true
+        step true e = refl
+        step false e = sym (fewer_before (oldest + 1) (first + 2) lines (omega (arith, is)) e) ∙ here some_oldest
+
+    unfilled : (end i : ℕ) → oldest ≤ behind → (oldest < length lines → any_gone numbers (drop oldest lines) ≡ true)
+        → (oldest < behind → any_gone numbers (drop (behind - 1) lines) ≡ true)
+        → ((i : ℕ) → behind ≤ i → i + 1 < end → is_first_filled (drop i lines) ≡ false)
+        → any_gone numbers (drop i lines) ≡ false → i + 1 < end → is_first_filled (drop i lines) ≡ false
+    unfilled end i after on newest is past less = step (nat_lt i behind) refl
+      where
+        more : oldest < behind
+        more = step (nat_lt oldest behind) refl
+          where
+            step : (b : Bool) → nat_lt oldest behind ≡ b → oldest < behind
+            step true e = grind (arith, nat_tests, e)
+            step false e =
+                let least : behind ≤ oldest = grind (arith, nat_tests, e) in
+                absurd (false≢true (sym (fewer_behind behind oldest lines least rest) ∙ on some_oldest))
+
+        step : (b : Bool) → nat_lt i behind ≡ b → is_first_filled (drop i lines) ≡ false
+        step true e =
+            let below : i ≤ behind - 1 = grind (arith, nat_tests, e) in
+            absurd (false≢true (sym (fewer_behind i (behind - 1) lines below past) ∙ newest more))
+        step false e = let least : behind ≤ i = grind (arith, nat_tests, e) in is i least less
+
+pub returns-clause-narrow : goal.returns-clause-narrow
+returns-clause-narrow c =
+    let numbers = c.args.numbers.now in
+    let lines = c.args.lines.now in
+    let oldest = c.oldest_gone-oldest in
+    let behind = c.behind_gone-behind in
+    record {
+      near = λ some.
+          near numbers lines oldest.result behind.result oldest.ensures.before behind.ensures.behind some oldest.ensures.within
+          c.saturating_sub-first.result oldest.ensures.here (search rules);
+      unfilled = λ some i past less.
+          unfilled numbers lines oldest.result behind.result oldest.ensures.before behind.ensures.behind some oldest.ensures.within
+          c.window_end-end.result i behind.ensures.after oldest.ensures.on behind.ensures.newest c.window_end-end.ensures.unfilled
+          past less;
+    }
+
+pub returns-clause-window : goal.returns-clause-window
+returns-clause-window c =
     is_window c.args.numbers.now c.args.lines.now c.oldest_gone-oldest.result c.behind_gone-behind.result c.saturating_sub-first.result
     c.window_end-end.result c.oldest_gone-oldest.ensures.before c.behind_gone-behind.ensures.after c.behind_gone-behind.ensures.behind
     (search rules) c.window_end-end.ensures.after c.window_end-end.ensures.within c.window_end-end.ensures.more

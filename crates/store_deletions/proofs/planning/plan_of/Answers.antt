@@ -25,7 +25,7 @@ build-requires-clause-window g c =
     c.lines-lines.result.now
     (index_there c.args.catalog.now.hosts c.hosts.result.now c.args.host c.index-hosts-host.result c.requires.within c.hosts.ensures.hosts
     c.index-hosts-host.is)
-    (c.lines-lines.ensures ∙ c.lines.ensures.lines) c.in-Ok.ensures
+    (c.lines-lines.ensures ∙ c.lines.ensures.lines) c.in-Ok.ensures.window
 
 pub build-requires-clause-each : goal.build-requires-clause-each
 build-requires-clause-each g c =
