@@ -88,7 +88,7 @@ module _ (lines : List Line) (tables : List Rows) where
   from_order n all = tree_order (drop n lines) (drop n tables) (order_drop n tables all)
 
   -- the tree of one that isn't filled
-  unfilled_tree : (i n : ℕ) (table : Rows) → n ≡ i + 1 → i < length lines → length tables ≡ length lines → table ≡ get_or tables i table
+  pub unfilled_tree : (i n : ℕ) (table : Rows) → n ≡ i + 1 → i < length lines → length tables ≡ length lines → table ≡ get_or tables i table
       → false ≡ is_first_filled (drop i lines) → tree_from i ≡ view (tree_from n) table
   unfilled_tree i n table next within same is stays =
       let line = line_at lines i in

@@ -1,16 +1,19 @@
--- Blocks of tables: one block more, two blocks as one, and the entries that one block decides.
+-- Blocks of tables: one block more, two blocks as one, and what is at a path.
 use Rattle.std.specs.Prelude.{◌≡◌, ℕ, ◌+◌, ◌-◌, ◌<◌, ◌≤◌, true, false, not, List, [], ◌∷◌, ◌++◌, length, drop, take}
 use Rattle.std.proofs.Common.{refl, sym, ap, ◌∙◌, subst, get_or, arith}
 use Rattle.std.proofs.lemmas.List.{length-drop, take_more, take_all}
 use Rattle.ordered_lists.specs.Order.{IsInOrder}
 use Rattle.attr_records.specs.Paths.{path_cmp}
 use Rattle.backup_rules.specs.declared.lines.Line.{Line}
-use Rattle.merge_view.specs.Views.{Rows, view, stacked, trimmed}
+use Rattle.attr_records.specs.Trees.{node_at}
+use Rattle.merge_view.specs.Views.{Rows, laid, view, stacked, trimmed}
+use Rattle.merge_view.specs.ViewLaws.{node_at-view}
 use Rattle.merge_view.specs.Tables.{AllInOrder}
+use Rattle.merge_view.specs.TableLaws.{stacked-none}
 use Rattle.backup_delete.specs.declared.tower.Block.{Block}
 use Rattle.backup_delete.specs.declared.tower.Tower.{Tower}
 use Rattle.backup_delete.specs.Trees.{tree_of, is_first_filled}
-use Rattle.backup_delete.specs.RunFolds.{resolved, remaining, goes_on, trimmed-view_through, trimmed-none}
+use Rattle.backup_delete.specs.RunFolds.{resolved, remaining, resolved_in_order, goes_on, trimmed-view_through, trimmed-none}
 use Rattle.backup_delete.specs.Towers.{IsBlock, IsStack, IsBase, IsTower}
 use Rattle.backup_delete.proofs.RunSteps.{from_order, run_halves}
 
@@ -94,17 +97,29 @@ module _ (lines : List Line) (tables : List Rows) where
     stands = subst (λ (blocks : List Block). IsStack lines tables tower.base blocks base) (sym none) base_is;
   }
 
-  -- ---- what one block decides of entries
+  -- ---- what is at a path
 
-  pub trimmed_block : (base start : ℕ) (blocks front : List Block) (block : Block) (entries here later rest made : Rows) → AllInOrder tables
-      → IsInOrder path_cmp entries → IsInOrder path_cmp block.entries → blocks ≡ front ++ block ∷ []
-      → here ≡ resolved entries block.entries → later ≡ remaining entries block.entries
-      → ((at : ℕ) → IsStack lines tables base front at → rest ≡ trimmed (tree_from at) later) → made ≡ stacked here rest
-      → IsStack lines tables base blocks start → made ≡ trimmed (tree_from start) entries
-  trimmed_block base start blocks front block entries here later rest made all order block_order parts here_is later_is rest_is made_is stack =
-      let split = stack_split base front block start (subst (λ (bs : List Block). IsStack lines tables base bs start) parts stack) in
-      made_is
-      ∙ (λ k. stacked (here_is k) ((rest_is block.end split.front ∙ ap (trimmed (tree_from block.end)) later_is) k))
-      ∙ sym (trimmed-view_through (tree_from block.end) block.entries entries (from_order lines tables block.end all) block_order order)
-      ∙ ap (λ t. trimmed t entries) (sym split.last.seen)
-      ∙ ap (λ n. trimmed (tree_from n) entries) split.starts
+  pub split_of : (base start : ℕ) (blocks front : List Block) (block : Block) → blocks ≡ front ++ block ∷ []
+      → IsStack lines tables base blocks start → IsSplit base front block start
+  split_of base start blocks front block parts stack =
+      stack_split base front block start (subst (λ (bs : List Block). IsStack lines tables base bs start) parts stack)
+
+  -- by the nearest block, over the tree of its end
+  pub node_over : (base start : ℕ) (front : List Block) (block : Block) (path : List ℕ) → AllInOrder tables → IsInOrder path_cmp block.entries
+      → IsSplit base front block start
+      → laid (node_at block.entries path) (node_at (tree_from block.end) path) ≡ node_at (tree_from start) path
+  node_over base start front block path all order split =
+      sym (node_at-view (tree_from block.end) block.entries (from_order lines tables block.end all) order path)
+      ∙ ap (λ t. node_at t path) (sym split.last.seen) ∙ ap (λ n. node_at (tree_from n) path) split.starts
+
+  -- ---- an index whose table has each path of the entries
+
+  pub near_all : (index : ℕ) (near entries here later : Rows) → AllInOrder tables → IsInOrder path_cmp near → IsInOrder path_cmp entries
+      → tree_from index ≡ view (tree_from (index + 1)) near → later ≡ remaining entries near → later ≡ [] → here ≡ resolved entries near
+      → here ≡ trimmed (tree_from index) entries
+  near_all index near entries here later all order entries_order seen later_is none here_is =
+      here_is ∙ sym (stacked-none (resolved entries near) (resolved_in_order entries near entries_order order))
+      ∙ ap (stacked (resolved entries near))
+      (sym (trimmed-none (tree_from (index + 1))) ∙ ap (trimmed (tree_from (index + 1))) (sym none ∙ later_is))
+      ∙ sym (trimmed-view_through (tree_from (index + 1)) near entries (from_order lines tables (index + 1) all) order entries_order)
+      ∙ ap (λ t. trimmed t entries) (sym seen)

@@ -7,7 +7,7 @@
 ghost use Rattle.std.specs.Prelude.{◌≡◌, ◌-◌, ◌/◌, ◌<◌, ◌≤◌, ◌↔◌, true, ℕ, List, [], length, drop, Option, Some, IfOk, OnOk, IsTrue};
 ghost use Rattle.std.specs.Option.{option_copied};
 ghost use Rattle.attr_records.specs.Trees.{node_at};
-ghost use Rattle.attr_tables.specs.declared.records.Record.{Record as RecordValue};
+ghost use Rattle.attr_tables.specs.declared.records.Record.{Record};
 ghost use Rattle.backup_rules.specs.declared.lines.Line.{Line};
 ghost use Rattle.merge_view.specs.Views.{Rows, laid};
 ghost use Rattle.merge_view.specs.Tables.{AllInOrder};
@@ -196,22 +196,25 @@ fn node_in<'a>(
             }
             tables[base].find(path)
         }
-        [farther @ .., block] => match block.entries.find(path) {
-            None => node_in(lines, tables, base, farther, path),
-            Some(record) => unmarked(record),
-        },
+        [farther @ .., block] => {
+            let _rows = block.entries.rows();
+            match block.entries.find(path) {
+                None => node_in(lines, tables, base, farther, path),
+                Some(found) => unmarked(found),
+            }
+        }
     }
 }
 
 /// The record, if it is no deletion mark.
-fn unmarked<'a>(record: &'a Record) -> Option<&'a Record>
-    ensures { (base : Option RecordValue) → option_copied result ≡ laid (Some record.now) base }
+fn unmarked<'a>(found: &'a Record) -> Option<&'a Record>
+    ensures { (base : Option Record) → option_copied result ≡ laid (Some found.now) base }
 {
-    match record {
+    match found {
         Record::Deleted => None,
-        Record::File(_) => Some(record),
-        Record::Dir(_) => Some(record),
-        Record::Link(_) => Some(record),
+        Record::File(_) => Some(found),
+        Record::Dir(_) => Some(found),
+        Record::Link(_) => Some(found),
     }
 }
 

@@ -33,7 +33,7 @@ returns-clause-change c =
     (tree_of (drop c.args.index c.args.lines.now) (drop c.args.index c.args.tables.now))
     (tree_of (drop c.args.next.now c.args.lines.now) (drop c.args.next.now c.args.tables.now)) c.in_ok-table.table c.if-is_gone.ensures
     (c.if-not-needs_fold.ensures ∙ ap (needs_fold c.args.numbers.now line) c.split_at.ensures.back)
-    refl (sym c.requires.walk.tree) c.in_ok-table.ensures)
+    refl (sym c.requires.walk.tree) c.in_ok-table.ensures.table)
 
 pub returns-then-not-needs_fold-clause-walk : goal.returns-then-not-needs_fold-clause-walk
 returns-then-not-needs_fold-clause-walk c =
