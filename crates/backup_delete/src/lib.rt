@@ -7,10 +7,11 @@
 //! Each run of deleted neighbours is folded once, and by tables alone: the entries of the run are laid over each other in
 //! halves, and each is compared with the first newer table that has its path, no further than to the next filled one. The
 //! newer tables are laid over each other in blocks for this. For a single run these are as large as those before them, and
-//! are made as far as they are needed. For several runs they are made once, from the newest backup down, and two become one
-//! while the farther isn't twice as large. So a fold is linear in the entries of the tables that it touches, times how often
-//! these can be halved, and a deletion of many runs is so, too. Only a run with a filled backup in it takes the two trees
-//! beside it, each in one pass over a filled table. Entries that are few beside a block are looked up in it by halving.
+//! are made as far as they are needed. For several runs they are made once for all, as far as runs need them whose next newer
+//! table lacks a path, two become one while the farther isn't twice as large, and each entry is looked up in them by halving.
+//! So a fold is linear in the entries of the tables that it touches, times how often these can be halved, and a deletion of
+//! many runs is so, too. Only a run with a filled backup in it takes the two trees beside it, each in one pass over a filled
+//! table.
 //!
 //! A caller that has the tables on a disk reads only those that a deletion touches: [`window_of`] names them, and
 //! [`fold_within`] makes of them alone what [`fold`] makes of all.
