@@ -17,7 +17,7 @@ use Rattle.office_model.specs.declared.refusal.Refusal.{Refusal}
 use Rattle.office_model.specs.declared.refusal.Refusal.TheVariants as R
 use Rattle.office_model.specs.declared.refusal.BrokenRule.TheVariants.{BadBucket}
 use Rattle.office_model.specs.Meaning.{Carried, Reply, Judged, breaks, ◌>>◌}
-use Rattle.office_model.specs.Office.{Office, Host, Names}
+use Rattle.office_model.specs.Office.{Office, Host, Names, with_hosts}
 use Rattle.office_model.specs.Parts.{host_at}
 use Rattle.office_model.specs.Places.{position-found, position-some}
 use Rattle.office_model.specs.Step.{Call, State, Running, Halted, IsStep, meaning_of}
@@ -95,7 +95,7 @@ stays old names (E.Expire name now) may =
     record {
       carried = record {
         answer = A.Expired (count_by (λ flag. flag) (named_of now at.1));
-        after = record old { hosts = slice_set old.hosts at.0 (without_named now at.1) };
+        after = with_hosts old (slice_set old.hosts at.0 (without_named now at.1));
       };
       is = rw at.3 refl;
       same = names-set old.hosts at.0 at.1 (without_named now at.1) at.2 refl;

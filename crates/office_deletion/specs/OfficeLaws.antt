@@ -11,7 +11,7 @@ use Rattle.pool_index.specs.Index.{Index}
 use Rattle.ref_counts.specs.Stored.{Backup as StoredBackup}
 use Rattle.backup_delete.specs.Trees.{backups as backups_of}
 use Rattle.backup_delete.specs.Folds.{left_lines, left_trees}
-use Rattle.office_model.specs.Office.{Office, Host, IsSound, backup_index}
+use Rattle.office_model.specs.Office.{Durable, Host, IsSoundDurable, backup_index}
 use Rattle.office_model.specs.Parts.{lines_of}
 use Rattle.office_files.specs.Hosts.{StandsHost}
 use Rattle.office_files.specs.Owners.{has_backup}
@@ -21,14 +21,14 @@ use Rattle.office_files.specs.KeptLaws.{tells_kept, one_kept, pool_kept}
 use Rattle.office_changes.specs.ChangeLaws.{is_of_host, host_changed}
 use Rattle.office_deletion.specs.DeletionLaws.{rows_of, IsDeletion, host_shortened, beyond_deletion}
 
-module _ (digest_of : List ℕ → List ℕ) (index : Index) (backups : List (List StoredBackup)) (files image : Files) (office : Office) (p : ℕ)
+module _ (digest_of : List ℕ → List ℕ) (index : Index) (backups : List (List StoredBackup)) (files image : Files) (office : Durable) (p : ℕ)
     (host new : Host) (numbers : List ℕ) (shown : List StoredBackup) where
   -- the pool and its index stay, and so do the files of other hosts
   pub deletion_stands : slice_get office.hosts p ≡ Some host → new.name ≡ host.name → slice_get backups p ≡ Some shown
       → ((file : FileId) → is_metadata file ≡ true → is_of_host p file ≡ false → image file ≡ files file)
       → ((id : PoolId) → IsListed index id → image (F.Pool id) ≡ files (F.Pool id))
       → IsDeletion numbers files image p host new shown
-      → IsSound (record office { hosts = slice_set office.hosts p new })
+      → IsSoundDurable (record office { hosts = slice_set office.hosts p new })
       → Stands digest_of index backups files office
       → Stands digest_of index
       (slice_set backups p

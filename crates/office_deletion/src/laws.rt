@@ -11,7 +11,7 @@ ghost use Rattle.pool_index.specs.Index.{Index};
 ghost use Rattle.ref_counts.specs.Stored.{Backup as StoredBackup};
 ghost use Rattle.backup_delete.specs.Trees.{backups};
 ghost use Rattle.backup_delete.specs.Folds.{left_lines, left_trees};
-ghost use Rattle.office_model.specs.Office.{Office, Host, Backup, AreBackups, IsSound, backup_index};
+ghost use Rattle.office_model.specs.Office.{Durable, Host, Backup, AreBackups, IsSoundDurable, backup_index};
 ghost use Rattle.office_model.specs.Parts.{lines_of, with_last, filled_as};
 ghost use Rattle.office_model.specs.events.Expire.{unflagged};
 ghost use Rattle.office_model.specs.laws.ExpireLaws.{FlagsFit};
@@ -58,13 +58,13 @@ pub fn flagged_backups_are_deleted()
 
 /// If one host's files have a deletion, and others the same bytes, files stand for the office with that host in its place.
 pub fn office_after_a_deletion()
-    ensures { (digest_of : List ℕ → List ℕ) (index : Index) (stored : List (List StoredBackup)) (files image : Files) (office : Office)
+    ensures { (digest_of : List ℕ → List ℕ) (index : Index) (stored : List (List StoredBackup)) (files image : Files) (office : Durable)
         (number : ℕ) (host new : Host) (numbers : List ℕ) (shown : List StoredBackup)
         → slice_get office.hosts number ≡ Some host → new.name ≡ host.name → slice_get stored number ≡ Some shown
         → ((file : FileId) → is_metadata file ≡ true → is_of_host number file ≡ false → image file ≡ files file)
         → ((id : PoolId) → IsListed index id → image (PoolFile id) ≡ files (PoolFile id))
         → IsDeletion numbers files image number host new shown
-        → IsSound (record office { hosts = slice_set office.hosts number new })
+        → IsSoundDurable (record office { hosts = slice_set office.hosts number new })
         → Stands digest_of index stored files office
         → Stands digest_of index
         (slice_set stored number (backups (left_lines numbers (lines_of host.backups)) (left_trees numbers (lines_of host.backups) (rows_of shown))))

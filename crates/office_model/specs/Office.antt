@@ -41,30 +41,63 @@ pub record Restore : Type 0 where
   pub tree : Tree
   pub position : ℕ
 
--- hosts in order of adding, dumps and restores in order of opening, and the number of the next session
-pub record Office : Type 0 where
+-- what the disk keeps: hosts in order of adding, and the pool
+pub record Durable : Type 0 where
   pub epoch : ℕ
   pub hosts : List Host
   pub pool : Pool
+
+-- what is open in this epoch: dumps and restores in order of opening, and the number of the next session
+pub record Volatile : Type 0 where
   pub dumps : List Dump
   pub restores : List Restore
   pub sequence : ℕ
+
+pub record Office : Type 0 where
+  pub durable : Durable
+  pub open durable use *
+  pub volatile : Volatile
+  pub open volatile use *
 
 -- how contents are named: the digest of each, and the names of pool files that are in use
 pub record Names : Type 0 where
   pub digest_of : List ℕ → List ℕ
   pub used : List PoolId
 
-abbrev pub blank_office : Office
-blank_office = record { epoch = 0; hosts = []; pool = []; dumps = []; restores = []; sequence = 0 }
+abbrev pub blank : Durable
+blank = record { epoch = 0; hosts = []; pool = [] }
 
--- what a disk keeps of an office
-abbrev pub durable : Office → Office
-durable office = record office { dumps = []; restores = []; sequence = 0 }
+abbrev pub nothing_open : Volatile
+nothing_open = record { dumps = []; restores = []; sequence = 0 }
 
--- at the beginning of the next epoch
-abbrev pub reopened : Office → Office
-reopened office = record office { epoch = office.epoch + 1; dumps = []; restores = []; sequence = 0 }
+-- in the next epoch
+abbrev pub raised : Durable → Durable
+raised kept = record kept { epoch = kept.epoch + 1 }
+
+-- the office at the beginning of the next epoch
+abbrev pub reopened : Durable → Office
+reopened kept = record { durable = raised kept; volatile = nothing_open }
+
+-- ---- an office with another part
+
+abbrev pub with_hosts : Office → List Host → Office
+with_hosts office hosts = record office { durable = record office.durable { hosts = hosts } }
+
+abbrev pub with_pool : Office → Pool → Office
+with_pool office pool = record office { durable = record office.durable { pool = pool } }
+
+abbrev pub with_dumps : Office → List Dump → Office
+with_dumps office dumps = record office { volatile = record office.volatile { dumps = dumps } }
+
+abbrev pub with_restores : Office → List Restore → Office
+with_restores office restores = record office { volatile = record office.volatile { restores = restores } }
+
+abbrev pub numbered_as : Office → ℕ → Office
+numbered_as office sequence = record office { volatile = record office.volatile { sequence = sequence } }
+
+-- the number of the next session rises
+abbrev pub numbered : Office → Office
+numbered office = numbered_as office (office.sequence + 1)
 
 -- ---- look-ups
 
@@ -162,9 +195,21 @@ pub record HasHost (hosts : List Host) (dump : Dump) : Type 0 where
   pub is_host : slice_get hosts dump.host ≡ Some host
   pub has_number : host.next < number_limit
 
--- at most one open dump of a host
-pub record AreDumps (hosts : List Host) (dumps : List Dump) : Type 0 where
-  pub hosted : AtEach (HasHost hosts) dumps
+-- the contents of a tree are in the pool
+abbrev pub IsPooledTree : Pool → Tree → Type 0
+IsPooledTree pool tree = (content : List ℕ) → holds tree content ≡ true → is_pooled pool content ≡ true
+
+abbrev pub ArePooledHosts : Pool → List Host → Type 0
+ArePooledHosts pool hosts = AtEach (λ (host : Host). AtEach (λ (backup : Backup). IsPooledTree pool backup.tree) host.backups) hosts
+
+-- what the disk keeps: its hosts, and a pool that has the contents of their backups
+pub record IsSoundDurable (kept : Durable) : Type 0 where
+  pub hosts : AreHosts kept.hosts
+  pub pool_order : IsInOrder byte_cmp kept.pool
+  pub of_backups : ArePooledHosts kept.pool kept.hosts
+
+-- open dumps by themselves: at most one of a host
+pub record AreDumps (dumps : List Dump) : Type 0 where
   pub one_a_host : Differ (λ (dump : Dump). dump.host) dumps
   pub bases : AtEach (λ (dump : Dump). IsTree dump.base) dumps
   pub trees : AtEach (λ (dump : Dump). IsTree dump.tree) dumps
@@ -172,19 +217,27 @@ pub record AreDumps (hosts : List Host) (dumps : List Dump) : Type 0 where
 abbrev pub AreRestores : List Restore → Type 0
 AreRestores restores = AtEach (λ (restore : Restore). IsTree restore.tree) restores
 
--- the contents of a tree are in the pool
-abbrev pub IsPooledTree : Pool → Tree → Type 0
-IsPooledTree pool tree = (content : List ℕ) → holds tree content ≡ true → is_pooled pool content ≡ true
+-- what is open, by itself
+pub record IsSoundVolatile (epoch : ℕ) (now : Volatile) : Type 0 where
+  pub sessions : AreSessions epoch now.sequence now.dumps now.restores
+  pub dumps : AreDumps now.dumps
+  pub restores : AreRestores now.restores
 
-pub record ArePooled (pool : Pool) (hosts : List Host) (dumps : List Dump) (restores : List Restore) : Type 0 where
-  pub in_order : IsInOrder byte_cmp pool
-  pub of_backups : AtEach (λ (host : Host). AtEach (λ (backup : Backup). IsPooledTree pool backup.tree) host.backups) hosts
-  pub of_bases : AtEach (λ (dump : Dump). IsPooledTree pool dump.base) dumps
-  pub of_restores : AtEach (λ (restore : Restore). IsPooledTree pool restore.tree) restores
+-- the pool has the contents of bases and restores
+pub record IsPooledOpen (pool : Pool) (now : Volatile) : Type 0 where
+  pub of_bases : AtEach (λ (dump : Dump). IsPooledTree pool dump.base) now.dumps
+  pub of_restores : AtEach (λ (restore : Restore). IsPooledTree pool restore.tree) now.restores
+
+-- what ties both: open dumps have their hosts, and what is open is in the pool
+pub record AreTied (kept : Durable) (now : Volatile) : Type 0 where
+  pub hosted : AtEach (HasHost kept.hosts) now.dumps
+  pub pooled : IsPooledOpen kept.pool now
+  pub open pooled use *
 
 pub record IsSound (office : Office) : Type 0 where
-  pub hosts : AreHosts office.hosts
-  pub sessions : AreSessions office.epoch office.sequence office.dumps office.restores
-  pub dumps : AreDumps office.hosts office.dumps
-  pub restores : AreRestores office.restores
-  pub pooled : ArePooled office.pool office.hosts office.dumps office.restores
+  pub kept : IsSoundDurable office.durable
+  pub open kept use *
+  pub now : IsSoundVolatile office.epoch office.volatile
+  pub open now use *
+  pub tied : AreTied office.durable office.volatile
+  pub open tied use *

@@ -11,7 +11,7 @@ use Rattle.journal_view.specs.FoundLaws.{finds_each}
 use Rattle.journal_view.specs.View.{OnlyNow, uncertain, moment, FindsNow, FindsOnly, FoundSince}
 use Rattle.journal_view.specs.ViewLaws.{FindsNow-each, working_finds}
 use Rattle.office_model.specs.declared.event.Event.{Event}
-use Rattle.office_model.specs.Office.{Office, Names, durable}
+use Rattle.office_model.specs.Office.{Office, Names}
 use Rattle.office_model.specs.Meaning.{Reply}
 use Rattle.office_model.specs.Step.{State, Running, Halted, meaning_of}
 use Rattle.office_files.specs.Stands.{StandsFor}
@@ -36,18 +36,18 @@ module _ {D : Type 0} {d : DiskGhosts D} where
 module _ {D N S : Type 0} {d : DiskGhosts D} {n : NamerGhosts N S} where
   -- what an opening finds of a store at work now is what is durable of its office
   found_running : (old : Store D N S d n) (office : Office) (names : Names) (P : Files → Type 0) → IsRunning old.parts office names
-      → ((found : Files) → StandsFor n.digest_of found (durable office) → P found) → FindsNow old.parts.journal P
+      → ((found : Files) → StandsFor n.digest_of found office.durable → P found) → FindsNow old.parts.journal P
   found_running old office names P at wider =
       FindsNow-each (IsAlikeBut at.all (uncertain old.parts.journal)) P old.parts.journal
       (λ found alike. wider found
-      (stored_found old.parts.journal old.parts.pool old.parts.catalog (durable office) names at.stored found alike))
+      (stored_found old.parts.journal old.parts.pool old.parts.catalog office.durable names at.stored found alike))
       (working_finds old.parts.journal at.all at.journal_ready at.told_is)
 
   -- of a store in any state it is one of the state's two offices
   pub found_either : (old : Store D N S d n) (state : State) → InState old.parts state
       → FindsNow old.parts.journal (IsEither n.digest_of (first_of state) (second_of state))
   found_either old (Running office names) at =
-      found_running old office names (IsEither n.digest_of (durable office) (durable office)) at (λ found stands. inl stands)
+      found_running old office names (IsEither n.digest_of office.durable office.durable) at (λ found stands. inl stands)
   found_either old (Halted a b names) at = at.may_be.each
 
   left_at_start : (old : Store D N S d n) (state : State) (event : Event) (reopens : Bool) → InState old.parts state

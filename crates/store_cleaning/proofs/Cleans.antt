@@ -48,7 +48,7 @@ use Rattle.office_model.specs.declared.refusal.BrokenRule.TheVariants.{BadBucket
 use Rattle.office_model.specs.declared.refusal.Refusal.{Refusal}
 use Rattle.office_model.specs.declared.refusal.Refusal.TheVariants.{Broken, DiskFault}
 use Rattle.office_model.specs.Meaning.{Carried, Nothing, Commits}
-use Rattle.office_model.specs.Office.{Office, Names, durable, in_hosts, in_dumps, in_bases, in_restores}
+use Rattle.office_model.specs.Office.{Office, Names, in_hosts, in_dumps, in_bases, in_restores, with_pool}
 use Rattle.office_model.specs.Pool.{byte_cmp, cleaned, fated}
 use Rattle.office_model.specs.Step.{Running, IsStep, meaning_of}
 use Rattle.office_model.specs.events.Clean as CleanEvent
@@ -78,7 +78,7 @@ use Rattle.store_cleaning.specs.CleanLaws.{sessions_hold, hosts_count, AreKept, 
 
 abbrev after_cleaning : (List ℕ → Bool) → Office → Office
 after_cleaning inside office =
-    record office { pool = cleaned inside (is_protected office.hosts office.dumps office.restores) office.pool }
+    with_pool office (cleaned inside (is_protected office.hosts office.dumps office.restores) office.pool)
 
 -- what a cleaning means of a bucket that there is
 abbrev carried_by : (List ℕ → Bool) → Office → Carried
@@ -146,7 +146,7 @@ module _ {D N S : Type 0} {d : DiskGhosts D} {n : NamerGhosts N S} where
       let claimed = bucket_claimed id (slots parts id) item e in
       let listed = listed_item id (slots parts id) item e in
       let one = given_one n.digest_of (slots parts) (uncertain parts.journal) at.all at.fits in
-      let hosted = protected_counted n.digest_of (index_of (slots parts)) at.backups at.all (durable office) at.stands id
+      let hosted = protected_counted n.digest_of (index_of (slots parts)) at.backups at.all office.durable at.stands id
       (ap is_some listed.0)
       ∙ sym (hosts_count id parts.counts at.backups at.counted) in
       let opened = sessions_hold (given (slots parts)) (contents_of at.all) one id claimed.0 n.holds office parts.sessions at.sessions
@@ -175,7 +175,7 @@ module _ {D N S : Type 0} {d : DiskGhosts D} {n : NamerGhosts N S} where
           ≡ fated inside protected (fate_named wanted) office.pool
       number wanted =
           cleaned_number n.digest_of bucket old.counts (slots old) (contents_of at.all) office.pool protected at.stands.pool
-          (protected_is_kept old office names at) at.stands.one at.sound.pooled.in_order is.items is.of_bucket wanted
+          (protected_is_kept old office names at) at.stands.one at.sound.pool_order is.items is.of_bucket wanted
 
       gained : cleaning.marked ≡ fated inside protected Gains office.pool
       gained = is.marked ∙ number By.Gains
@@ -200,7 +200,7 @@ module _ {D N S : Type 0} {d : DiskGhosts D} {n : NamerGhosts N S} where
           let pool = none_cleaned inside protected office.pool (gains, loses, leaves) in (
             judged ∙ (λ i. Ok (record {
               answer = Cleaned (gains i) (loses i) (leaves i);
-              after = record office { pool = pool i };
+              after = with_pool office (pool i);
             })),
             refl,
             refl,
@@ -219,7 +219,7 @@ module _ {D N S : Type 0} {d : DiskGhosts D} {n : NamerGhosts N S} where
         headed : at.all F.Head ≡ None → ⊥
         headed none =
             let w = any_found _ office.pool changes in
-            let found = entry_found byte_cmp nat_list_cmp_total office.pool w.0 w.1 at.sound.pooled.in_order w.2 in
+            let found = entry_found byte_cmp nat_list_cmp_total office.pool w.0 w.1 at.sound.pool_order w.2 in
             let listed = at.stands.pool.listed w.1.0 w.1.1 found in
             unlisted old.pool.in_one_file (index_of (slots old)) at.all at.tells (at.stands.no_index none) listed.0 (ap is_some listed.2)
 
@@ -246,9 +246,9 @@ module _ {D N S : Type 0} {d : DiskGhosts D} {n : NamerGhosts N S} where
               ap (λ (b : Bool). b || opened) e
 
           stands : Stands n.digest_of (index_of relisted) at.backups (applied cleaning.change.changes at.all)
-              (durable (after_cleaning inside office))
+              (after_cleaning inside office).durable
           stands = clean_stands n.digest_of inside protected (index_of (slots old)) (index_of relisted) at.backups at.all
-              (applied cleaning.change.changes at.all) (durable office) safe stays
+              (applied cleaning.change.changes at.all) office.durable safe stays
               (λ id. applied_contents cleaning.change.changes at.all (F.Pool id) leads.are refl) headed index_cleaned
               (inr (leads.leads at.all at.tells))
               (IsSound-closed (after_cleaning inside office) office.epoch (IsSound-cleaned office inside at.sound)) at.stands
@@ -317,7 +317,7 @@ module _ {D N S : Type 0} {d : DiskGhosts D} {n : NamerGhosts N S} where
                   backups = at.backups;
                   told_is = subst (λ (j : Journal D d). told j ≡ Some image) (sym journal)
                       (w.committed.done ∙ ap (option_map (applied cleaning.change.changes)) at.told_is);
-                  stands = subst (λ (i : Index). Stands n.digest_of i at.backups image (durable (after_cleaning inside office)))
+                  stands = subst (λ (i : Index). Stands n.digest_of i at.backups image (after_cleaning inside office).durable)
                       (sym index) stands;
                   tells = subst (λ (b : Bool). TellsIn b (index_of (slots new)) image) (sym form)
                       (subst (λ (i : Index). TellsIn false i image) (sym index) (leads.leads at.all at.tells));

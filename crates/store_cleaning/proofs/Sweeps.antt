@@ -35,7 +35,7 @@ use Rattle.open_sessions.specs.declared.sessions.Sessions.{Sessions}
 use Rattle.office_model.specs.declared.answer.Answer.TheVariants.{Done}
 use Rattle.office_model.specs.declared.event.Event.TheVariants.{Sweep}
 use Rattle.office_model.specs.declared.refusal.Refusal.TheVariants.{DiskFault}
-use Rattle.office_model.specs.Office.{Office, Names, durable, is_held}
+use Rattle.office_model.specs.Office.{Office, Names, is_held}
 use Rattle.office_model.specs.Step.{Running, meaning_of}
 use Rattle.office_model.specs.UsedNames.{Among, AreSome, AreSwept}
 use Rattle.office_files.specs.Pooled.{contents_of}
@@ -248,7 +248,7 @@ module _ {D N S : Type 0} {d : DiskGhosts D} {n : NamerGhosts N S} where
 
       crash_swept : FindsOnly old.journal new.journal (MayRecover n.digest_of office ((meaning_of Sweep).carried office names))
       crash_swept =
-          FindsOnly-each (λ found. StandsFor n.digest_of found (durable office))
+          FindsOnly-each (λ found. StandsFor n.digest_of found office.durable)
           (MayRecover n.digest_of office ((meaning_of Sweep).carried office names)) old.journal new.journal
           (λ found stands. recover_before n.digest_of office ((meaning_of Sweep).carried office names) found stands)
           (crash_staged old new office names at (λ all told c.

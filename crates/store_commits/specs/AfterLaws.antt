@@ -27,7 +27,7 @@ use Rattle.open_sessions.specs.declared.sessions.OpenDump.{OpenDump}
 use Rattle.open_sessions.specs.SessionLaws.{pairs_set}
 use Rattle.office_catalog.specs.Held.{HoldsCatalog}
 use Rattle.office_catalog.specs.Known.{Known, with_line}
-use Rattle.office_model.specs.Office.{Office, Host, Names, IsSound, IsSoundHost, durable, backup_index}
+use Rattle.office_model.specs.Office.{Office, Host, Names, IsSound, IsSoundHost, backup_index}
 use Rattle.office_model.specs.Places.{slice_get-set_same}
 use Rattle.office_model.specs.Parts.{lines_of}
 use Rattle.office_model.specs.Pool.{Pool, with_tree}
@@ -129,7 +129,7 @@ module _ {D N S : Type 0} {d : DiskGhosts D} {n : NamerGhosts N S} where
 
     holds : HoldsCatalog at.all parts.catalog
     holds = subst (HoldsCatalog at.all) (sym at.catalog_is)
-        (stands_catalog n.digest_of (index_of (slots parts)) at.backups at.all (durable office) at.stands)
+        (stands_catalog n.digest_of (index_of (slots parts)) at.backups at.all office.durable at.stands)
 
     index_built : IsHostFile (index_of_host number new) (Some planned.built.files.index)
     index_built = subst (λ (i : HostIndex). IsHostFile i (Some planned.built.files.index))
@@ -228,13 +228,13 @@ module _ {D N S : Type 0} {d : DiskGhosts D} {n : NamerGhosts N S} where
         was = subst (λ s. TellsBuckets (index_of s) (applied pooled at.all)) relisted (planned.built.leads.leads at.all at.tells)
 
     abbrev with_pool : Pool → Office
-    with_pool pool = record (durable office) { hosts = slice_set office.hosts number new; pool = pool }
+    with_pool pool = record office.durable { hosts = slice_set office.hosts number new; pool = pool }
 
     stands : Stands n.digest_of next (slice_set at.backups number host_then.after) image (with_pool (with_tree office.pool m.dump.tree))
     stands = subst (λ tree. Stands n.digest_of next (slice_set at.backups number host_then.after) image (with_pool (with_tree office.pool tree)))
         (sym m.is.tree)
         (office_committed n.digest_of (slots parts) (uncertain parts.journal) at.all at.fits rows m.is.tree_rows.told at.backups image
-        (durable office) number m.host new host_then.after contents_are m.here refl stays host_then.beyond host_then.stands tells
+        office.durable number m.host new host_then.after contents_are m.here refl stays host_then.beyond host_then.stands tells
         (subst (λ tree. IsSound (with_pool (with_tree office.pool tree))) m.is.tree
         (IsSound-closed (office_after office place m.dump m.host now) office.epoch sound)) at.stands)
 

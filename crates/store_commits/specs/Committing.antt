@@ -17,7 +17,7 @@ use Rattle.ref_counts.specs.Numbers.{Items}
 use Rattle.ref_counts.specs.Stored.{Backup as StoredBackup}
 use Rattle.open_sessions.specs.declared.sessions.OpenDump.{OpenDump}
 use Rattle.open_sessions.specs.Opened.{IsDump}
-use Rattle.office_model.specs.Office.{Office, Host, Dump, Names, durable, number_limit}
+use Rattle.office_model.specs.Office.{Office, Host, Dump, Names, number_limit, with_dumps, with_hosts, with_pool}
 use Rattle.office_model.specs.Pool.{with_tree}
 use Rattle.office_model.specs.events.Commit.{with_commit}
 use Rattle.office_files.specs.Pairs.{other_at}
@@ -30,11 +30,7 @@ use Rattle.store_commits.specs.AcceptLaws.{with_added}
 
 -- the dump at a place becomes its host's newest backup
 abbrev pub office_after : Office → ℕ → Dump → Host → ℕ → Office
-office_after office place dump host now = record office {
-  hosts = slice_set office.hosts dump.host (with_commit host dump now);
-  pool = with_tree office.pool dump.tree;
-  dumps = remove office.dumps place;
-}
+office_after office place dump host now = with_dumps (with_pool (with_hosts office (slice_set office.hosts dump.host (with_commit host dump now))) (with_tree office.pool dump.tree)) (remove office.dumps place)
 
 module _ {D N S : Type 0} {d : DiskGhosts D} {n : NamerGhosts N S} where
   -- the dump of the model that an open dump at a place is, and its host, which has a number left
@@ -52,7 +48,7 @@ module _ {D N S : Type 0} {d : DiskGhosts D} {n : NamerGhosts N S} where
       → IsMeant parts place session office names at
   meant parts place session office names at e =
       let w = other_at parts.sessions.dumps.items office.dumps place session (sym at.sessions.dumps.counted) e in
-      let hosted = at.sound.dumps.hosted place w.0 w.1 in
+      let hosted = at.sound.hosted place w.0 w.1 in
       record {
         dump = w.0;
         there = w.1;
@@ -67,7 +63,7 @@ module _ {D N S : Type 0} {d : DiskGhosts D} {n : NamerGhosts N S} where
   pub record IsStoredAfter (parts : StoreParts D N S d n) (all : Files) (ids : List PoolId) (changes : List Change)
       (counts : List Items) (after : Office) : Type 0 where
     pub backups : List (List StoredBackup)
-    pub stands : Stands n.digest_of (index_of (with_added ids (slots parts))) backups (applied changes all) (durable after)
+    pub stands : Stands n.digest_of (index_of (with_added ids (slots parts))) backups (applied changes all) after.durable
     pub tells : TellsIn false (index_of (with_added ids (slots parts))) (applied changes all)
     pub counted : AreCountsOf counts backups
     pub view : IsKeptView parts.views.kept after.hosts backups

@@ -29,10 +29,10 @@ use Rattle.office_model.specs.declared.answer.Answer.TheVariants.{Committed}
 use Rattle.office_model.specs.declared.event.Event.TheVariants.{Commit}
 use Rattle.office_model.specs.declared.refusal.BrokenRule.TheVariants.{NoSession}
 use Rattle.office_model.specs.declared.refusal.Refusal.{Refusal}
-use Rattle.office_model.specs.Office.{Office, Names, IsSound, durable, dump_index}
+use Rattle.office_model.specs.Office.{Office, Names, IsSound, dump_index, with_dumps}
 use Rattle.office_model.specs.Parts.{dump_at}
 use Rattle.office_model.specs.laws.Judging.{at_found}
-use Rattle.office_model.specs.laws.SoundLaws.{IsSound-carried}
+use Rattle.office_model.specs.laws.StepLaws.{IsSound-carried}
 use Rattle.office_model.specs.events.Commit as CommitEvent
 use Rattle.office_files.specs.Hosts.{index_of_host}
 use Rattle.office_files.specs.Pooled.{contents_of}
@@ -130,11 +130,11 @@ module _ {D N S : Type 0} {d : DiskGhosts D} {n : NamerGhosts N S} where
         ∙ planned.judged.here)
 
     catalog_after : (office : Office) (names : Names) (at : IsRunning old office names) (m : IsMeant old place session office names at)
-        → known_after plan.catalog old.catalog ≡ known_of_office (durable (office_after office place m.dump m.host now))
+        → known_after plan.catalog old.catalog ≡ known_of_office (office_after office place m.dump m.host now).durable
     catalog_after office names at m =
         planned.built.proposes.after_is
         ∙ ap (λ (h : ℕ). with_line_at h) m.is.host
-        ∙ catalog_committed old.catalog (durable office) m.dump.host m.host m.dump now planned.lines.line planned.lines.dropped
+        ∙ catalog_committed old.catalog office.durable m.dump.host m.host m.dump now planned.lines.line planned.lines.dropped
         at.catalog_is m.here
         (planned.judged.line ∙ line) (planned.judged.dropped ∙ ap (λ (i : Index). dropped_of i.rules i.lines) index)
       where
@@ -186,7 +186,7 @@ module _ {D N S : Type 0} {d : DiskGhosts D} {n : NamerGhosts N S} where
       sequence_is = f.sequence ∙ ap (λ (s : Sessions S). s.sequence) w.sessions_same
 
       sessions_after : (office : Office) (names : Names) (at : IsRunning old office names)
-          → AreSessions n.holds (given (slots old)) (contents_of at.all) (record office { dumps = remove office.dumps place }) new.sessions
+          → AreSessions n.holds (given (slots old)) (contents_of at.all) (with_dumps office (remove office.dumps place)) new.sessions
       sessions_after office names at =
           AreSessions-dump_taken old.sessions new.sessions restores_are n.holds (given (slots old)) (contents_of at.all) office at.sessions place
           dumps_are sequence_is

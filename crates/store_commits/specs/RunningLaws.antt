@@ -22,7 +22,7 @@ use Rattle.pool_store.specs.Accepted.{fits_accepted}
 use Rattle.ref_counts.specs.Stored.{Backup as StoredBackup}
 use Rattle.open_sessions.specs.Opened.{AreSessions, claims_in}
 use Rattle.open_sessions.specs.SessionLaws.{AreSessions-claimed}
-use Rattle.office_model.specs.Office.{Office, Names, IsSound, durable}
+use Rattle.office_model.specs.Office.{Office, Names, IsSound}
 use Rattle.office_files.specs.Pooled.{contents_of}
 use Rattle.office_files.specs.Stands.{Stands}
 use Rattle.office_known.specs.KnownLaws.{known_of_office}
@@ -72,11 +72,11 @@ module _ {D N S : Type 0} {d : DiskGhosts D} {n : NamerGhosts N S} where
 
     pub running_committed : IsAccepted ids count (slots old) (slots new) → new.pool.in_one_file ≡ false
         → ((id : PoolId) → claims_in new.sessions id + count id ≡ claims_in old.sessions id)
-        → Stands n.digest_of (index_of (with_added ids (slots old))) backups (applied changes at.all) (durable after)
+        → Stands n.digest_of (index_of (with_added ids (slots old))) backups (applied changes at.all) after.durable
         → TellsIn false (index_of (with_added ids (slots old))) (applied changes at.all)
         → AreSessions n.holds (given (slots old)) (contents_of at.all) after new.sessions
         → IsKeptView new.views.kept after.hosts backups → AreCountsOf new.counts backups → IsSound after
-        → new.journal ≡ mid.journal → new.catalog ≡ known_of_office (durable after) → new.halted ≡ mid.halted → IsRunning new after names
+        → new.journal ≡ mid.journal → new.catalog ≡ known_of_office after.durable → new.halted ≡ mid.halted → IsRunning new after names
     running_committed accepted form claims stands tells sessions view counted sound journal catalog halted = record {
       working = record {
         ready = halted ∙ written.stays (λ e. absurd cc) ∙ at.ready;
@@ -86,7 +86,7 @@ module _ {D N S : Type 0} {d : DiskGhosts D} {n : NamerGhosts N S} where
           backups = backups;
           told_is = subst (λ (j : Journal D d). told j ≡ Some (applied changes at.all)) (sym journal)
               (written.committed.done ∙ ap (option_map (applied changes)) at.told_is);
-          stands = subst (λ (index : Index). Stands n.digest_of index backups (applied changes at.all) (durable after)) (sym index) stands;
+          stands = subst (λ (index : Index). Stands n.digest_of index backups (applied changes at.all) after.durable) (sym index) stands;
           tells = subst (λ (b : Bool). TellsIn b (index_of (slots new)) (applied changes at.all)) (sym form)
               (subst (λ (index : Index). TellsIn false index (applied changes at.all)) (sym index) tells);
           fits = subst (λ (j : Journal D d). Fits n.digest_of (slots new) (uncertain j) (applied changes at.all)) (sym journal) (fits_new accepted);

@@ -24,7 +24,7 @@ use Rattle.office_catalog.specs.Held.{HoldsCatalog}
 use Rattle.office_catalog.specs.Changed.{after}
 use Rattle.office_model.specs.declared.answer.Answer.{Answer}
 use Rattle.office_model.specs.declared.event.Event.{Event}
-use Rattle.office_model.specs.Office.{Office, Host, Backup, Names, IsSound, durable}
+use Rattle.office_model.specs.Office.{Office, Host, Backup, Names, IsSound, with_hosts}
 use Rattle.office_model.specs.Parts.{lines_of}
 use Rattle.office_model.specs.Places.{in_set}
 use Rattle.office_model.specs.laws.SoundLaws.{IsSound-closed, IsSound-carried}
@@ -97,7 +97,7 @@ module _ {D N S : Type 0} {d : DiskGhosts D} {n : NamerGhosts N S} where
     host_at_work items are = record {
       stands = found.2;
       holds = subst (HoldsCatalog at.all) (sym at.catalog_is)
-          (stands_catalog n.digest_of pool at.backups at.all (durable office) at.stands);
+          (stands_catalog n.digest_of pool at.backups at.all office.durable at.stands);
       index = ap (λ (k : Known). slice_get k.hosts p) at.catalog_is ∙ index_there office.hosts p host here;
       numbered = (at.sound.hosts.each p host here).backups.numbered;
       few = (at.sound.hosts.each p host here).numbers;
@@ -132,7 +132,7 @@ module _ {D N S : Type 0} {d : DiskGhosts D} {n : NamerGhosts N S} where
   -- what holds after a deletion that was planned, by the backups that are stored then
   pub record IsShortened (old : StoreParts D N S d n) (plan : DeletionPlan) (p : ℕ) (all : Files) (after_it : Office) : Type 0 where
     pub backups : List (List StoredBackup)
-    pub stands : Stands n.digest_of (index_of (slots old)) backups (applied plan.changes all) (durable after_it)
+    pub stands : Stands n.digest_of (index_of (slots old)) backups (applied plan.changes all) after_it.durable
     pub counted : AreCountsOf (slice_set old.counts p plan.counts) backups
     pub known : after plan.catalog old.catalog ≡ known_of_office after_it
 
@@ -147,7 +147,7 @@ module _ {D N S : Type 0} {d : DiskGhosts D} {n : NamerGhosts N S} where
     shown = (found old p office names at s.host s.is_host).0
 
     abbrev office_then : Office
-    office_then = record office { hosts = slice_set office.hosts p (left_host numbers s.host) }
+    office_then = with_hosts office (slice_set office.hosts p (left_host numbers s.host))
 
     deletion : IsDeletion numbers at.all (applied plan.changes at.all) p host (left_host numbers host) shown
     deletion =
@@ -165,7 +165,7 @@ module _ {D N S : Type 0} {d : DiskGhosts D} {n : NamerGhosts N S} where
     pub shortened : IsShortened old plan p at.all office_then
     shortened = record {
       backups = slice_set at.backups p (left_shown numbers host shown);
-      stands = deletion_stands n.digest_of (index_of (slots old)) at.backups at.all (applied plan.changes at.all) (durable office) p host
+      stands = deletion_stands n.digest_of (index_of (slots old)) at.backups at.all (applied plan.changes at.all) office.durable p host
           (left_host numbers host) numbers shown s.is_host refl (found old p office names at s.host s.is_host).1
           (λ file metadata other. planned.others at.all file other) (λ id listed. planned.others at.all (F.Pool id) refl) deletion
           (IsSound-closed office_then office.epoch sound_then) at.stands;

@@ -16,7 +16,7 @@ use Rattle.office_model.specs.declared.answer.Answer.TheVariants.{Done, Expired}
 use Rattle.office_model.specs.declared.event.Event.TheVariants.{Delete, Expire}
 use Rattle.office_model.specs.declared.refusal.BrokenRule.{BrokenRule}
 use Rattle.office_model.specs.declared.refusal.BrokenRule.TheVariants.{NoHost, NoBackup, Kept}
-use Rattle.office_model.specs.Office.{Office, Host, Backup, Names, IsSound, IsSoundHost, backup_index}
+use Rattle.office_model.specs.Office.{Office, Host, Backup, Names, IsSound, IsSoundHost, backup_index, with_hosts}
 use Rattle.office_model.specs.Meaning.{ReadsAndCommits, Reads, breaks}
 use Rattle.office_model.specs.Parts.{host_at, lines_of}
 use Rattle.office_model.specs.Places.{position-found}
@@ -105,7 +105,7 @@ module _ (office : Office) (names : Names) (name : List ℕ) (p : ℕ) (host : H
         judged = rw judged (rw d.judged refl)
             ∙ ap (λ (bs : List Backup). Ok (record {
               answer = Done;
-              after = record office { hosts = slice_set office.hosts p (record host { backups = bs }) };
+              after = with_hosts office (slice_set office.hosts p (record host { backups = bs }));
             })) (deleted_left host.backups d.place d.backup sound.backups.numbered.rise d.there
             ∙ ap (λ (k : ℕ). left_backups (k ∷ []) host.backups) d.number_is);
         touches = refl;
@@ -121,7 +121,7 @@ module _ (office : Office) (names : Names) (name : List ℕ) (p : ℕ) (host : H
     carried_is : (meaning_of (Expire name now)).carried office names
         ≡ Ok (record {
           answer = Expired (count_by (λ flag. flag) (named_of now host));
-          after = record office { hosts = slice_set office.hosts p (without_named now host) };
+          after = with_hosts office (slice_set office.hosts p (without_named now host));
         })
     carried_is = rw judged refl
 
@@ -144,9 +144,9 @@ module _ (office : Office) (names : Names) (name : List ℕ) (p : ℕ) (host : H
         carried_is
         ∙ (λ i. Ok (record {
           answer = Expired (zero_is i);
-          after = record office { hosts = slice_set office.hosts p (still i) };
+          after = with_hosts office (slice_set office.hosts p (still i));
         }))
-        ∙ ap (λ (hs : List Host). Ok (record { answer = Expired 0; after = record office { hosts = hs } })) (set_still office.hosts p here)
+        ∙ ap (λ (hs : List Host). Ok (record { answer = Expired 0; after = with_hosts office hs })) (set_still office.hosts p here)
 
     pub expire_shortens : (named_numbers host.rules now (lines_of host.backups) ≡ [] → ⊥)
         → Shortens (Expire name now) (Expired (length (named_numbers host.rules now (lines_of host.backups)))) office names p
@@ -157,7 +157,7 @@ module _ (office : Office) (names : Names) (name : List ℕ) (p : ℕ) (host : H
       judged = carried_is
           ∙ (λ i. Ok (record {
             answer = Expired (sym number_is i);
-            after = record office { hosts = slice_set office.hosts p (record host { backups = left i }) };
+            after = with_hosts office (slice_set office.hosts p (record host { backups = left i }));
           }));
       touches = ap (touched now) judged
           ∙ ap (λ (b : Bool). if b then ReadsAndCommits else Reads) (flagged_some (named_of now host) (lines_of host.backups) some);
@@ -194,7 +194,7 @@ module _ (known : Known) (name : List ℕ) (p : ℕ) (index : Index) (named : So
 
   host_of : (office : Office) → known ≡ known_of_office office → IsOf office
   host_of office is =
-      let w = named_host office known name p is named in
+      let w = named_host office.durable known name p is named in
       record {
         host = w.host;
         is_host = w.is_host;

@@ -27,7 +27,7 @@ use Rattle.office_model.specs.declared.event.Event.{Event}
 use Rattle.office_model.specs.declared.refusal.Refusal.{Refusal}
 use Rattle.office_model.specs.declared.refusal.Refusal.TheVariants as R
 use Rattle.office_model.specs.declared.refusal.BrokenRule.{BrokenRule}
-use Rattle.office_model.specs.Office.{Office, Names, IsSound}
+use Rattle.office_model.specs.Office.{Office, Names, IsSound, with_hosts}
 use Rattle.office_model.specs.Meaning.{Carried, Judged, Touch, ReadsAndCommits}
 use Rattle.office_model.specs.Step.{Running, IsStep, MayFault, MayStay, IsAnswerTo, meaning_of}
 use Rattle.office_model.specs.History.{IsUndamaged}
@@ -177,7 +177,7 @@ module _ {D N S : Type 0} {d : DiskGhosts D} {n : NamerGhosts N S} where
     module _ (items : Items) (plan : DeletionPlan) (has_items : slice_get old.counts p ≡ Some items)
         (planned : IsPlanned old.catalog (told old.journal) items p numbers plan) where
       abbrev office_then : (office : Office) (names : Names) → IsRunning old office names → Office
-      office_then office names at = record office { hosts = slice_set office.hosts p (left_host numbers (shortens office names at).host) }
+      office_then office names at = with_hosts office (slice_set office.hosts p (left_host numbers (shortens office names at).host))
 
       then_is : (office : Office) (names : Names) (at : IsRunning old office names)
           → IsShortened old plan p at.all (office_then office names at)

@@ -16,7 +16,7 @@ use Rattle.office_model.specs.declared.event.Event.{Event}
 use Rattle.office_model.specs.declared.refusal.BrokenRule.{BrokenRule}
 use Rattle.office_model.specs.declared.refusal.BrokenRule.TheVariants.{NoBackup, Kept}
 use Rattle.office_model.specs.declared.refusal.Refusal.{Refusal}
-use Rattle.office_model.specs.Office.{Office, Host, Names, IsSound}
+use Rattle.office_model.specs.Office.{Office, Host, Names, IsSound, with_hosts}
 use Rattle.office_model.specs.Meaning.{Reply, ReadsAndCommits, breaks}
 use Rattle.office_model.specs.Step.{IsAnswerTo, meaning_of}
 use Rattle.office_model.specs.UsedNames.{AreNamesAfter}
@@ -40,7 +40,7 @@ pub record Shortens (event : Event) (answer : Answer) (office : Office) (names :
   pub host : Host
   pub is_host : slice_get office.hosts p ≡ Some host
   pub judged : (meaning_of event).carried office names
-      ≡ Ok (record { answer = answer; after = record office { hosts = slice_set office.hosts p (left_host numbers host) } })
+      ≡ Ok (record { answer = answer; after = with_hosts office (slice_set office.hosts p (left_host numbers host)) })
   pub touches : (meaning_of event).touches office names ≡ ReadsAndCommits
 
 -- it does so with any sound office of this catalog; the names that are in use stay

@@ -15,10 +15,10 @@ use Rattle.office_model.specs.declared.session.SessionName.{SessionName}
 use Rattle.office_model.specs.declared.answer.Answer.TheVariants.{Done}
 use Rattle.office_model.specs.declared.event.Event.TheVariants.{Abort}
 use Rattle.office_model.specs.declared.refusal.BrokenRule.TheVariants.{NoSession}
-use Rattle.office_model.specs.Office.{Office, Dump, Names, dump_index}
+use Rattle.office_model.specs.Office.{Office, Dump, Names, dump_index, with_dumps}
 use Rattle.office_model.specs.Parts.{dump_at}
 use Rattle.office_model.specs.laws.Judging.{at_found}
-use Rattle.office_model.specs.laws.SoundLaws.{IsSound-carried}
+use Rattle.office_model.specs.laws.StepLaws.{IsSound-carried}
 use Rattle.office_model.specs.events.Abort as AbortEvent
 use Rattle.office_files.specs.Pairs.{AtEachPair, other_at}
 use Rattle.office_files.specs.Pooled.{contents_of}
@@ -84,7 +84,7 @@ module _ {D N S : Type 0} {d : DiskGhosts D} {n : NamerGhosts N S} where
         runs_kept old new (Abort session) Done journal
         (λ office names at.
         let found = dump_found index dump e there office names at in
-        let next : Office = record office { dumps = remove office.dumps index } in
+        let next : Office = with_dumps office (remove office.dumps index) in
         let judged : AbortEvent.carried session office ≡ Ok (record { answer = Done; after = next }) = rw found.is_at refl in
         record {
           next = next;

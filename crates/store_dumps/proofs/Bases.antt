@@ -39,7 +39,7 @@ use Rattle.stored_trees.specs.Occurrences.{is_content, names, occurrences}
 use Rattle.open_sessions.specs.Opened.{AreRowsOf}
 use Rattle.office_model.specs.declared.refusal.BrokenRule.TheVariants.{NoBackup}
 use Rattle.office_model.specs.Meaning.{found}
-use Rattle.office_model.specs.Office.{Office, Host, Backup, Names, durable}
+use Rattle.office_model.specs.Office.{Office, Host, Backup, Names}
 use Rattle.office_model.specs.Parts.{lines_of, newest}
 use Rattle.office_model.specs.events.OpenDump.{base_of}
 use Rattle.office_files.specs.Pairs.{pair_at}
@@ -183,7 +183,7 @@ module _ {D N S : Type 0} {d : DiskGhosts D} {n : NamerGhosts N S} where
     module _ (office : Office) (names : Names) (at : IsRunning parts office names) (host : Host)
         (is : slice_get office.hosts place ≡ Some host) where
       pub lines_are : index.lines ≡ lines_of host.backups
-      lines_are = ap (λ (i : Index). i.lines) (index_named (durable office) parts.catalog at.catalog_is place host index is there)
+      lines_are = ap (λ (i : Index). i.lines) (index_named office.durable parts.catalog at.catalog_is place host index is there)
 
       abbrev Newest : Line → Type 0
       Newest line = IsNewest (IsListed (index_of (slots parts))) (contents_of at.all) at.all place host.backups line
@@ -225,7 +225,7 @@ module _ {D N S : Type 0} {d : DiskGhosts D} {n : NamerGhosts N S} where
       newest_fault V.Memory says = tt
       newest_fault (V.Damaged file found) says = λ office names at.
           let said = says file found refl in
-          let h = host_of (durable office) parts.catalog at.catalog_is place index there in
+          let h = host_of office.durable parts.catalog at.catalog_is place index there in
           let w = newest_there office names at h.0 h.1 line newest_is in
           let same : said.line ≡ line = only_line line said.line said.index said.is_line in
           let there : found ≡ at.all (TableOf place line.number) =

@@ -57,7 +57,7 @@ module _ {D N S : Type 0} {d : DiskGhosts D} {n : NamerGhosts N S} where
       → ((id : PoolId) → claims_in new.sessions id ≡ claims_in old.sessions id + count id)
       → (AreSessions n.holds (given (slots new)) (contents_of at.all) office old.sessions
       → AreSessions n.holds (given (slots new)) (contents_of at.all) next new.sessions)
-      → durable next ≡ durable office → next.hosts ≡ office.hosts → IsSound next → IsRunning new next names
+      → next.durable ≡ durable office → next.hosts ≡ office.hosts → IsSound next → IsRunning new next names
   unfolding working_staged staged_gains
   running_gains old new office next names count at gains journal catalog counts views halted form claims opens same hosts sound =
       running_let_go mid new office next names (λ id. 0) (λ id. claims_of (slots new id)) working (λ id. refl) refl refl refl refl refl

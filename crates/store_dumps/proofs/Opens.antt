@@ -30,9 +30,9 @@ use Rattle.office_model.specs.declared.refusal.Refusal.{Refusal}
 use Rattle.office_model.specs.declared.refusal.Refusal.TheVariants.{Broken, Halted, DiskFault, Damaged, Memory}
 use Rattle.office_model.specs.declared.session.SessionName.{SessionName}
 use Rattle.office_model.specs.Meaning.{Carried, Judged, ◌>>=◌, ◌>>◌, breaks}
-use Rattle.office_model.specs.Office.{Office, Host, Dump, Names, durable, dump_index_of_host, number_limit, last_sequence}
+use Rattle.office_model.specs.Office.{Office, Host, Dump, Names, dump_index_of_host, number_limit, last_sequence, numbered_as, with_dumps}
 use Rattle.office_model.specs.Parts.{host_at, lines_of}
-use Rattle.office_model.specs.laws.SoundLaws.{IsSound-carried}
+use Rattle.office_model.specs.laws.StepLaws.{IsSound-carried}
 use Rattle.office_model.specs.events.OpenDump as OpenDumpModel
 use Rattle.office_files.specs.Pairs.{AtEachPair, pairs_push}
 use Rattle.office_files.specs.Pooled.{contents_of}
@@ -69,10 +69,7 @@ judged_from false next sequence rest = second (nat_le number_limit next)
 
 -- what a further dump makes of an office
 abbrev pub with_fresh : Office → ℕ → Kind → ℕ → Tree → Office
-with_fresh office host kind now base = record office {
-  dumps = office.dumps ++ OpenDumpModel.new_dump (OpenDumpModel.next_session office) host kind now base ∷ [];
-  sequence = office.sequence + 1;
-}
+with_fresh office host kind now base = numbered_as (with_dumps office (office.dumps ++ OpenDumpModel.new_dump (OpenDumpModel.next_session office) host kind now base ∷ [])) (office.sequence + 1)
 
 abbrev opened : Office → ℕ → Kind → ℕ → Tree → Carried
 opened office host kind now base = record {
@@ -97,7 +94,7 @@ judged_at name kind now office place host base at is =
     made dumps = Ok (record {
       answer = DumpAnswer
           (OpenDumpModel.next_session office);
-      after = record office { dumps = dumps; sequence = office.sequence + 1 };
+      after = numbered_as (with_dumps office dumps) (office.sequence + 1);
     })
 
     moved : (rule : Option BrokenRule) (dumps : List Dump) → ((rule >> Ok dumps) >>= made) ≡ (rule >> made dumps)
@@ -168,7 +165,7 @@ module _ {D N S : Type 0} {d : DiskGhosts D} {n : NamerGhosts N S} where
   module _ (old : StoreParts D N S d n) (name : List ℕ) (kind : Kind) (now : ℕ) where
     pub no_host : None ≡ host_named (names_of old.catalog.hosts) name
         → (office : Office) (names : Names) → IsRunning old office names → OpenDumpModel.carried name kind now office ≡ Err NoHost
-    no_host e office names at = rw (no_named (durable office) old.catalog at.catalog_is name e) refl
+    no_host e office names at = rw (no_named office.durable old.catalog at.catalog_is name e) refl
 
     module _ (place : ℕ) (index : Index) (found : Some place ≡ host_named (names_of old.catalog.hosts) name)
         (there : slice_get old.catalog.hosts place ≡ Some index) where
@@ -183,8 +180,8 @@ module _ {D N S : Type 0} {d : DiskGhosts D} {n : NamerGhosts N S} where
 
       -- is that of the model
       module _ (office : Office) (names : Names) (at : IsRunning old office names) where
-        abbrev named : IsNamed (durable office) old.catalog name place
-        named = named_host (durable office) old.catalog at.catalog_is name place found
+        abbrev named : IsNamed office.durable old.catalog name place
+        named = named_host office.durable old.catalog at.catalog_is name place found
 
         has_same : has_base kind index.lines ≡ has_base kind (lines_of named.host.backups)
         has_same = ap (has_base kind) (lines_are old place index there office names at named.host named.is_host)
@@ -201,7 +198,7 @@ module _ {D N S : Type 0} {d : DiskGhosts D} {n : NamerGhosts N S} where
 
             next_same : named.host.next ≡ index.next
             next_same = sym (ap (λ (i : Index). i.next)
-                (index_named (durable office) old.catalog at.catalog_is place named.host index named.is_host there))
+                (index_named office.durable old.catalog at.catalog_is place named.host index named.is_host there))
 
             sequence_same : office.sequence ≡ old.sessions.sequence
             sequence_same = sym at.sessions.sequence

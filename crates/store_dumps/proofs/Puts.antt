@@ -58,11 +58,11 @@ use Rattle.office_model.specs.declared.refusal.Refusal.TheVariants as R
 use Rattle.office_model.specs.declared.session.SessionName.{SessionName}
 use Rattle.office_model.specs.Frames.{bytes_of as item_bytes}
 use Rattle.office_model.specs.Meaning.{Carried, Judged, Reply, Stages}
-use Rattle.office_model.specs.Office.{Office, Dump, Names, durable}
+use Rattle.office_model.specs.Office.{Office, Dump, Names, with_dumps}
 use Rattle.office_model.specs.Step.{Running, IsStep, MayFault, meaning_of}
 use Rattle.office_model.specs.History.{IsUndamaged}
 use Rattle.office_model.specs.UsedNames.{AreNamesAfter, IsNamedBy}
-use Rattle.office_model.specs.laws.SoundLaws.{IsSound-carried}
+use Rattle.office_model.specs.laws.StepLaws.{IsSound-carried}
 use Rattle.office_model.specs.events.Put as PutEvent
 use Rattle.office_files.specs.Pairs.{AtEachPair}
 use Rattle.office_files.specs.Pooled.{contents_of}
@@ -251,7 +251,7 @@ module _ {D N S : Type 0} {d : DiskGhosts D} {n : NamerGhosts N S} where
             ∙ sym (is tree_is)
 
         abbrev next : Office
-        next = record office { dumps = slice_set office.dumps index (PutEvent.with_item found.value path item) }
+        next = with_dumps office (slice_set office.dumps index (PutEvent.with_item found.value path item))
 
         judged_where : (full : Bool) → PutEvent.is_chain_full office.pool office.dumps names (content_of item) ≡ full
             → PutEvent.carried session path item office names ≡ PutEvent.carried_where session path item full office
@@ -300,7 +300,7 @@ module _ {D N S : Type 0} {d : DiskGhosts D} {n : NamerGhosts N S} where
         crash_may new same office names at =
             subst (λ (j : Journal D d). FindsOnly old.journal j
             (MayRecover n.digest_of office ((meaning_of Event').carried office names))) (sym same)
-            (FindsOnly-each (λ found. StandsFor n.digest_of found (durable office))
+            (FindsOnly-each (λ found. StandsFor n.digest_of found office.durable)
             (MayRecover n.digest_of office ((meaning_of Event').carried office names)) old.journal journal
             (λ found stands. recover_before n.digest_of office ((meaning_of Event').carried office names) found stands)
             (crash_staged old mid office names at crash))

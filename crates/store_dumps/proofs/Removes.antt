@@ -21,8 +21,8 @@ use Rattle.office_model.specs.declared.answer.Answer.TheVariants.{Done}
 use Rattle.office_model.specs.declared.event.Event.TheVariants.{Remove}
 use Rattle.office_model.specs.declared.refusal.BrokenRule.TheVariants.{NoSession, NoPath}
 use Rattle.office_model.specs.declared.session.SessionName.{SessionName}
-use Rattle.office_model.specs.Office.{Office, Dump, Names}
-use Rattle.office_model.specs.laws.SoundLaws.{IsSound-carried}
+use Rattle.office_model.specs.Office.{Office, Dump, Names, with_dumps}
+use Rattle.office_model.specs.laws.StepLaws.{IsSound-carried}
 use Rattle.office_model.specs.events.Remove as RemoveEvent
 use Rattle.office_files.specs.Pairs.{AtEachPair}
 use Rattle.office_files.specs.Pooled.{contents_of}
@@ -130,7 +130,7 @@ module _ {D N S : Type 0} {d : DiskGhosts D} {n : NamerGhosts N S} where
           runs_kept old new (Remove session path) Done journal
           (λ office names at.
           let found = dump_found old session index dump e there office names at in
-          let next : Office = record office { dumps = slice_set office.dumps index (RemoveEvent.with_removed found.value path) } in
+          let next : Office = with_dumps office (slice_set office.dumps index (RemoveEvent.with_removed found.value path)) in
           let is : is_some (node_at found.value.tree path) ≡ true = path_is office names at ∙ some in
           let judged : RemoveEvent.carried session path office ≡ Ok (record { answer = Done; after = next }) = rw (found.is_at, is) refl in
           record {

@@ -110,7 +110,7 @@ module _ {D N S : Type 0} {d : DiskGhosts D} {n : NamerGhosts N S} where
       → LetsGo count (slots old) (slots new) → new.pool.in_one_file ≡ old.pool.in_one_file
       → ((id : PoolId) → claims_in new.sessions id + count id ≡ total id)
       → AreSessions n.holds (given (slots old)) (contents_of at.all) next new.sessions
-      → durable next ≡ durable office → next.hosts ≡ office.hosts → IsSound next → IsRunning new next names
+      → next.durable ≡ durable office → next.hosts ≡ office.hosts → IsSound next → IsRunning new next names
   unfolding stored_let_go
   running_let_go old new office next names count total at claims_are journal catalog counts views halted go form claims sessions same hosts
       sound = record {
@@ -139,8 +139,8 @@ module _ {D N S : Type 0} {d : DiskGhosts D} {n : NamerGhosts N S} where
         claimed = claimed;
       }
     where
-      stored : IsStored old.journal new.pool old.catalog (durable office) names
-      stored = stored_let_go old.journal old.pool new.pool old.catalog (durable office) names count at.stored go form
+      stored : IsStored old.journal new.pool old.catalog office.durable names
+      stored = stored_let_go old.journal old.pool new.pool old.catalog office.durable names count at.stored go form
 
       claimed : (id : PoolId) → claims_of (slots new id) ≡ claims_in new.sessions id
       claimed id = omega (arith, (go id).claims, claims_are id, claims id)

@@ -31,7 +31,7 @@ use Rattle.office_model.specs.declared.refusal.BrokenRule.{BrokenRule}
 use Rattle.office_model.specs.declared.refusal.BrokenRule.TheVariants.{NumbersSpent}
 use Rattle.office_model.specs.declared.refusal.Refusal.{Refusal}
 use Rattle.office_model.specs.declared.refusal.Refusal.TheVariants.{Broken, Halted as HaltedReply, DiskFault, Damaged, Memory}
-use Rattle.office_model.specs.Office.{Office, Host, Names, durable, reopened, last_sequence}
+use Rattle.office_model.specs.Office.{Office, Host, Names, reopened, last_sequence}
 use Rattle.office_model.specs.Meaning.{Reply}
 use Rattle.office_model.specs.Step.{State, Running, Halted, IsPicked}
 use Rattle.office_model.specs.events.Reopen.{carried}
@@ -249,8 +249,8 @@ module _ {D N S : Type 0} {d : DiskGhosts D} {n : NamerGhosts N S} where
 
   may_of : (parts : StoreParts D N S d n) (state : State) → InState parts state
       → MayBe n.digest_of parts.journal (first_of state) (second_of state)
-  may_of parts (Running office names) at = stored_may parts.journal parts.pool parts.catalog (durable office) names at.stored
-      (durable office)
+  may_of parts (Running office names) at = stored_may parts.journal parts.pool parts.catalog office.durable names at.stored
+      office.durable
   may_of parts (Halted a b names) at = at.may_be
 
   -- refused without a fault of the disk, the parts are in the state that they were in
@@ -279,9 +279,9 @@ module _ {D N S : Type 0} {d : DiskGhosts D} {n : NamerGhosts N S} where
 
   -- of a store at work
   steps_running : (old new : StoreParts D N S d n) (reply : Reply) (office : Office) (names : Names) → Reopens old reply new
-      → IsRunning old office names → Goes (durable office) (durable office) reply new → Steps (Running office names) Reopen reply new
+      → IsRunning old office names → Goes office.durable office.durable reply new → Steps (Running office names) Reopen reply new
   steps_running old new (Ok answer) office names reopens at r =
-      let one = one_of (durable office) r.office r.is_one in
+      let one = one_of office.durable r.office r.is_one in
       let room : office.epoch < last_sequence = subst (λ (o : Office). o.epoch < last_sequence) one r.room in
       record {
         next = Running (reopened r.office) r.names;
@@ -294,13 +294,13 @@ module _ {D N S : Type 0} {d : DiskGhosts D} {n : NamerGhosts N S} where
         in_state = r.running;
       }
     where
-      one_back : durable office ≡ r.office
-      one_back = sym (one_of (durable office) r.office r.is_one)
+      one_back : office.durable ≡ r.office
+      one_back = sym (one_of office.durable r.office r.is_one)
 
       answer_at : ReopenedAnswer (office.epoch + 1) ≡ answer
       answer_at = ap (λ (o : Office). ReopenedAnswer (o.epoch + 1)) one_back ∙ sym r.answer_is
   steps_running old new (Err (Broken rule)) office names reopens at goes =
-      let one = one_of (durable office) goes.1.office goes.1.is_one in
+      let one = one_of office.durable goes.1.office goes.1.is_one in
       let last : last_sequence ≤ office.epoch = subst (λ (o : Office). last_sequence ≤ o.epoch) one goes.1.last in
       record {
         next = Running office names;
@@ -319,15 +319,15 @@ module _ {D N S : Type 0} {d : DiskGhosts D} {n : NamerGhosts N S} where
   }
   steps_running old new (Err DiskFault) office names reopens at goes = elim goes.1 [
     | inl may ↦ record {
-      next = Halted (durable office) (durable office) names;
+      next = Halted office.durable office.durable names;
       step = ((refl, inl refl), refl, refl);
       undamaged = tt;
-      in_state = halted_in old new (Running office names) names (durable office) (durable office) at at.used at.digest
+      in_state = halted_in old new (Running office names) names office.durable office.durable at at.used at.digest
           (reopens.stays DiskFault refl) goes.0 may;
     }
     | inr w ↦ record {
       next = Halted w.0 (reopened w.0) names;
-      step = ((one_of (durable office) w.0 w.1, inr (ap reopened (one_of (durable office) w.0 w.1))), refl, refl);
+      step = ((one_of office.durable w.0 w.1, inr (ap reopened (one_of office.durable w.0 w.1))), refl, refl);
       undamaged = tt;
       in_state = halted_in old new (Running office names) names w.0 (reopened w.0) at at.used at.digest
           (reopens.stays DiskFault refl) goes.0 w.2;
@@ -386,7 +386,7 @@ module _ {D N S : Type 0} {d : DiskGhosts D} {n : NamerGhosts N S} where
       → Steps state Reopen reply new
   reopen_steps old new reply reopens (Running office names) at =
       steps_running old new reply office names reopens at
-      (reopens.goes (durable office) (durable office) (may_of old (Running office names) at))
+      (reopens.goes office.durable office.durable (may_of old (Running office names) at))
   reopen_steps old new reply reopens (Halted a b names) at = steps_halted old new reply a b names reopens at (reopens.goes a b at.may_be)
 
   pub reopen_crash : (old new : StoreParts D N S d n) (reply : Reply) → Reopens old reply new → (state : State) → InState old state

@@ -23,7 +23,7 @@ use Rattle.backup_views.specs.StoredLaws.{table_at}
 use Rattle.pool_changes.specs.Listed.{index_of}
 use Rattle.ref_counts.specs.Stored.{Backup as StoredBackup, stored}
 use Rattle.office_catalog.specs.Known.{host_named, names_of}
-use Rattle.office_model.specs.Office.{Office, Host, Backup, Names, durable}
+use Rattle.office_model.specs.Office.{Office, Host, Backup, Names}
 use Rattle.office_model.specs.Meaning.{◌>>=◌}
 use Rattle.office_model.specs.Parts.{lines_of, backup_of}
 use Rattle.office_model.specs.declared.refusal.BrokenRule.TheVariants.{NoHost, NoBackup}
@@ -99,7 +99,7 @@ module _ {D N S : Type 0} {d : DiskGhosts D} {n : NamerGhosts N S} where
   host_of : (parts : StoreParts D N S d n) (office : Office) (names : Names) (at : IsRunning parts office names) (place : ℕ) (index : Index)
       → slice_get parts.catalog.hosts place ≡ Some index → IsHostOf parts office names at place index
   host_of parts office names at place index e =
-      let w = host_of_index parts.catalog (durable office) at.catalog_is place index e in
+      let w = host_of_index parts.catalog office.durable at.catalog_is place index e in
       let pair = pair_at (StandsHost (IsListed (index_of (slots parts)))
       (contents_of at.all) at.all) office.hosts at.backups at.stands.hosts place w.0 w.1 in
       record {
@@ -273,10 +273,10 @@ module _ {D N S : Type 0} {d : DiskGhosts D} {n : NamerGhosts N S} where
         → HasView new.views place asked.number)
         → IsLoaded old name number (rows_of new.views.kept)
     loaded_backup reads has office names at =
-        let h = host_there old.catalog (durable office) at.catalog_is name place is_place in
-        let b = backup_there old.catalog (durable office) at.catalog_is place h.host h.there number line is_line in
-        let at_b = backup_at_there old.catalog (durable office) at.catalog_is place h.host h.there number line is_line in
-        let index = index_there old.catalog (durable office) at.catalog_is place h.host h.there in
+        let h = host_there old.catalog office.durable at.catalog_is name place is_place in
+        let b = backup_there old.catalog office.durable at.catalog_is place h.host h.there number line is_line in
+        let at_b = backup_at_there old.catalog office.durable at.catalog_is place h.host h.there number line is_line in
+        let index = index_there old.catalog office.durable at.catalog_is place h.host h.there in
         let kept = has (index_of_host place h.host) b.backup.line index (line_at_backup h.host.backups line b.backup b.there) in
         let view : IsViewOf kept.kept office.hosts at.backups =
         subst (λ (k : Option KeptView). IsKeptView k office.hosts at.backups) kept.is (reads.view office names at) in
@@ -307,9 +307,9 @@ module _ {D N S : Type 0} {d : DiskGhosts D} {n : NamerGhosts N S} where
       (is_line : IsLineFound old.catalog place number (Some line)) where
     pub loaded_tree : (tree : Rows) → IsTreeAt old place line tree → IsLoaded old name number tree
     loaded_tree tree is office names at =
-        let h = host_there old.catalog (durable office) at.catalog_is name place is_place in
-        let b = backup_there old.catalog (durable office) at.catalog_is place h.host h.there number line is_line in
-        let at_b = backup_at_there old.catalog (durable office) at.catalog_is place h.host h.there number line is_line in
+        let h = host_there old.catalog office.durable at.catalog_is name place is_place in
+        let b = backup_there old.catalog office.durable at.catalog_is place h.host h.there number line is_line in
+        let at_b = backup_at_there old.catalog office.durable at.catalog_is place h.host h.there number line is_line in
         let shown =
         pair_at (StandsHost (IsListed (index_of (slots old))) (contents_of at.all) at.all) office.hosts at.backups
         at.stands.hosts place h.host h.there in
@@ -332,11 +332,11 @@ module _ {D N S : Type 0} {d : DiskGhosts D} {n : NamerGhosts N S} where
     pub refused_host : None ≡ host_named (names_of old.catalog.hosts) name → (office : Office) (names : Names) → IsRunning old office names
         → backup_of office.hosts name number ≡ Err NoHost
     refused_host e office names at =
-        backup_of_none office.hosts name number NoHost (no_host old.catalog (durable office) at.catalog_is name e)
+        backup_of_none office.hosts name number NoHost (no_host old.catalog office.durable at.catalog_is name e)
 
     pub refused_number : (place : ℕ) → Some place ≡ host_named (names_of old.catalog.hosts) name → IsLineFound old.catalog place number None
         → (office : Office) (names : Names) → IsRunning old office names → backup_of office.hosts name number ≡ Err NoBackup
     refused_number place e found office names at =
-        let h = host_there old.catalog (durable office) at.catalog_is name place e in
+        let h = host_there old.catalog office.durable at.catalog_is name place e in
         backup_of_at office.hosts name place number h.host h.is
-        ∙ ap (λ j. j >>= λ x. Ok x.value) (no_backup old.catalog (durable office) at.catalog_is place h.host h.there number found)
+        ∙ ap (λ j. j >>= λ x. Ok x.value) (no_backup old.catalog office.durable at.catalog_is place h.host h.there number found)

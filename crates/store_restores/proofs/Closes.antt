@@ -18,8 +18,8 @@ use Rattle.office_model.specs.declared.session.SessionName.{SessionName}
 use Rattle.office_model.specs.declared.answer.Answer.TheVariants.{Done}
 use Rattle.office_model.specs.declared.event.Event.TheVariants.{CloseRead}
 use Rattle.office_model.specs.declared.refusal.BrokenRule.TheVariants.{NoSession}
-use Rattle.office_model.specs.Office.{Office, Names}
-use Rattle.office_model.specs.laws.SoundLaws.{IsSound-carried}
+use Rattle.office_model.specs.Office.{Office, Names, with_restores}
+use Rattle.office_model.specs.laws.StepLaws.{IsSound-carried}
 use Rattle.office_model.specs.events.CloseRead as CloseReadEvent
 use Rattle.office_files.specs.Pooled.{contents_of}
 use Rattle.store_parts.specs.declared.parts.StoreParts.{StoreParts}
@@ -54,7 +54,7 @@ module _ {D N S : Type 0} {d : DiskGhosts D} {n : NamerGhosts N S} (old : StoreP
         rows_are go (λ id. omega (arith, at.claimed id, claims_in_restores-remove old.sessions.restores.items id index restore there))
 
     abbrev without : Office → Office
-    without office = record office { restores = remove office.restores index }
+    without office = with_restores office (remove office.restores index)
 
     running_closed : (office : Office) (names : Names) (at : IsRunning old office names)
         → CloseReadEvent.carried session office ≡ Ok (record { answer = Done; after = without office })

@@ -24,8 +24,8 @@ use Rattle.office_model.specs.declared.refusal.BrokenRule.TheVariants.{NoSession
 use Rattle.office_model.specs.declared.refusal.Refusal.{Refusal}
 use Rattle.office_model.specs.declared.refusal.Refusal.TheVariants.{Broken, Halted, DiskFault, Damaged, Memory}
 use Rattle.office_model.specs.declared.session.SessionName.{SessionName}
-use Rattle.office_model.specs.Office.{Office, Restore, Names, IsSound}
-use Rattle.office_model.specs.laws.SoundLaws.{IsSound-carried}
+use Rattle.office_model.specs.Office.{Office, Restore, Names, IsSound, with_restores}
+use Rattle.office_model.specs.laws.StepLaws.{IsSound-carried}
 use Rattle.office_model.specs.events.ReadNext.{moved_on, frame_of}
 use Rattle.office_model.specs.events.ReadNext as ReadNextEvent
 use Rattle.office_files.specs.Pooled.{contents_of}
@@ -171,7 +171,7 @@ module _ {D N S : Type 0} {d : DiskGhosts D} {n : NamerGhosts N S} where
       found = restore_found old session index restore e there
 
       abbrev with_value : Office → Restore → Office
-      with_value office value = record office { restores = slice_set office.restores index value }
+      with_value office value = with_restores office (slice_set office.restores index value)
 
       module _ (office : Office) (names : Names) (at : IsRunning old office names) where
         abbrev value : Restore

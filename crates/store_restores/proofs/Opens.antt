@@ -32,9 +32,9 @@ use Rattle.office_model.specs.declared.refusal.Refusal.{Refusal}
 use Rattle.office_model.specs.declared.refusal.Refusal.TheVariants.{Broken, Halted, DiskFault, Damaged, Memory}
 use Rattle.office_model.specs.declared.session.SessionName.{SessionName}
 use Rattle.office_model.specs.Meaning.{Carried, Judged, ◌>>=◌, ◌>>◌, breaks}
-use Rattle.office_model.specs.Office.{Office, Restore, Names, last_sequence}
+use Rattle.office_model.specs.Office.{Office, Restore, Names, last_sequence, numbered_as, with_restores}
 use Rattle.office_model.specs.Parts.{backup_of}
-use Rattle.office_model.specs.laws.SoundLaws.{IsSound-carried}
+use Rattle.office_model.specs.laws.StepLaws.{IsSound-carried}
 use Rattle.office_model.specs.events.OpenDump.{next_session}
 use Rattle.office_model.specs.events.OpenRead as OpenReadEvent
 use Rattle.office_files.specs.Pooled.{contents_of, IsListed}
@@ -98,10 +98,7 @@ unspent : (sequence : ℕ) → sequence < 2 ^ 64 - 1 → nat_le last_sequence se
 unspent sequence h = grind (arith, nat_tests)
 
 abbrev opened : Office → Tree → Office
-opened office tree = record office {
-  restores = office.restores ++ OpenReadEvent.new_restore (next_session office) tree ∷ [];
-  sequence = office.sequence + 1;
-}
+opened office tree = numbered_as (with_restores office (office.restores ++ OpenReadEvent.new_restore (next_session office) tree ∷ [])) (office.sequence + 1)
 
 module _ {D N S : Type 0} {d : DiskGhosts D} {n : NamerGhosts N S} where
   pub reads_of : (old mid : StoreParts D N S d n) → Looks old mid → Reads old mid
@@ -151,7 +148,7 @@ module _ {D N S : Type 0} {d : DiskGhosts D} {n : NamerGhosts N S} where
           made : List Restore → Judged Carried
           made restores = Ok (record {
             answer = RestoreAnswer (next_session office);
-            after = record office { restores = restores; sequence = office.sequence + 1 };
+            after = numbered_as (with_restores office restores) (office.sequence + 1);
           })
 
           moved : (b : Bool) (restores : List Restore)

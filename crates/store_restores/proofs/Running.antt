@@ -111,7 +111,7 @@ module _ {D N S : Type 0} {d : DiskGhosts D} {n : NamerGhosts N S} where
   pub running_stays : (old new : StoreParts D N S d n) (office next : Office) (names : Names) (at : IsRunning old office names)
       → Stays old new → AreSessions n.holds (given (slots new)) (contents_of at.all) next new.sessions
       → ((id : PoolId) → claims_of (slots new id) ≡ claims_in new.sessions id)
-      → durable next ≡ durable office → next.hosts ≡ office.hosts → IsSound next → IsRunning new next names
+      → next.durable ≡ durable office → next.hosts ≡ office.hosts → IsSound next → IsRunning new next names
   running_stays old new office next names at stays sessions claimed same hosts sound = record {
     working = record {
       ready = stays.halted ∙ at.ready;
@@ -121,7 +121,7 @@ module _ {D N S : Type 0} {d : DiskGhosts D} {n : NamerGhosts N S} where
         backups = at.backups;
         told_is = stays.quiet.told_same ∙ at.told_is;
         stands = subst (λ (o : Office). Stands n.digest_of (index_of (slots new)) at.backups at.all o) (sym same)
-            (subst (λ (index : Index). Stands n.digest_of index at.backups at.all (durable office)) (sym index) at.stands);
+            (subst (λ (index : Index). Stands n.digest_of index at.backups at.all office.durable) (sym index) at.stands);
         tells = subst (λ (index : Index). TellsIn new.pool.in_one_file index at.all) (sym index)
             (subst (λ (form : Bool). TellsIn form (index_of (slots old)) at.all) (sym stays.form) at.tells);
         fits = fits_less n.digest_of (slots old) (slots new) (uncertain old.journal) (uncertain new.journal) at.all at.all less
@@ -205,7 +205,7 @@ module _ {D N S : Type 0} {d : DiskGhosts D} {n : NamerGhosts N S} where
   crash_quiet old new office names at quiet judged =
       FindsOnly-each (IsAlikeBut at.all (uncertain old.journal)) (MayRecover n.digest_of office judged) old.journal new.journal
       (λ found alike. recover_before n.digest_of office judged found
-      (stored_found old.journal old.pool old.catalog (durable office) names at.stored found alike))
+      (stored_found old.journal old.pool old.catalog office.durable names at.stored found alike))
       (quiet.crash at.all at.told_is)
 
   -- the event breaks no rule, and the parts hold the office after it

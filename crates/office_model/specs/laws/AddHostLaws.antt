@@ -3,12 +3,13 @@ use Rattle.std.specs.Prelude.{◌≡◌, ◌<◌, ℕ, ◌+◌, false, List, [],
 use Rattle.std.proofs.Common.{refl, subst, arith, length-append}
 use Rattle.std.proofs.lemmas.Bool.Decides.{nat_tests}
 use Rattle.backup_rules.specs.Values.{RuleSet}
+use Rattle.office_model.specs.declared.answer.Answer.TheVariants.{Done}
 use Rattle.office_model.specs.Places.{AtEach, AtEach-longer, Differ-longer, slice_get-longer}
-use Rattle.office_model.specs.Pool.{Pool}
-use Rattle.office_model.specs.Office.{Office, Host, Backup, Dump, Restore, host_index, host_limit, IsSound, AreHosts, IsSoundHost, HasHost, AreDumps, ArePooled, IsPooledTree}
-use Rattle.office_model.specs.events.AddHost.{new_host, with_host}
-use Rattle.office_model.specs.laws.Judging.{passed}
+use Rattle.office_model.specs.Office.{Office, Host, Backup, host_index, host_limit, with_hosts, IsSound, AreHosts, IsSoundHost, HasHost, IsPooledTree}
+use Rattle.office_model.specs.events.AddHost.{new_host, with_host, meaning}
+use Rattle.office_model.specs.laws.Judging.{bound, passed}
 use Rattle.office_model.specs.laws.Lookups.{host_index-none}
+use Rattle.office_model.specs.laws.Lawful.{IsLawful, does, does_hosts}
 
 pub is_none : {A : Type 0} (o : Option A) → is_some o ≡ false → o ≡ None
 is_none None e = refl
@@ -34,36 +35,27 @@ AreHosts-added hosts name rules are none room = record {
   each = AtEach-longer IsSoundHost hosts (new_host name rules) are.each (IsSoundHost-new name rules);
 }
 
--- open dumps have their hosts in a longer list too
-AreDumps-added : (hosts : List Host) (last : Host) (dumps : List Dump) → AreDumps hosts dumps → AreDumps (hosts ++ last ∷ []) dumps
-AreDumps-added hosts last dumps are = record {
-  hosted = λ i dump at. let was : HasHost hosts dump = are.hosted i dump at in
-      record { host = was.host; is_host = slice_get-longer hosts last dump.host was.host was.is_host; has_number = was.has_number };
-  one_a_host = are.one_a_host;
-  bases = are.bases;
-  trees = are.trees;
-}
-
-ArePooled-added : (pool : Pool) (hosts : List Host) (name : List ℕ) (rules : RuleSet) (dumps : List Dump) (restores : List Restore)
-    → ArePooled pool hosts dumps restores
-    → ArePooled pool (hosts ++ new_host name rules ∷ []) dumps restores
-ArePooled-added pool hosts name rules dumps restores are = record {
-  in_order = are.in_order;
-  of_backups = AtEach-longer (λ (host : Host). AtEach (λ (backup : Backup). IsPooledTree pool backup.tree) host.backups) hosts (new_host name rules) are.of_backups (λ i backup e. absurd (cc));
-  of_bases = are.of_bases;
-  of_restores = are.of_restores;
-}
-
 pub IsSound-with_host : (office : Office) (name : List ℕ) (rules : RuleSet) (hosts : List Host) → IsSound office
-    → with_host name rules office.hosts ≡ Ok hosts → IsSound (record office { hosts = hosts })
+    → with_host name rules office.hosts ≡ Ok hosts → IsSound (with_hosts office hosts)
 IsSound-with_host office name rules hosts sound e =
     let a : (is_some (host_index office.hosts name) ≡ false) × (_ ≡ Ok hosts) = passed _ _ _ _ e in
     let b : (nat_le host_limit (length office.hosts) ≡ false) × (Ok (office.hosts ++ new_host name rules ∷ []) ≡ Ok hosts) = passed _ _ _ _ a.1 in
     let same : office.hosts ++ new_host name rules ∷ [] ≡ hosts = cc in
-    subst (λ hs. IsSound (record office { hosts = hs })) same (record {
-      hosts = AreHosts-added office.hosts name rules sound.hosts (is_none _ a.0) (below host_limit (length office.hosts) b.0);
-      sessions = sound.sessions;
-      dumps = AreDumps-added office.hosts (new_host name rules) office.dumps sound.dumps;
-      restores = sound.restores;
-      pooled = ArePooled-added office.pool office.hosts name rules office.dumps office.restores sound.pooled;
+    subst (λ hs. IsSound (with_hosts office hs)) same (record {
+      kept = record {
+        hosts = AreHosts-added office.hosts name rules sound.hosts (is_none _ a.0) (below host_limit (length office.hosts) b.0);
+        pool_order = sound.pool_order;
+        of_backups = AtEach-longer (λ (host : Host). AtEach (λ (backup : Backup). IsPooledTree office.pool backup.tree) host.backups) office.hosts (new_host name rules) sound.of_backups (λ i backup e. absurd (cc));
+      };
+      now = sound.now;
+      tied = record {
+        hosted = λ i dump at. let was : HasHost office.hosts dump = sound.hosted i dump at in
+            record { host = was.host; is_host = slice_get-longer office.hosts (new_host name rules) dump.host was.host was.is_host; has_number = was.has_number };
+        pooled = sound.pooled;
+      };
     })
+
+pub lawful : (name : List ℕ) (rules : RuleSet) → IsLawful (meaning name rules)
+lawful name rules office names c sound e =
+    let a = bound (with_host name rules office.hosts) _ c e in
+    does _ office names sound _ c a.2 (does_hosts _ office names sound a.0 Done refl (IsSound-with_host office name rules a.0 sound.office a.1))

@@ -1,23 +1,19 @@
 -- The pool after cleaning: in order, with all that is protected.
-use Rattle.std.specs.Prelude.{◌≡◌, ◌≤◌, ◌<◌, ◌^◌, ℕ, zero, suc, ◌+◌, Bool, true, false, cond, ◌||◌, List, [], ◌∷◌, length, Option, Some, None, is_some, slice_get}
+use Rattle.std.specs.Prelude.{◌≡◌, ℕ, Bool, true, false, cond, ◌||◌, List, [], ◌∷◌, Option, Some, None, is_some, nat_le, slice_get}
 use Rattle.std.specs.declared.cmp.Ordering.TheVariants.{Less}
 use Rattle.std.specs.Ordering.{eq_by_cmp}
-use Rattle.std.specs.Cmp.{Equal-is}
-use Rattle.std.specs.Cmp.Lexicographic.{nat_list_cmp_total}
-use Rattle.std.specs.FinMap.{nat_cmp-IsAntisymmetric, slice_cmp-IsAntisymmetric}
-use Rattle.std.specs.List.{cons_option, list_any}
-use Rattle.std.specs.List.Sorted.{IsStrictlySortedBy}
-use Rattle.std.specs.Map.{keys_of}
-use Rattle.std.proofs.Common.{refl, sym, ap, ◌∙◌, subst, arith}
+use Rattle.std.specs.List.{cons_option}
+use Rattle.std.proofs.Common.{refl, sym, ap, ◌∙◌, subst}
 use Rattle.ordered_lists.specs.Order.{IsInOrder, IsBelowAll}
-use Rattle.ordered_lists.specs.OrderLaws.{order_from_keys}
-use Rattle.office_model.specs.declared.fate.Fate.{Fate}
-use Rattle.office_model.specs.Pool.{Pool, byte_cmp, mark_of, is_pooled, holds, fate, fate_of, mark_after, kept_as, cleaned, fated, is_same_fate, how_many, with_kept}
-use Rattle.office_model.specs.Office.{Office, Host, Backup, Dump, Restore, IsSound, host_holds, in_hosts, in_dumps, in_bases}
-use Rattle.office_model.specs.events.Clean.{is_protected}
-
-pub byte_exact : (a b : List ℕ) → eq_by_cmp byte_cmp a b ≡ true → a ≡ b
-byte_exact a b e = slice_cmp-IsAntisymmetric nat_cmp-IsAntisymmetric a b ((Equal-is (byte_cmp a b)).0 e)
+use Rattle.office_model.specs.Pool.{Pool, byte_cmp, mark_of, is_pooled, holds, fate, fate_of, mark_after, kept_as, cleaned}
+use Rattle.office_model.specs.Office.{Office, Host, Backup, Dump, Restore, with_pool, IsSound, host_holds, in_hosts, in_dumps, in_bases}
+use Rattle.office_model.specs.Meaning.{Same}
+use Rattle.office_model.specs.events.Clean.{is_protected, in_bucket, meaning}
+use Rattle.office_model.specs.laws.Judging.{passed}
+use Rattle.office_model.specs.laws.PoolLaws.{byte_exact, any_at}
+use Rattle.office_model.specs.laws.HeldLaws.{pooled-cleaned, held_by, was_pooled, was_in_dumps}
+use Rattle.office_model.specs.laws.VolatileLaws.{pooled_more}
+use Rattle.office_model.specs.laws.Lawful.{IsLawful, does}
 
 -- ---- order
 
@@ -73,15 +69,6 @@ module _ (inside protected : List ℕ → Bool) where
 
 -- ---- what a tree of the office holds is protected
 
-pub any_at : {A : Type 0} (test : A → Bool) (xs : List A) (i : ℕ) (x : A) → slice_get xs i ≡ Some x → test x ≡ true → list_any test xs ≡ true
-any_at test [] i x e h = absurd (cc)
-any_at test (y ∷ xs) zero x e h = let same : y ≡ x = cc in ap (λ b. b || list_any test xs) (ap test same ∙ h)
-any_at test (y ∷ xs) (suc i) x e h = either (test y) (any_at test xs i x e h)
-  where
-    either : (b : Bool) → list_any test xs ≡ true → (b || list_any test xs) ≡ true
-    either true g = refl
-    either false g = g
-
 left : (a b : Bool) → a ≡ true → (a || b) ≡ true
 left true b h = refl
 left false b h = absurd (cc)
@@ -110,20 +97,33 @@ module _ (office : Office) (content : List ℕ) where
       (right (in_bases office.dumps content) _ (any_at (λ (r : Restore). holds r.tree content) office.restores i restore at h)))
 
 pub IsSound-cleaned : (office : Office) (inside : List ℕ → Bool) → IsSound office
-    → IsSound (record office { pool = cleaned inside (is_protected office.hosts office.dumps office.restores) office.pool })
+    → IsSound (with_pool office (cleaned inside (is_protected office.hosts office.dumps office.restores) office.pool))
 IsSound-cleaned office inside sound = record {
-  hosts = sound.hosts;
-  sessions = sound.sessions;
-  dumps = sound.dumps;
-  restores = sound.restores;
-  pooled = record {
-    in_order = cleaned_order inside (is_protected office.hosts office.dumps office.restores) office.pool sound.pooled.in_order;
-    of_backups = λ i host at n backup at_backup content h. has content (backup_safe office content i n host backup at at_backup h) (sound.pooled.of_backups i host at n backup at_backup content h);
-    of_bases = λ i dump at content h. has content (base_safe office content i dump at h) (sound.pooled.of_bases i dump at content h);
-    of_restores = λ i restore at content h. has content (restore_safe office content i restore at h) (sound.pooled.of_restores i restore at content h);
+  kept = record {
+    hosts = sound.hosts;
+    pool_order = cleaned_order inside (is_protected office.hosts office.dumps office.restores) office.pool sound.pool_order;
+    of_backups = λ i host at n backup at_backup content h. has content (backup_safe office content i n host backup at at_backup h) (sound.of_backups i host at n backup at_backup content h);
+  };
+  now = sound.now;
+  tied = record {
+    hosted = sound.hosted;
+    pooled = pooled_more office.pool office.volatile sound.pooled (cleaned inside (is_protected office.hosts office.dumps office.restores) office.pool)
+        (λ i dump at was content h. has content (base_safe office content i dump at h) (was content h))
+        (λ i restore at was content h. has content (restore_safe office content i restore at h) (was content h));
   };
 }
   where
     has : (content : List ℕ) → is_protected office.hosts office.dumps office.restores content ≡ true → is_pooled office.pool content ≡ true
         → is_pooled (cleaned inside (is_protected office.hosts office.dumps office.restores) office.pool) content ≡ true
     has content = cleaned_has inside (is_protected office.hosts office.dumps office.restores) byte_exact office.pool content
+
+pub lawful : (bucket : ℕ) → IsLawful (meaning bucket)
+lawful bucket office names c sound e =
+    let a = passed _ (nat_le 16 bucket) _ c e in
+    does _ office names sound _ c a.1 (record {
+      in_kind = refl;
+      sound = IsSound-cleaned office (in_bucket names.digest_of bucket) sound.office;
+      held = λ content h. held_by content office Same _ office.dumps
+          (λ g. was_pooled content office Same (pooled-cleaned content (in_bucket names.digest_of bucket) (is_protected office.hosts office.dumps office.restores) office.pool g))
+          (was_in_dumps content office Same) h;
+    })

@@ -1,38 +1,25 @@
 -- A commit, as the parts of an office in memory make it, and that it keeps an office sound.
-use Rattle.std.specs.Prelude.{◌≡◌, ◌≢◌, ◌<◌, ◌≤◌, ℕ, zero, suc, ◌-◌, Bool, false, List, [], ◌∷◌, ◌++◌, length, get_or, Option, Some, Result, Ok, Err, IfOk, OnErr, slice_get, slice_set}
+use Rattle.std.specs.Prelude.{◌≡◌, ◌≢◌, ◌<◌, ℕ, true, List, Some, Ok, slice_get, slice_set, ◌⊎◌}
 use Rattle.std.specs.List.{remove}
-use Rattle.std.specs.Option.{option_map, option_map_or}
-use Rattle.std.specs.BTreeMap.{insert_entry}
-use Rattle.std.proofs.Common.{refl, sym, ap, ◌∙◌, subst, arith}
-use Rattle.std.proofs.Math.ListN.{length-set}
-use Rattle.std.proofs.lemmas.List.{set-append_left}
-use Rattle.std.proofs.lemmas.Option.{slice_get-get_or, get_or_from_slice_get}
-use Rattle.attr_records.specs.Items.{Tree, some_bytes}
-use Rattle.ordered_lists.specs.OrderLaws.{insert_entry-put}
-use Rattle.backup_rules.specs.declared.lines.Line.{Line}
+use Rattle.std.proofs.Common.{refl, sym, ap, ◌∙◌, subst, inl, inr, arith}
+use Rattle.attr_records.specs.Items.{Tree}
 use Rattle.backup_rules.specs.Values.{RuleSet}
 use Rattle.office_model.specs.declared.session.SessionName.{SessionName}
-use Rattle.office_model.specs.declared.refusal.Refusal.{Refusal}
 use Rattle.office_model.specs.declared.refusal.BrokenRule.TheVariants.{NoSession}
-use Rattle.office_model.specs.Places.{AtEach, AtEach-set, AtEach-longer, AtEach-remove, Differ-set, Differ-remove, slice_get-longer, slice_get-set_other, slice_get-remove, place_before, place_before-other}
-use Rattle.office_model.specs.Pool.{Pool, byte_cmp, with_content, with_tree}
-use Rattle.office_model.specs.Office.{Office, Host, Backup, Dump, number_limit, host_limit, dump_index, IsSound, IsTree, AreHosts, IsSoundHost, HasHost, AreDumps, IsPooledTree}
-use Rattle.office_model.specs.Meaning.{found}
+use Rattle.office_model.specs.Places.{AtEach, AtEach-set, AtEach-longer, slice_get-set_other, slice_get-remove, place_before, place_before-other}
+use Rattle.office_model.specs.Pool.{Pool, is_pooled, holds, with_tree}
+use Rattle.office_model.specs.Office.{Office, Host, Backup, Dump, number_limit, IsSound, IsTree, IsSoundHost, HasHost, AreDumps, IsPooledTree, is_held}
+use Rattle.office_model.specs.Meaning.{Same, found}
 use Rattle.office_model.specs.Parts.{dump_at, with_last, with_newest, filled_as}
 use Rattle.backup_rules.specs.Fill.{stays_filled}
-use Rattle.office_model.specs.events.Commit.{Committing, committed, new_backup, with_commit}
+use Rattle.office_model.specs.events.Commit.{Committing, committed, after, new_backup, with_commit, meaning}
 use Rattle.office_model.specs.laws.Judging.{bound, at_is, found_is}
-use Rattle.office_model.specs.laws.AbortLaws.{AreSessions-without}
+use Rattle.office_model.specs.laws.DurableLaws.{AreHosts-set}
+use Rattle.office_model.specs.laws.VolatileLaws.{dump_removed, pooled_dump_removed, pooled_more}
+use Rattle.office_model.specs.laws.HeldLaws.{Reason, pooled-with_tree, removed_held, one_holds, held_by, was_pooled, was_in_dumps}
+use Rattle.office_model.specs.laws.Lawful.{IsLawful, does}
 use Rattle.office_model.specs.laws.PoolLaws.{tree_keeps, tree_has, tree_order}
 use Rattle.office_model.specs.laws.BackupLaws.{numbered_refilled, numbered_longer, last_longer, with_last-at}
-
-pub AreHosts-set : (hosts : List Host) (p : ℕ) (old new : Host) → slice_get hosts p ≡ Some old → new.name ≡ old.name → IsSoundHost new
-    → AreHosts hosts → AreHosts (slice_set hosts p new)
-AreHosts-set hosts p old new was name sound are = record {
-  few = subst (λ n. n ≤ host_limit) (sym (length-set hosts p new)) are.few;
-  differ = Differ-set (λ (h : Host). h.name) hosts p old new was name are.differ;
-  each = AtEach-set IsSoundHost hosts p new are.each sound;
-}
 
 IsSoundHost-commit : (host : Host) (dump : Dump) (now : ℕ) → IsSoundHost host → host.next < number_limit → IsTree dump.tree
     → IsSoundHost (with_commit host dump now)
@@ -45,21 +32,17 @@ IsSoundHost-commit host dump now sound room tree = record {
 }
 
 -- another open dump is of another host
-other_host : (hosts : List Host) (dumps : List Dump) (p : ℕ) (dump : Dump) → AreDumps hosts dumps → slice_get dumps p ≡ Some dump
+other_host : (dumps : List Dump) (p : ℕ) (dump : Dump) → AreDumps dumps → slice_get dumps p ≡ Some dump
     → (i : ℕ) (other : Dump) → slice_get (remove dumps p) i ≡ Some other → other.host ≢ dump.host
-other_host hosts dumps p dump are at i other at_other same =
+other_host dumps p dump are at i other at_other same =
     place_before-other p i (are.one_a_host (place_before p i) p other dump (sym (slice_get-remove dumps p i) ∙ at_other) at same)
 
-AreDumps-commit : (hosts : List Host) (dumps : List Dump) (p : ℕ) (dump : Dump) (new : Host) → AreDumps hosts dumps
-    → slice_get dumps p ≡ Some dump → AreDumps (slice_set hosts dump.host new) (remove dumps p)
-AreDumps-commit hosts dumps p dump new are at = record {
-  hosted = λ i other at_other.
-      let has : HasHost hosts other = are.hosted (place_before p i) other (sym (slice_get-remove dumps p i) ∙ at_other) in
-      record { host = has.host; is_host = slice_get-set_other hosts dump.host other.host new (other_host hosts dumps p dump are at i other at_other) ∙ has.is_host; has_number = has.has_number };
-  one_a_host = Differ-remove (λ (d : Dump). d.host) dumps p are.one_a_host;
-  bases = AtEach-remove (λ (d : Dump). IsTree d.base) dumps p are.bases;
-  trees = AtEach-remove (λ (d : Dump). IsTree d.tree) dumps p are.trees;
-}
+-- the other open dumps have their hosts after a commit
+hosted-commit : (hosts : List Host) (dumps : List Dump) (p : ℕ) (dump : Dump) (new : Host) → AreDumps dumps → AtEach (HasHost hosts) dumps
+    → slice_get dumps p ≡ Some dump → AtEach (HasHost (slice_set hosts dump.host new)) (remove dumps p)
+hosted-commit hosts dumps p dump new are hosted at i other at_other =
+    let has : HasHost hosts other = hosted (place_before p i) other (sym (slice_get-remove dumps p i) ∙ at_other) in
+    record { host = has.host; is_host = slice_get-set_other hosts dump.host other.host new (other_host dumps p dump are at i other at_other) ∙ has.is_host; has_number = has.has_number }
 
 pooled_newest : (pool pool' : Pool) (rules : RuleSet) (backups : List Backup) (new : Backup)
     → ((tree : Tree) → IsPooledTree pool tree → IsPooledTree pool' tree)
@@ -74,7 +57,7 @@ pooled_newest pool pool' rules backups new more each pooled = AtEach-longer (λ 
 
 pub IsSound-committed : (office : Office) (session : SessionName) (now : ℕ) (parts : Committing) → IsSound office
     → committed session now office.hosts office.pool office.dumps ≡ Ok parts
-    → IsSound (record office { hosts = parts.hosts; pool = parts.pool; dumps = parts.dumps })
+    → IsSound (after office parts)
 IsSound-committed office session now parts sound e =
     let a = bound (dump_at office.dumps session) _ parts e in
     let dump : Dump = a.0.value in
@@ -82,7 +65,7 @@ IsSound-committed office session now parts sound e =
     let b = bound (found NoSession (slice_get office.hosts dump.host)) _ parts a.2 in
     let host : Host = b.0 in
     let is_host : slice_get office.hosts dump.host ≡ Some host = found_is _ _ _ b.1 in
-    let has : HasHost office.hosts dump = sound.dumps.hosted a.0.index dump is_dump in
+    let has : HasHost office.hosts dump = sound.hosted a.0.index dump is_dump in
     let same_host : has.host ≡ host = let h = has.is_host in cc in
     let room : host.next < number_limit = subst (λ (h : Host). h.next < number_limit) same_host has.has_number in
     let more : (tree : Tree) → IsPooledTree office.pool tree → IsPooledTree (with_tree office.pool dump.tree) tree = λ tree pooled content h. tree_keeps office.pool dump.tree content (pooled content h) in
@@ -93,18 +76,51 @@ IsSound-committed office session now parts sound e =
       dumps = remove office.dumps a.0.index;
     } in
     let same : made ≡ parts = let f = b.2 in cc in
-    subst (λ (p : Committing). IsSound (record office { hosts = p.hosts; pool = p.pool; dumps = p.dumps })) same (record {
-      hosts = AreHosts-set office.hosts dump.host host (with_commit host dump now) is_host refl
-          (IsSoundHost-commit host dump now (sound.hosts.each dump.host host is_host) room (sound.dumps.trees a.0.index dump is_dump)) sound.hosts;
-      sessions = AreSessions-without office.epoch office.sequence office.dumps office.restores a.0.index sound.sessions;
-      dumps = AreDumps-commit office.hosts office.dumps a.0.index dump (with_commit host dump now) sound.dumps is_dump;
-      restores = sound.restores;
-      pooled = record {
-        in_order = tree_order office.pool dump.tree sound.pooled.in_order;
+    subst (λ (p : Committing). IsSound (after office p)) same (record {
+      kept = record {
+        hosts = AreHosts-set office.hosts dump.host host (with_commit host dump now) is_host refl
+            (IsSoundHost-commit host dump now (sound.hosts.each dump.host host is_host) room (sound.dumps.trees a.0.index dump is_dump)) sound.hosts;
+        pool_order = tree_order office.pool dump.tree sound.pool_order;
         of_backups = AtEach-set (λ (h : Host). AtEach (λ (backup : Backup). IsPooledTree (with_tree office.pool dump.tree) backup.tree) h.backups) office.hosts dump.host (with_commit host dump now)
-            (λ i h at n backup at_backup. more backup.tree (sound.pooled.of_backups i h at n backup at_backup))
-            (pooled_newest office.pool (with_tree office.pool dump.tree) host.rules host.backups (new_backup host dump now) more (sound.pooled.of_backups dump.host host is_host) (tree_has office.pool dump.tree));
-        of_bases = λ i d at. more d.base (AtEach-remove (λ (d : Dump). IsPooledTree office.pool d.base) office.dumps a.0.index sound.pooled.of_bases i d at);
-        of_restores = λ i r at. more r.tree (sound.pooled.of_restores i r at);
+            (λ i h at n backup at_backup. more backup.tree (sound.of_backups i h at n backup at_backup))
+            (pooled_newest office.pool (with_tree office.pool dump.tree) host.rules host.backups (new_backup host dump now) more (sound.of_backups dump.host host is_host) (tree_has office.pool dump.tree));
       };
+      now = dump_removed office.epoch office.volatile sound.now a.0.index;
+      tied = record {
+        hosted = hosted-commit office.hosts office.dumps a.0.index dump (with_commit host dump now) sound.dumps sound.hosted is_dump;
+        pooled = pooled_dump_removed (with_tree office.pool dump.tree) office.volatile
+            (pooled_more office.pool office.volatile sound.pooled (with_tree office.pool dump.tree) (λ i d at. more d.base) (λ i r at. more r.tree)) a.0.index;
+      };
+    })
+
+held-committed : (content : List ℕ) (office : Office) (session : SessionName) (now : ℕ) (parts : Committing)
+    → committed session now office.hosts office.pool office.dumps ≡ Ok parts
+    → is_held parts.pool parts.dumps content ≡ true → Reason content office Same
+held-committed content office session now parts e h =
+    let a = bound (dump_at office.dumps session) _ parts e in
+    let was : slice_get office.dumps a.0.index ≡ Some a.0.value = (at_is _ office.dumps _ a.0 a.1).1 in
+    let b = bound (found NoSession (slice_get office.hosts a.0.value.host)) _ parts a.2 in
+    let made : Committing = record {
+      number = b.0.next;
+      hosts = slice_set office.hosts a.0.value.host (with_commit b.0 a.0.value now);
+      pool = with_tree office.pool a.0.value.tree;
+      dumps = remove office.dumps a.0.index;
+    } in
+    let same : made ≡ parts = let f = b.2 in cc in
+    held_by content office Same (with_tree office.pool a.0.value.tree) (remove office.dumps a.0.index)
+    (λ g. step a.0.index a.0.value was (pooled-with_tree content office.pool a.0.value.tree g)) (λ g. was_in_dumps content office Same (removed_held content office.dumps a.0.index g))
+    (ap (λ (p : Committing). is_held p.pool p.dumps content) same ∙ h)
+  where
+    step : (i : ℕ) (dump : Dump) → slice_get office.dumps i ≡ Some dump
+        → (is_pooled office.pool content ≡ true) ⊎ (holds dump.tree content ≡ true) → Reason content office Same
+    step i dump at (inl f) = was_pooled content office Same f
+    step i dump at (inr f) = was_in_dumps content office Same (one_holds content office.dumps i dump at f)
+
+pub lawful : (session : SessionName) (now : ℕ) → IsLawful (meaning session now)
+lawful session now office names c sound e =
+    let a = bound (committed session now office.hosts office.pool office.dumps) _ c e in
+    does _ office names sound _ c a.2 (record {
+      in_kind = refl;
+      sound = IsSound-committed office session now a.0 sound.office a.1;
+      held = λ content h. held-committed content office session now a.0 a.1 h;
     })

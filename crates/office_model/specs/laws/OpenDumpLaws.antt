@@ -1,22 +1,25 @@
 -- A further open dump keeps an office sound.
-use Rattle.std.specs.Prelude.{◌≡◌, ◌<◌, ℕ, ◌+◌, ◌-◌, false, List, [], ◌∷◌, ◌++◌, length, Option, Some, None, Ok, is_some, nat_le, slice_get, ◌⊎◌}
+use Rattle.std.specs.Prelude.{◌≡◌, ◌<◌, ℕ, ◌+◌, ◌-◌, true, false, List, [], ◌∷◌, ◌++◌, length, Option, Some, None, Ok, is_some, nat_le, slice_get, ◌⊎◌}
 use Rattle.std.specs.Option.{option_map}
-use Rattle.std.proofs.Common.{refl, sym, ap, ◌∙◌, subst, inl, inr, arith, lit≤}
+use Rattle.std.proofs.Common.{refl, ap, ◌∙◌, subst, inl, inr, lit≤}
 use Rattle.attr_records.specs.Items.{Tree, is_dir}
 use Rattle.attr_records.specs.TreeLaws as TreeLaws
 use Rattle.backup_rules.specs.declared.lines.Kind.{Kind}
 use Rattle.backup_rules.specs.declared.lines.Kind.TheVariants.{Full, Incr}
 use Rattle.office_model.specs.declared.session.SessionName.{SessionName}
+use Rattle.office_model.specs.declared.answer.Answer.TheVariants.{Dump as Opened}
 use Rattle.office_model.specs.declared.refusal.BrokenRule.TheVariants.{NoBackup}
-use Rattle.office_model.specs.Places.{AtEach, AtEach-longer, Differ-longer, in_longer}
-use Rattle.office_model.specs.Pool.{Pool}
-use Rattle.office_model.specs.Office.{Office, Host, Backup, Dump, Restore, dump_index_of_host, number_limit, last_sequence, IsSound, IsTree, IsSoundHost, HasHost, AreDumps, IsGiven, AreSessions, ArePooled, IsPooledTree}
-use Rattle.office_model.specs.Meaning.{found}
+use Rattle.office_model.specs.Places.{AtEach, AtEach-longer}
+use Rattle.office_model.specs.Pool.{Pool, is_pooled}
+use Rattle.office_model.specs.Office.{Office, Host, Backup, Dump, dump_index_of_host, number_limit, last_sequence, with_dumps, numbered, IsSound, IsTree, IsSoundHost, HasHost, IsPooledTree, in_dumps}
+use Rattle.office_model.specs.Meaning.{Same, found}
 use Rattle.office_model.specs.Parts.{At, newest, host_at}
-use Rattle.office_model.specs.events.OpenDump.{base_of, new_dump, next_session, with_dump}
+use Rattle.office_model.specs.events.OpenDump.{base_of, new_dump, next_session, with_dump, meaning}
 use Rattle.office_model.specs.laws.Judging.{bound, passed, at_is}
 use Rattle.office_model.specs.laws.AddHostLaws.{is_none, below}
-use Rattle.office_model.specs.laws.Lookups.{dump_index_of_host-none}
+use Rattle.office_model.specs.laws.VolatileLaws.{dump_added, pooled_dump_added}
+use Rattle.office_model.specs.laws.HeldLaws.{Reason, longer_held, was_pooled, was_in_dumps}
+use Rattle.office_model.specs.laws.Lawful.{IsLawful, does, does_dumps}
 
 pub IsTree-nil : IsTree []
 IsTree-nil = record { paths = TreeLaws.IsTree-nil is_dir; few = lit≤ tt }
@@ -33,51 +36,6 @@ base_has P Incr backups base nil each e = step (newest backups) refl e
     step : (r : Option Backup) → newest backups ≡ r → found NoBackup (option_map (λ backup. backup.tree) r) ≡ Ok base → P base
     step None at f = absurd (cc)
     step (Some backup) at f = let same : backup.tree ≡ base = cc in subst P same (each (length backups - 1) backup at)
-
-pub later : (epoch sequence : ℕ) (name : SessionName) → IsGiven epoch sequence name → IsGiven epoch (sequence + 1) name
-later epoch sequence name given = record { this_epoch = given.this_epoch; given_out = let g = given.given_out in omega arith }
-
--- no session has the name that comes next
-pub not_next : (office : Office) (name : SessionName) → IsGiven office.epoch office.sequence name → name ≡ next_session office → ⊥
-not_next office name given same = let e : name.sequence ≡ office.sequence = ap (λ (n : SessionName). n.sequence) same in let g = given.given_out in omega arith
-
-pub next_given : (office : Office) → IsGiven office.epoch (office.sequence + 1) (next_session office)
-next_given office = record { this_epoch = refl; given_out = omega arith }
-
-pub AreSessions-dump : (office : Office) (dump : Dump) → dump.name ≡ next_session office
-    → AreSessions office.epoch office.sequence office.dumps office.restores
-    → AreSessions office.epoch (office.sequence + 1) (office.dumps ++ dump ∷ []) office.restores
-AreSessions-dump office dump name_is are = record {
-  dumps_given = AtEach-longer (λ (d : Dump). IsGiven office.epoch (office.sequence + 1) d.name) office.dumps dump
-      (λ i d at. later office.epoch office.sequence d.name (are.dumps_given i d at)) (subst (IsGiven office.epoch (office.sequence + 1)) (sym name_is) (next_given office));
-  restores_given = λ i r at. later office.epoch office.sequence r.name (are.restores_given i r at);
-  dumps_differ = Differ-longer (λ (d : Dump). d.name) office.dumps dump are.dumps_differ (λ i d at same. not_next office d.name (are.dumps_given i d at) (same ∙ name_is));
-  restores_differ = are.restores_differ;
-  apart = λ i j d r at other same. step i j d r other same (in_longer office.dumps dump i d at);
-}
-  where
-    step : (i j : ℕ) (d : Dump) (r : Restore) → slice_get office.restores j ≡ Some r → d.name ≡ r.name
-        → (slice_get office.dumps i ≡ Some d) ⊎ ((i ≡ length office.dumps) × (d ≡ dump)) → ⊥
-    step i j d r other same (inl f) = are.apart i j d r f other same
-    step i j d r other same (inr f) = not_next office r.name (are.restores_given j r other) (sym same ∙ ap (λ (x : Dump). x.name) f.1 ∙ name_is)
-
-pub AreDumps-dump : (hosts : List Host) (dumps : List Dump) (dump : Dump) → HasHost hosts dump → dump_index_of_host dumps dump.host ≡ None
-    → IsTree dump.base → IsTree dump.tree → AreDumps hosts dumps → AreDumps hosts (dumps ++ dump ∷ [])
-AreDumps-dump hosts dumps dump has none base tree are = record {
-  hosted = AtEach-longer (HasHost hosts) dumps dump are.hosted has;
-  one_a_host = Differ-longer (λ (d : Dump). d.host) dumps dump are.one_a_host (λ i d at. dump_index_of_host-none dumps dump.host i d none at);
-  bases = AtEach-longer (λ (d : Dump). IsTree d.base) dumps dump are.bases base;
-  trees = AtEach-longer (λ (d : Dump). IsTree d.tree) dumps dump are.trees tree;
-}
-
-ArePooled-dump : (pool : Pool) (hosts : List Host) (dumps : List Dump) (restores : List Restore) (dump : Dump)
-    → IsPooledTree pool dump.base → ArePooled pool hosts dumps restores → ArePooled pool hosts (dumps ++ dump ∷ []) restores
-ArePooled-dump pool hosts dumps restores dump pooled are = record {
-  in_order = are.in_order;
-  of_backups = are.of_backups;
-  of_bases = AtEach-longer (λ (d : Dump). IsPooledTree pool d.base) dumps dump are.of_bases pooled;
-  of_restores = are.of_restores;
-}
 
 -- what it says that no rule keeps a dump from being opened
 pub record MayOpen (name : List ℕ) (kind : Kind) (now : ℕ) (session : SessionName) (hosts : List Host) (dumps new : List Dump) : Type 0 where
@@ -112,19 +70,42 @@ may_open name kind now session hosts dumps new e =
 pub IsSound-with_dump : (office : Office) (name : List ℕ) (kind : Kind) (now : ℕ) (hosts : List Host) (dumps : List Dump) → IsSound office
     → hosts ≡ office.hosts
     → with_dump name kind now (next_session office) hosts office.dumps ≡ Ok dumps
-    → IsSound (record office { dumps = dumps; sequence = office.sequence + 1 })
+    → IsSound (numbered (with_dumps office dumps))
 IsSound-with_dump office name kind now hosts dumps sound slice e =
     let e : with_dump name kind now (next_session office) office.hosts office.dumps ≡ Ok dumps = subst (λ hs. with_dump name kind now (next_session office) hs office.dumps ≡ Ok dumps) slice e in
     let may : MayOpen name kind now (next_session office) office.hosts office.dumps dumps = may_open name kind now (next_session office) office.hosts office.dumps dumps e in
     let host : IsSoundHost may.host.value = sound.hosts.each may.host.index may.host.value may.is_host in
     let tree : IsTree may.base = base_has IsTree kind may.host.value.backups may.base IsTree-nil host.backups.numbered.trees may.is_base in
     let pooled : IsPooledTree office.pool may.base = base_has (IsPooledTree office.pool) kind may.host.value.backups may.base (IsPooledTree-nil office.pool)
-    (sound.pooled.of_backups may.host.index may.host.value may.is_host) may.is_base in
+    (sound.of_backups may.host.index may.host.value may.is_host) may.is_base in
     let dump : Dump = new_dump (next_session office) may.host.index kind now may.base in
-    subst (λ ds. IsSound (record office { dumps = ds; sequence = office.sequence + 1 })) may.new_is (record {
-      hosts = sound.hosts;
-      sessions = AreSessions-dump office dump refl sound.sessions;
-      dumps = AreDumps-dump office.hosts office.dumps dump (record { host = may.host.value; is_host = may.is_host; has_number = may.has_number }) may.none tree tree sound.dumps;
-      restores = sound.restores;
-      pooled = ArePooled-dump office.pool office.hosts office.dumps office.restores dump pooled sound.pooled;
+    subst (λ ds. IsSound (numbered (with_dumps office ds))) may.new_is (record {
+      kept = sound.kept;
+      now = dump_added office.epoch office.volatile sound.now dump refl may.none tree tree;
+      tied = record {
+        hosted = AtEach-longer (HasHost office.hosts) office.dumps dump sound.hosted (record { host = may.host.value; is_host = may.is_host; has_number = may.has_number });
+        pooled = pooled_dump_added office.pool office.volatile sound.pooled dump (office.sequence + 1) pooled;
+      };
     })
+
+held-with_dump : (content : List ℕ) (office : Office) (name : List ℕ) (kind : Kind) (now : ℕ) (dumps : List Dump) → IsSound office
+    → with_dump name kind now (next_session office) office.hosts office.dumps ≡ Ok dumps
+    → in_dumps dumps content ≡ true → (in_dumps office.dumps content ≡ true) ⊎ (is_pooled office.pool content ≡ true)
+held-with_dump content office name kind now dumps sound e h =
+    let may : MayOpen name kind now (next_session office) office.hosts office.dumps dumps = may_open name kind now (next_session office) office.hosts office.dumps dumps e in
+    let pooled : IsPooledTree office.pool may.base = base_has (IsPooledTree office.pool) kind may.host.value.backups may.base (IsPooledTree-nil office.pool)
+    (sound.of_backups may.host.index may.host.value may.is_host) may.is_base in
+    longer_held content (is_pooled office.pool content ≡ true) office.dumps (new_dump (next_session office) may.host.index kind now may.base)
+    (λ g. pooled content g) (ap (λ ds. in_dumps ds content) may.new_is ∙ h)
+
+was_opened : (content : List ℕ) (office : Office) → (in_dumps office.dumps content ≡ true) ⊎ (is_pooled office.pool content ≡ true)
+    → Reason content office Same
+was_opened content office (inl f) = was_in_dumps content office Same f
+was_opened content office (inr f) = was_pooled content office Same f
+
+pub lawful : (name : List ℕ) (kind : Kind) (now : ℕ) → IsLawful (meaning name kind now)
+lawful name kind now office names c sound e =
+    let a = bound (with_dump name kind now (next_session office) office.hosts office.dumps) _ c e in
+    does _ office names sound _ c a.2 (does_dumps _ office names sound a.0 (office.sequence + 1) (Opened (next_session office)) refl
+    (λ content g. was_opened content office (held-with_dump content office name kind now a.0 sound.office a.1 g))
+    (IsSound-with_dump office name kind now office.hosts a.0 sound.office refl a.1))

@@ -1,33 +1,18 @@
--- An office stays sound where a restore is opened, and where one is dropped.
-use Rattle.std.specs.Prelude.{◌≡◌, ℕ, ◌+◌, false, List, [], ◌∷◌, ◌++◌, length, Some, Ok, nat_le, slice_get, ◌⊎◌}
+-- An office stays sound where a restore is opened, goes on, and is dropped.
+use Rattle.std.specs.Prelude.{◌≡◌, ℕ, ◌+◌, false, List, [], ◌∷◌, ◌++◌, Some, Ok, nat_le, slice_get, slice_set}
 use Rattle.std.specs.List.{remove}
-use Rattle.std.proofs.Common.{refl, sym, ap, ◌∙◌, subst, inl, inr}
+use Rattle.std.proofs.Common.{refl, ap, ◌∙◌, subst}
 use Rattle.office_model.specs.declared.session.SessionName.{SessionName}
-use Rattle.office_model.specs.Places.{AtEach-longer, AtEach-remove, Differ-longer, Differ-remove, in_longer, slice_get-remove, place_before}
-use Rattle.office_model.specs.Office.{Office, Host, Backup, Dump, Restore, last_sequence, IsSound, IsTree, IsSoundHost, IsGiven, AreSessions, IsPooledTree}
+use Rattle.office_model.specs.declared.answer.Answer.TheVariants as A
+use Rattle.office_model.specs.Office.{Office, Host, Backup, Restore, last_sequence, with_restores, numbered, IsSound, IsSoundHost}
 use Rattle.office_model.specs.Parts.{host_at, backup_at, backup_of, restore_at}
 use Rattle.office_model.specs.events.OpenDump.{next_session}
-use Rattle.office_model.specs.events.OpenRead.{new_restore, with_restore}
-use Rattle.office_model.specs.events.CloseRead.{without_restore}
+use Rattle.office_model.specs.events.OpenRead as OpenRead
+use Rattle.office_model.specs.events.ReadNext as ReadNext
+use Rattle.office_model.specs.events.CloseRead as CloseRead
 use Rattle.office_model.specs.laws.Judging.{bound, passed, at_is}
-use Rattle.office_model.specs.laws.OpenDumpLaws.{later, not_next, next_given}
-
-AreSessions-restore : (office : Office) (restore : Restore) → restore.name ≡ next_session office
-    → AreSessions office.epoch office.sequence office.dumps office.restores
-    → AreSessions office.epoch (office.sequence + 1) office.dumps (office.restores ++ restore ∷ [])
-AreSessions-restore office restore name_is are = record {
-  dumps_given = λ i d at. later office.epoch office.sequence d.name (are.dumps_given i d at);
-  restores_given = AtEach-longer (λ (r : Restore). IsGiven office.epoch (office.sequence + 1) r.name) office.restores restore
-      (λ i r at. later office.epoch office.sequence r.name (are.restores_given i r at)) (subst (IsGiven office.epoch (office.sequence + 1)) (sym name_is) (next_given office));
-  dumps_differ = are.dumps_differ;
-  restores_differ = Differ-longer (λ (r : Restore). r.name) office.restores restore are.restores_differ (λ i r at same. not_next office r.name (are.restores_given i r at) (same ∙ name_is));
-  apart = λ i j d r at other same. step i j d r at same (in_longer office.restores restore j r other);
-}
-  where
-    step : (i j : ℕ) (d : Dump) (r : Restore) → slice_get office.dumps i ≡ Some d → d.name ≡ r.name
-        → (slice_get office.restores j ≡ Some r) ⊎ ((j ≡ length office.restores) × (r ≡ restore)) → ⊥
-    step i j d r at same (inl f) = are.apart i j d r at f same
-    step i j d r at same (inr f) = not_next office d.name (are.dumps_given i d at) (same ∙ ap (λ (x : Restore). x.name) f.1 ∙ name_is)
+use Rattle.office_model.specs.laws.VolatileLaws.{restore_added, restore_set, restore_removed, pooled_restore_added, pooled_restore_set, pooled_restore_removed}
+use Rattle.office_model.specs.laws.Lawful.{IsLawful, does, does_restores}
 
 -- a backup that was found, with its host
 pub record Found (hosts : List Host) (backup : Backup) : Type 0 where
@@ -53,52 +38,68 @@ backup_found hosts name number backup e =
 
 pub IsSound-with_restore : (office : Office) (name : List ℕ) (number : ℕ) (hosts : List Host) (restores : List Restore) → IsSound office
     → hosts ≡ office.hosts
-    → with_restore name number (next_session office) hosts office.restores ≡ Ok restores
-    → IsSound (record office { restores = restores; sequence = office.sequence + 1 })
+    → OpenRead.with_restore name number (next_session office) hosts office.restores ≡ Ok restores
+    → IsSound (numbered (with_restores office restores))
 IsSound-with_restore office name number hosts restores sound slice e =
-    let e : with_restore name number (next_session office) office.hosts office.restores ≡ Ok restores = subst (λ hs. with_restore name number (next_session office) hs office.restores ≡ Ok restores) slice e in
+    let e : OpenRead.with_restore name number (next_session office) office.hosts office.restores ≡ Ok restores = subst (λ hs. OpenRead.with_restore name number (next_session office) hs office.restores ≡ Ok restores) slice e in
     let a = bound (backup_of office.hosts name number) _ restores e in
     let at = backup_found office.hosts name number a.0 a.1 in
-    let restore : Restore = new_restore (next_session office) a.0.tree in
+    let restore : Restore = OpenRead.new_restore (next_session office) a.0.tree in
     let c : (nat_le last_sequence office.sequence ≡ false) × (Ok (office.restores ++ restore ∷ []) ≡ Ok restores) = passed _ _ _ _ a.2 in
     let same : office.restores ++ restore ∷ [] ≡ restores = let f = c.1 in cc in
     let host : IsSoundHost at.host = sound.hosts.each at.place at.host at.is_host in
-    subst (λ rs. IsSound (record office { restores = rs; sequence = office.sequence + 1 })) same (record {
-      hosts = sound.hosts;
-      sessions = AreSessions-restore office restore refl sound.sessions;
-      dumps = sound.dumps;
-      restores = AtEach-longer (λ (r : Restore). IsTree r.tree) office.restores restore sound.restores (host.backups.numbered.trees at.index a.0 at.is_backup);
-      pooled = record {
-        in_order = sound.pooled.in_order;
-        of_backups = sound.pooled.of_backups;
-        of_bases = sound.pooled.of_bases;
-        of_restores = AtEach-longer (λ (r : Restore). IsPooledTree office.pool r.tree) office.restores restore sound.pooled.of_restores
-            (sound.pooled.of_backups at.place at.host at.is_host at.index a.0 at.is_backup);
+    subst (λ rs. IsSound (numbered (with_restores office rs))) same (record {
+      kept = sound.kept;
+      now = restore_added office.epoch office.volatile sound.now restore refl (host.backups.numbered.trees at.index a.0 at.is_backup);
+      tied = record {
+        hosted = sound.hosted;
+        pooled = pooled_restore_added office.pool office.volatile sound.pooled restore (office.sequence + 1)
+            (sound.of_backups at.place at.host at.is_host at.index a.0 at.is_backup);
       };
     })
 
-pub IsSound-without_restore : (office : Office) (session : SessionName) (restores : List Restore) → IsSound office
-    → without_restore session office.restores ≡ Ok restores → IsSound (record office { restores = restores })
-IsSound-without_restore office session restores sound e =
-    let w = bound (restore_at office.restores session) (λ restore. Ok (remove office.restores restore.index)) restores e in
-    let p : ℕ = w.0.index in
-    let same : remove office.restores w.0.index ≡ restores = cc in
-    let are = sound.sessions in
-    subst (λ rs. IsSound (record office { restores = rs })) same (record {
-      hosts = sound.hosts;
-      sessions = record {
-        dumps_given = are.dumps_given;
-        restores_given = AtEach-remove (λ (r : Restore). IsGiven office.epoch office.sequence r.name) office.restores w.0.index are.restores_given;
-        dumps_differ = are.dumps_differ;
-        restores_differ = Differ-remove (λ (r : Restore). r.name) office.restores w.0.index are.restores_differ;
-        apart = λ i j d r at other. are.apart i (place_before w.0.index j) d r at (sym (slice_get-remove office.restores w.0.index j) ∙ other);
-      };
-      dumps = sound.dumps;
-      restores = AtEach-remove (λ (r : Restore). IsTree r.tree) office.restores w.0.index sound.restores;
-      pooled = record {
-        in_order = sound.pooled.in_order;
-        of_backups = sound.pooled.of_backups;
-        of_bases = sound.pooled.of_bases;
-        of_restores = AtEach-remove (λ (r : Restore). IsPooledTree office.pool r.tree) office.restores w.0.index sound.pooled.of_restores;
+pub open_read : (name : List ℕ) (number : ℕ) → IsLawful (OpenRead.meaning name number)
+open_read name number office names c sound e =
+    let a = bound (OpenRead.with_restore name number (next_session office) office.hosts office.restores) _ c e in
+    does _ office names sound _ c a.2 (does_restores _ office names sound a.0 (office.sequence + 1) (A.Restore (next_session office)) refl (IsSound-with_restore office name number office.hosts a.0 sound.office refl a.1))
+
+pub IsSound-given : (office : Office) (session : SessionName) (next : ReadNext.Given) → IsSound office
+    → ReadNext.given session office.restores ≡ Ok next → IsSound (with_restores office next.restores)
+IsSound-given office session next sound e =
+    let a = bound (restore_at office.restores session) _ next e in
+    let was : slice_get office.restores a.0.index ≡ Some a.0.value = (at_is _ office.restores _ a.0 a.1).1 in
+    let new : Restore = ReadNext.moved_on a.0.value in
+    let made : ReadNext.Given = record { frame = ReadNext.frame_of a.0.value; restores = slice_set office.restores a.0.index new } in
+    let same : made ≡ next = let f = a.2 in cc in
+    subst (λ (x : ReadNext.Given). IsSound (with_restores office x.restores)) same (record {
+      kept = sound.kept;
+      now = restore_set office.epoch office.volatile sound.now a.0.index a.0.value new was refl refl;
+      tied = record {
+        hosted = sound.hosted;
+        pooled = pooled_restore_set office.pool office.volatile sound.pooled a.0.index a.0.value new was refl;
       };
     })
+
+pub read_next : (session : SessionName) → IsLawful (ReadNext.meaning session)
+read_next session office names c sound e =
+    let a = bound (ReadNext.given session office.restores) _ c e in
+    does _ office names sound _ c a.2 (does_restores _ office names sound a.0.restores office.sequence (A.Next a.0.frame) refl (IsSound-given office session a.0 sound.office a.1))
+
+pub IsSound-without_restore : (office : Office) (session : SessionName) (restores : List Restore) → IsSound office
+    → CloseRead.without_restore session office.restores ≡ Ok restores → IsSound (with_restores office restores)
+IsSound-without_restore office session restores sound e =
+    let w = bound (restore_at office.restores session) (λ restore. Ok (remove office.restores restore.index)) restores e in
+    let same : remove office.restores w.0.index ≡ restores = cc in
+    subst (λ rs. IsSound (with_restores office rs)) same (record {
+      kept = sound.kept;
+      now = restore_removed office.epoch office.volatile sound.now w.0.index;
+      tied = record {
+        hosted = sound.hosted;
+        pooled = pooled_restore_removed office.pool office.volatile sound.pooled w.0.index;
+      };
+    })
+
+pub close_read : (session : SessionName) → IsLawful (CloseRead.meaning session)
+close_read session office names c sound e =
+    let a = bound (CloseRead.without_restore session office.restores) _ c e in
+    does _ office names sound _ c a.2 (does_restores _ office names sound a.0 office.sequence A.Done refl (IsSound-without_restore office session a.0 sound.office a.1))

@@ -11,7 +11,7 @@ pub returns-in-None : goal.returns-in-None
 returns-in-None g c =
     runs_broken c.args.parts.now (Delete c.args.host.now c.args.number) NoHost (λ office names is.
     no_host_delete c.args.host.now c.args.number office names
-    (no_named office c.args.parts.now.catalog c.args.host.now is c.in-None.ensures.value))
+    (no_named office.durable c.args.parts.now.catalog c.args.host.now is c.in-None.ensures.value))
 
 pub returns-in-Some-broken_rule : goal.returns-in-Some-broken_rule
 returns-in-Some-broken_rule g c =

@@ -15,7 +15,7 @@ pub returns-in-None : goal.returns-in-None
 returns-in-None g c =
     runs_broken c.args.parts.now (Expire c.args.host.now c.args.now) NoHost (λ office names is.
     no_host_expire c.args.host.now c.args.now office names
-    (no_named office c.args.parts.now.catalog c.args.host.now is c.in-None.ensures.value))
+    (no_named office.durable c.args.parts.now.catalog c.args.host.now is c.in-None.ensures.value))
 
 pub returns-in-Err : goal.returns-in-Err
 returns-in-Err g c = runs_no_memory c.args.parts.now (Expire c.args.host.now c.args.now)

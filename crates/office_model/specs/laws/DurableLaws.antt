@@ -1,0 +1,80 @@
+-- A host that changes at its place keeps an office sound.
+use Rattle.std.specs.Prelude.{◌≡◌, ◌≢◌, ◌<◌, ◌≤◌, ℕ, zero, suc, List, [], ◌∷◌, length, Some, slice_get, slice_set, ◌⊎◌}
+use Rattle.std.proofs.Common.{refl, sym, ap, ◌∙◌, subst, inl, inr}
+use Rattle.std.proofs.Math.ListN.{length-set}
+use Rattle.office_model.specs.Places.{AtEach, AtEach-set, Differ-set, in_set}
+use Rattle.office_model.specs.Office.{Office, Host, Backup, Dump, host_limit, with_hosts, IsSound, AreHosts, IsSoundHost, HasHost, IsPooledTree}
+
+pub AreHosts-set : (hosts : List Host) (p : ℕ) (old new : Host) → slice_get hosts p ≡ Some old → new.name ≡ old.name → IsSoundHost new
+    → AreHosts hosts → AreHosts (slice_set hosts p new)
+AreHosts-set hosts p old new was name sound are = record {
+  few = subst (λ n. n ≤ host_limit) (sym (length-set hosts p new)) are.few;
+  differ = Differ-set (λ (h : Host). h.name) hosts p old new was name are.differ;
+  each = AtEach-set IsSoundHost hosts p new are.each sound;
+}
+
+-- what was at a place is there after a write, or was written over
+set_finds : {A : Type 0} (xs : List A) (p i : ℕ) (new x : A) → slice_get xs i ≡ Some x
+    → (slice_get (slice_set xs p new) i ≡ Some x) ⊎ ((i ≡ p) × (slice_get (slice_set xs p new) i ≡ Some new))
+set_finds [] p i new x e = absurd (cc)
+set_finds (y ∷ ys) zero zero new x e = inr (refl, refl)
+set_finds (y ∷ ys) zero (suc i) new x e = inl e
+set_finds (y ∷ ys) (suc p) zero new x e = inl e
+set_finds (y ∷ ys) (suc p) (suc i) new x e = step (set_finds ys p i new x e)
+  where
+    step : (slice_get (slice_set ys p new) i ≡ Some x) ⊎ ((i ≡ p) × (slice_get (slice_set ys p new) i ≡ Some new))
+        → (slice_get (slice_set ys p new) i ≡ Some x) ⊎ ((suc i ≡ suc p) × (slice_get (slice_set ys p new) i ≡ Some new))
+    step (inl f) = inl f
+    step (inr f) = inr (ap suc f.0, f.1)
+
+-- open dumps have their hosts where a host changes and keeps its next number
+hosted-set : (hosts : List Host) (dumps : List Dump) (p : ℕ) (old new : Host) → slice_get hosts p ≡ Some old → new.next ≡ old.next
+    → AtEach (HasHost hosts) dumps → AtEach (HasHost (slice_set hosts p new)) dumps
+hosted-set hosts dumps p old new was next are i dump at = has dump (are i dump at)
+  where
+    step : (dump : Dump) (h : HasHost hosts dump)
+        → (slice_get (slice_set hosts p new) dump.host ≡ Some h.host) ⊎ ((dump.host ≡ p) × (slice_get (slice_set hosts p new) dump.host ≡ Some new)) → HasHost (slice_set hosts p new) dump
+    step dump h (inl f) = record { host = h.host; is_host = f; has_number = h.has_number }
+    step dump h (inr f) =
+        let same : h.host ≡ old = let a = h.is_host in let b = ap (slice_get hosts) f.0 in cc in
+        record { host = new; is_host = f.1; has_number = subst (λ n. n < _) (ap (λ (x : Host). x.next) same ∙ sym next) h.has_number }
+
+    has : (dump : Dump) → HasHost hosts dump → HasHost (slice_set hosts p new) dump
+    has dump h = step dump h (set_finds hosts p dump.host new h.host h.is_host)
+
+pub host_set : (office : Office) (p : ℕ) (old new : Host) → IsSound office → slice_get office.hosts p ≡ Some old
+    → new.name ≡ old.name → new.next ≡ old.next → IsSoundHost new
+    → AtEach (λ (backup : Backup). IsPooledTree office.pool backup.tree) new.backups
+    → IsSound (with_hosts office (slice_set office.hosts p new))
+host_set office p old new sound was name next host pooled = record {
+  kept = record {
+    hosts = AreHosts-set office.hosts p old new was name host sound.hosts;
+    pool_order = sound.pool_order;
+    of_backups = AtEach-set (λ (h : Host). AtEach (λ (backup : Backup). IsPooledTree office.pool backup.tree) h.backups) office.hosts p new sound.of_backups pooled;
+  };
+  now = sound.now;
+  tied = record {
+    hosted = hosted-set office.hosts office.dumps p old new was next sound.hosted;
+    pooled = sound.pooled;
+  };
+}
+
+-- one that keeps its backups
+pub host_same : (office : Office) (p : ℕ) (old new : Host) → IsSound office → slice_get office.hosts p ≡ Some old
+    → new.name ≡ old.name → new.next ≡ old.next → new.backups ≡ old.backups
+    → IsSound (with_hosts office (slice_set office.hosts p new))
+host_same office p old new sound was name next same =
+    let host : IsSoundHost old = sound.hosts.each p old was in
+    host_set office p old new sound was name next
+    (record { numbers = rw next host.numbers; backups = rw (next, same) host.backups })
+    (subst (λ bs. AtEach (λ (backup : Backup). IsPooledTree office.pool backup.tree) bs) (sym same) (sound.of_backups p old was))
+
+-- what is at a place after a write that leaves a key
+pub kept_key : {A K : Type 0} (key : A → K) (xs : List A) (p i : ℕ) (old new y : A) → slice_get xs p ≡ Some old → key new ≡ key old
+    → slice_get (slice_set xs p new) i ≡ Some y → (x : A) × (slice_get xs i ≡ Some x) × (key y ≡ key x)
+kept_key {A} {K} key xs p i old new y was same e = step (in_set xs p new i y e)
+  where
+    step : ((i ≢ p) × (slice_get xs i ≡ Some y)) ⊎ ((i ≡ p) × (y ≡ new) × (p < length xs))
+        → (x : A) × (slice_get xs i ≡ Some x) × (key y ≡ key x)
+    step (inl f) = (y, f.1, refl)
+    step (inr f) = (old, ap (slice_get xs) f.0 ∙ was, ap key f.1 ∙ same)
