@@ -7,7 +7,8 @@ use Rattle.std.proofs.lemmas.Bool.Decides.{nat_tests}
 use Rattle.std.proofs.lemmas.List.{append-nil, take_all, length-drop, drop-drop}
 use Rattle.backup_rules.specs.declared.lines.Line.{Line}
 use Rattle.merge_view.specs.Views.{Rows, view, reverse}
-use Rattle.backup_delete.specs.Trees.{tree_of, is_first_filled, is_gone, are_gone, is_next_gone, needs_fold}
+use Rattle.backup_delete.specs.Trees.{tree_of, is_first_filled, is_gone, is_next_gone, needs_fold}
+use Rattle.backup_delete.specs.Towers.{one_fold, folds}
 use Rattle.backup_delete.specs.Folds.{next_tree, new_table, replaced, change_of, changes, taken_tables}
 use Rattle.backup_delete.specs.Windows.{part, any_gone, IsFilledStay, IsWindow}
 
@@ -18,14 +19,6 @@ or_left false b e = refl
 pub or_right : (a b : Bool) → (a || b) ≡ false → b ≡ false
 or_right true b e = absurd cc
 or_right false b e = e
-
-and_left : (a b : Bool) → (a && b) ≡ true → a ≡ true
-and_left true b e = refl
-and_left false b e = e
-
-and_right : (a b : Bool) → (a && b) ≡ true → b ≡ true
-and_right true b e = e
-and_right false b e = absurd cc
 
 -- the backups' number less one, if they are some
 one_less : (n : ℕ) → suc n - 1 ≡ n
@@ -101,35 +94,46 @@ module _ (numbers : List ℕ) where
 
   -- ---- without the backups before the part
 
-  -- the next one stays: it is among those before the part, or it is the part's first
-  next_before : (n : ℕ) (lines : List Line) → any_gone numbers (take n lines) ≡ false → is_next_gone numbers (drop n lines) ≡ false
-      → is_next_gone numbers lines ≡ false
-  next_before zero lines none stays = stays
-  next_before (suc n) [] none stays = refl
-  next_before (suc n) (line ∷ lines) none stays = or_left (is_gone numbers line.number) (any_gone numbers (take n lines)) none
+  -- the last of those before the part is filled, if the part's first one is deleted
+  abbrev HasFilledBefore : ℕ → List Line → Type 0
+  HasFilledBefore n lines = (m : ℕ) → n ≡ suc m → is_next_gone numbers (drop n lines) ≡ true → is_first_filled (drop m lines) ≡ true
+
+  one_on : (n : ℕ) (line : Line) (lines : List Line) → HasFilledBefore (suc n) (line ∷ lines) → HasFilledBefore n lines
+  one_on n line lines filled = λ m e gone. subst (λ k. is_first_filled (drop k (line ∷ lines)) ≡ true) e (filled n refl gone)
+
+  -- a table before the part isn't relative to a deleted backup
+  stays_before : (n : ℕ) (line : Line) (lines : List Line) → any_gone numbers (take n lines) ≡ false → HasFilledBefore (suc n) (line ∷ lines)
+      → needs_fold numbers line lines ≡ false
+  stays_before zero line lines none filled = step (is_next_gone numbers lines) refl
+    where
+      step : (b : Bool) → is_next_gone numbers lines ≡ b → needs_fold numbers line lines ≡ false
+      step true e = no_fold_filled line lines (filled zero refl e)
+      step false e = no_fold line lines e
+  stays_before (suc n) line [] none filled = no_fold line [] refl
+  stays_before (suc n) line (next ∷ lines) none filled =
+      no_fold line (next ∷ lines) (or_left (is_gone numbers next.number) (any_gone numbers (take n lines)) none)
 
   changes_behind : (n : ℕ) (lines : List Line) (tables : List Rows) → any_gone numbers (take n lines) ≡ false
-      → is_next_gone numbers (drop n lines) ≡ false → changes numbers lines tables ≡ changes numbers (drop n lines) (drop n tables)
-  changes_behind zero lines tables none stays = refl
-  changes_behind (suc n) [] tables none stays = refl
-  changes_behind (suc n) (line ∷ lines) [] none stays = sym (changes_none (drop n lines))
-  changes_behind (suc n) (line ∷ lines) (table ∷ tables) none stays =
+      → HasFilledBefore n lines → changes numbers lines tables ≡ changes numbers (drop n lines) (drop n tables)
+  changes_behind zero lines tables none filled = refl
+  changes_behind (suc n) [] tables none filled = refl
+  changes_behind (suc n) (line ∷ lines) [] none filled = sym (changes_none (drop n lines))
+  changes_behind (suc n) (line ∷ lines) (table ∷ tables) none filled =
       let rest = or_right (is_gone numbers line.number) (any_gone numbers (take n lines)) none in
       one_same line table lines tables (or_left (is_gone numbers line.number) (any_gone numbers (take n lines)) none)
-      (no_fold line lines (next_before n lines rest stays))
-      ∙ changes_behind n lines tables rest stays
+      (stays_before n line lines rest filled)
+      ∙ changes_behind n lines tables rest (one_on n line lines filled)
 
   taken_behind : (n : ℕ) (lines : List Line) (tables : List Rows) → any_gone numbers (take n lines) ≡ false
-      → is_next_gone numbers (drop n lines) ≡ false
-      → taken_tables numbers lines tables ≡ taken_tables numbers (drop n lines) (drop n tables)
-  taken_behind zero lines tables none stays = refl
-  taken_behind (suc n) [] tables none stays = refl
-  taken_behind (suc n) (line ∷ lines) [] none stays = sym (taken_none (drop n lines))
-  taken_behind (suc n) (line ∷ lines) (table ∷ tables) none stays =
+      → HasFilledBefore n lines → taken_tables numbers lines tables ≡ taken_tables numbers (drop n lines) (drop n tables)
+  taken_behind zero lines tables none filled = refl
+  taken_behind (suc n) [] tables none filled = refl
+  taken_behind (suc n) (line ∷ lines) [] none filled = sym (taken_none (drop n lines))
+  taken_behind (suc n) (line ∷ lines) (table ∷ tables) none filled =
       let rest = or_right (is_gone numbers line.number) (any_gone numbers (take n lines)) none in
       one_left line table lines tables (or_left (is_gone numbers line.number) (any_gone numbers (take n lines)) none)
-      (no_fold line lines (next_before n lines rest stays))
-      ∙ taken_behind n lines tables rest stays
+      (stays_before n line lines rest filled)
+      ∙ taken_behind n lines tables rest (one_on n line lines filled)
 
   -- ---- without those behind it, from a filled one on that stays
 
@@ -190,51 +194,82 @@ module _ (numbers : List ℕ) where
       (λ i. if is_gone numbers line.number || (not line.filled && next_gone_before n lines i)
       then table ∷ taken_before n lines tables none is i else taken_before n lines tables none is i)
 
-  -- ---- without those behind it, if all before these are deleted
+  -- ---- without those behind it, if none of those before these gets a new table
 
-  changes_gone : (n : ℕ) (lines : List Line) (tables : List Rows) → are_gone numbers (take n lines) ≡ true
+  no_more : (n : ℕ) (line : Line) (lines : List Line) → folds numbers (take (suc n) (line ∷ lines)) ≡ 0 → folds numbers (take n lines) ≡ 0
+  no_more n line lines none = omega (arith, none)
+
+  part_stays : (n : ℕ) (line : Line) (lines : List Line) → folds numbers (take (suc n) (line ∷ lines)) ≡ 0 → is_gone numbers line.number ≡ false
+      → needs_fold numbers line (take n lines) ≡ false
+  part_stays n line lines none stays = step (needs_fold numbers line (take n lines)) refl
+    where
+      one : one_fold numbers line (take n lines) ≡ 0
+      one = omega (arith, none)
+
+      step : (b : Bool) → needs_fold numbers line (take n lines) ≡ b → b ≡ false
+      step true e = absurd (one_more ((λ i. if stays i then 0 else (if e i then 1 else 0)) ∙ refl) one)
+        where
+          one_more : one_fold numbers line (take n lines) ≡ 1 → one_fold numbers line (take n lines) ≡ 0 → ⊥
+          one_more some none = omega (arith, some, none)
+      step false e = refl
+
+  whole_stays : (n : ℕ) (line : Line) (lines : List Line) → any_gone numbers (drop n lines) ≡ false → needs_fold numbers line (take n lines) ≡ false
+      → needs_fold numbers line lines ≡ false
+  whole_stays zero line lines none stays = no_fold line lines (next_stays lines none)
+  whole_stays (suc n) line lines none stays = ap (λ b. not line.filled && b) (next_gone_before n lines) ∙ stays
+
+  changes_unfolded : (n : ℕ) (lines : List Line) (tables : List Rows) → folds numbers (take n lines) ≡ 0
       → any_gone numbers (drop n lines) ≡ false → changes numbers lines tables ≡ changes numbers (take n lines) (take n tables)
-  changes_gone zero lines tables gone none = all_same lines tables none
-  changes_gone (suc n) [] tables gone none = refl
-  changes_gone (suc n) (line ∷ lines) [] gone none = refl
-  changes_gone (suc n) (line ∷ lines) (table ∷ tables) gone none =
-      (λ i. changes_gone n lines tables (and_right (is_gone numbers line.number) (are_gone numbers (take n lines)) gone) none i
-      ++ option_to_list (one_gone line table lines tables (and_left (is_gone numbers line.number) (are_gone numbers (take n lines)) gone) i))
-      ∙ sym (ap (λ c. changes numbers (take n lines) (take n tables) ++ option_to_list c)
-      (one_gone line table (take n lines) (take n tables) (and_left (is_gone numbers line.number) (are_gone numbers (take n lines)) gone)))
+  changes_unfolded zero lines tables none rest = all_same lines tables rest
+  changes_unfolded (suc n) [] tables none rest = refl
+  changes_unfolded (suc n) (line ∷ lines) [] none rest = refl
+  changes_unfolded (suc n) (line ∷ lines) (table ∷ tables) none rest =
+      step (is_gone numbers line.number) refl (changes_unfolded n lines tables (no_more n line lines none) rest)
+    where
+      step : (b : Bool) → is_gone numbers line.number ≡ b → changes numbers lines tables ≡ changes numbers (take n lines) (take n tables)
+          → changes numbers (line ∷ lines) (table ∷ tables) ≡ changes numbers (line ∷ take n lines) (table ∷ take n tables)
+      step true e same =
+          (λ i. same i ++ option_to_list (one_gone line table lines tables e i))
+          ∙ sym (ap (λ c. changes numbers (take n lines) (take n tables) ++ option_to_list c) (one_gone line table (take n lines) (take n tables) e))
+      step false e same =
+          let stays = part_stays n line lines none e in
+          one_same line table lines tables e (whole_stays n line lines rest stays) ∙ same
+          ∙ sym (one_same line table (take n lines) (take n tables) e stays)
 
-  taken_gone : (n : ℕ) (lines : List Line) (tables : List Rows) → are_gone numbers (take n lines) ≡ true
+  taken_unfolded : (n : ℕ) (lines : List Line) (tables : List Rows) → folds numbers (take n lines) ≡ 0
       → any_gone numbers (drop n lines) ≡ false → taken_tables numbers lines tables ≡ taken_tables numbers (take n lines) (take n tables)
-  taken_gone zero lines tables gone none = all_left lines tables none
-  taken_gone (suc n) [] tables gone none = refl
-  taken_gone (suc n) (line ∷ lines) [] gone none = refl
-  taken_gone (suc n) (line ∷ lines) (table ∷ tables) gone none =
-      let here = and_left (is_gone numbers line.number) (are_gone numbers (take n lines)) gone in
-      let rest = and_right (is_gone numbers line.number) (are_gone numbers (take n lines)) gone in
-      (λ i. if here i || needs_fold numbers line lines then table ∷ taken_gone n lines tables rest none i else taken_tables numbers lines tables)
-      ∙ sym (λ i. if here i || needs_fold numbers line (take n lines) then table ∷ taken_tables numbers (take n lines) (take n tables)
-      else taken_tables numbers (take n lines) (take n tables))
+  taken_unfolded zero lines tables none rest = all_left lines tables rest
+  taken_unfolded (suc n) [] tables none rest = refl
+  taken_unfolded (suc n) (line ∷ lines) [] none rest = refl
+  taken_unfolded (suc n) (line ∷ lines) (table ∷ tables) none rest =
+      step (is_gone numbers line.number) refl (taken_unfolded n lines tables (no_more n line lines none) rest)
+    where
+      step : (b : Bool) → is_gone numbers line.number ≡ b → taken_tables numbers lines tables ≡ taken_tables numbers (take n lines) (take n tables)
+          → taken_tables numbers (line ∷ lines) (table ∷ tables) ≡ taken_tables numbers (line ∷ take n lines) (table ∷ take n tables)
+      step true e same =
+          (λ i. if e i || needs_fold numbers line lines then table ∷ same i else taken_tables numbers lines tables)
+          ∙ sym (λ i. if e i || needs_fold numbers line (take n lines) then table ∷ taken_tables numbers (take n lines) (take n tables)
+          else taken_tables numbers (take n lines) (take n tables))
+      step false e same =
+          let stays = part_stays n line lines none e in
+          one_left line table lines tables e (whole_stays n line lines rest stays) ∙ same
+          ∙ sym (one_left line table (take n lines) (take n tables) e stays)
 
-  -- if one of them stays there is one
-  not_none : (n : ℕ) (lines : List Line) → are_gone numbers (take n lines) ≡ false → 0 < n
-  not_none zero lines stay = absurd cc
-  not_none (suc n) lines stay = omega arith
+  -- if one of them gets a new table there is one
+  not_none : (n : ℕ) (lines : List Line) → 0 < folds numbers (take n lines) → 0 < n
+  not_none zero lines some = some
+  not_none (suc n) lines some = omega arith
 
   -- ---- both
 
   -- what is told of backups from the first one on, and up to another, is told of the part
   module _ {X : Type 0} (f : List Line → List Rows → X)
       (behind : (n : ℕ) (lines : List Line) (tables : List Rows) → any_gone numbers (take n lines) ≡ false
-      → is_next_gone numbers (drop n lines) ≡ false → f lines tables ≡ f (drop n lines) (drop n tables))
+      → HasFilledBefore n lines → f lines tables ≡ f (drop n lines) (drop n tables))
       (before : (n : ℕ) (lines : List Line) (tables : List Rows) → any_gone numbers (drop (suc n) lines) ≡ false
       → IsFilledStay numbers (drop n lines) → f lines tables ≡ f (take (suc n) lines) (take (suc n) tables))
-      (all : (n : ℕ) (lines : List Line) (tables : List Rows) → are_gone numbers (take n lines) ≡ true
+      (unfolded : (n : ℕ) (lines : List Line) (tables : List Rows) → folds numbers (take n lines) ≡ 0
       → any_gone numbers (drop n lines) ≡ false → f lines tables ≡ f (take n lines) (take n tables)) where
-    from_first : (n : ℕ) (lines : List Line) (tables : List Rows) → any_gone numbers (take n lines) ≡ false
-        → (0 < n → is_next_gone numbers (drop n lines) ≡ false) → f lines tables ≡ f (drop n lines) (drop n tables)
-    from_first zero lines tables none stays = refl
-    from_first (suc n) lines tables none stays = behind (suc n) lines tables none (stays (omega arith))
-
     cut_at : (n : ℕ) (lines : List Line) (tables : List Rows) → any_gone numbers (drop n lines) ≡ false → 0 < n
         → IsFilledStay numbers (drop (n - 1) lines) → f lines tables ≡ f (take n lines) (take n tables)
     cut_at zero lines tables none some is = absurd (omega (arith, some))
@@ -243,18 +278,20 @@ module _ (numbers : List ℕ) where
 
     up_to_end : (n : ℕ) (lines : List Line) (tables : List Rows) → length tables ≡ length lines
         → any_gone numbers (drop n lines) ≡ false
-        → (n < length lines → are_gone numbers (take n lines) ≡ false → IsFilledStay numbers (drop (n - 1) lines))
+        → (n < length lines → 0 < folds numbers (take n lines) → IsFilledStay numbers (drop (n - 1) lines))
         → f lines tables ≡ f (take n lines) (take n tables)
     up_to_end n lines tables same none is = step (nat_lt n (length lines)) refl
       where
-        cut : n < length lines → (b : Bool) → are_gone numbers (take n lines) ≡ b → f lines tables ≡ f (take n lines) (take n tables)
-        cut less true e = all n lines tables e none
-        cut less false e = cut_at n lines tables none (not_none n lines e) (is less e)
+        cut : n < length lines → (count : ℕ) → folds numbers (take n lines) ≡ count → f lines tables ≡ f (take n lines) (take n tables)
+        cut less zero e = unfolded n lines tables e none
+        cut less (suc count) e =
+            let some : 0 < folds numbers (take n lines) = omega (arith, e) in
+            cut_at n lines tables none (not_none n lines some) (is less some)
 
         step : (b : Bool) → nat_lt n (length lines) ≡ b → f lines tables ≡ f (take n lines) (take n tables)
         step true e =
             let less : n < length lines = grind (arith, nat_tests, e) in
-            cut less (are_gone numbers (take n lines)) refl
+            cut less (folds numbers (take n lines)) refl
         step false e =
             let whole : length lines ≤ n = grind (arith, nat_tests, e) in
             let rows : length tables ≤ n = omega (arith, whole, same) in
@@ -263,15 +300,21 @@ module _ (numbers : List ℕ) where
     told_by_part : (lines : List Line) (tables : List Rows) (first end : ℕ) → IsWindow numbers lines first end
         → length tables ≡ length lines → f lines tables ≡ f (part first end lines) (part first end tables)
     told_by_part lines tables first end w same =
-        from_first first lines tables w.before w.oldest
+        behind first lines tables w.before (λ m e gone. subst (λ k. is_first_filled (drop k lines) ≡ true) (less_one m e) (w.oldest (above m e) gone))
         ∙ up_to_end (end - first) (drop first lines) (drop first tables)
         (length-drop first tables ∙ ap (λ n. n - first) same ∙ sym (length-drop first lines))
         (subst (λ ls. any_gone numbers ls ≡ false) (sym (at_end first end lines w.rises)) w.behind)
-        (λ less stay. subst (IsFilledStay numbers) (sym (at_last first end lines (risen first end (not_none (end - first) (drop first lines) stay))))
-        (w.newest (shorter less) stay))
+        (λ less some. subst (IsFilledStay numbers) (sym (at_last first end lines (risen first end (not_none (end - first) (drop first lines) some))))
+        (w.newest (shorter less) some))
       where
         shorter : end - first < length (drop first lines) → end < length lines
         shorter less = let short = length-drop first lines in omega (arith, less, short, w.rises)
+
+        less_one : (m : ℕ) → first ≡ suc m → first - 1 ≡ m
+        less_one m e = omega (arith, e)
+
+        above : (m : ℕ) → first ≡ suc m → 0 < first
+        above m e = omega (arith, e)
 
         risen : (first end : ℕ) → 0 < end - first → first < end
         risen first end more = omega (arith, more)
@@ -290,10 +333,10 @@ module _ (numbers : List ℕ) where
   -- what becomes of the tables is told by the part alone
   pub changes-part : (lines : List Line) (tables : List Rows) (first end : ℕ) → IsWindow numbers lines first end
       → length tables ≡ length lines → changes numbers lines tables ≡ changes numbers (part first end lines) (part first end tables)
-  changes-part = told_by_part (changes numbers) changes_behind changes_before changes_gone
+  changes-part = told_by_part (changes numbers) changes_behind changes_before changes_unfolded
 
   -- and so are the tables that are removed or replaced
   pub taken-part : (lines : List Line) (tables : List Rows) (first end : ℕ) → IsWindow numbers lines first end
       → length tables ≡ length lines
       → taken_tables numbers lines tables ≡ taken_tables numbers (part first end lines) (part first end tables)
-  taken-part = told_by_part (taken_tables numbers) taken_behind taken_before taken_gone
+  taken-part = told_by_part (taken_tables numbers) taken_behind taken_before taken_unfolded

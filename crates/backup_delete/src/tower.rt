@@ -54,7 +54,7 @@ fn one_fold(numbers: &Gone, line: Line, newer: &[Line]) -> usize
 }
 
 /// How many backups stay and get a new table.
-fn count_folds(lines: &[Line], numbers: &Gone) -> usize
+pub(crate) fn count_folds(lines: &[Line], numbers: &Gone) -> usize
     ensures { result ≡ folds numbers.now lines.now }
 {
     let mut count = 0;

@@ -4,14 +4,16 @@ ghost use Rattle.std.specs.Prelude.{◌≡◌, ◌+◌, ◌-◌, ◌<◌, ◌≤
 ghost use Rattle.disk_trait.specs.declared.ids.PoolId.{PoolId};
 ghost use Rattle.merge_view.specs.Views.{Rows};
 ghost use Rattle.ref_counts.specs.Numbers.{number, total, capped};
-ghost use Rattle.backup_delete.specs.Trees.{is_first_filled, are_gone};
+ghost use Rattle.backup_delete.specs.Trees.{is_first_filled};
+ghost use Rattle.backup_delete.specs.Towers.{folds};
 ghost use Rattle.backup_delete.specs.Folds.{left_lines, changes, added_tables, taken_tables};
 ghost use Rattle.backup_delete.specs.Windows.{part, any_gone, IsWindow, IsNarrow};
 
 use crate::deletion::{Folded, fold};
 use crate::lines::left_lines;
 use crate::numbers::{Gone, is_gone, sorted_numbers};
-use crate::trees::first_filled;
+use crate::tower::count_folds;
+use crate::trees::{first_filled, is_filled};
 use attr_tables::Table;
 use backup_index::LineList;
 use backup_rules::Line;
@@ -76,41 +78,44 @@ fn behind_filled(lines: &[Line], from: usize) -> usize
     }
 }
 
-/// Whether all of the backups are deleted.
-fn are_gone(lines: &[Line], numbers: &Gone) -> bool
-    ensures { result ≡ are_gone numbers.now lines.now }
+/// The index of the older neighbour of the oldest backup that is deleted; or of that one, if there is no older one or that is
+/// filled, since then its table stays.
+fn first_touched(lines: &[Line], oldest: usize) -> usize
+    requires { oldest ≤ length lines.now }
+    ensures near { oldest ≤ result + 1 }
+    ensures before { result ≤ oldest }
+    ensures filled { 0 < result → result ≡ oldest → is_first_filled (drop (result - 1) lines.now) ≡ true }
 {
-    let mut rest = lines;
-    'up: while let [line, newer @ ..] = rest {
-        if !is_gone(numbers, line.number) {
-            return false;
-        }
-        rest = newer;
+    if oldest == 0 {
+        return 0;
     }
-    true
+    if is_filled(lines, oldest - 1) {
+        return oldest;
+    }
+    oldest - 1
 }
 
-/// The end of a window that begins at an index, if none from another one on is deleted: that one if all from the first on are
-/// deleted, since then no tree is computed; else the index behind the first filled one from there on.
+/// The end of a window that begins at an index, if none from another one on is deleted: that one if none from the first on gets
+/// a new table, since then no tree is computed; else the index behind the first filled one from there on.
 fn window_end(lines: &[Line], numbers: &Gone, first: usize, behind: usize) -> usize
     requires rises { first ≤ behind }
     requires within { behind ≤ length lines.now }
     ensures after { behind ≤ result }
     ensures within { result ≤ length lines.now }
-    ensures more { result < length lines.now → are_gone numbers.now (part first result lines.now) ≡ false → behind < result }
-    ensures filled { result < length lines.now → are_gone numbers.now (part first result lines.now) ≡ false
+    ensures more { result < length lines.now → 0 < folds numbers.now (part first result lines.now) → behind < result }
+    ensures filled { result < length lines.now → 0 < folds numbers.now (part first result lines.now)
         → is_first_filled (drop (result - 1) lines.now) ≡ true }
     ensures unfilled { (i : ℕ) → behind ≤ i → i + 1 < result → is_first_filled (drop i lines.now) ≡ false }
 {
-    if are_gone(&lines[first..behind], numbers) {
+    if count_folds(&lines[first..behind], numbers) == 0 {
         return behind;
     }
     behind_filled(lines, behind)
 }
 
 /// The part of a host's backups that their deletion touches, or want of memory: from the older neighbour of the oldest one
-/// that is deleted up to the first filled one behind the newest of them, or to the end; or just those that are deleted, if they
-/// are the oldest of all.
+/// that is deleted up to the first filled one behind the newest of them, or to the end; or no further than from the oldest to
+/// the newest of them, if no other backup gets a new table.
 pub fn window_of(alloc: Global, lines: &[Line], numbers: &[u32]) -> Result<Window, AllocError>
     ensures window { IfOk result (λ window. IsWindow numbers.now lines.now window.first window.end) }
     ensures narrow { IfOk result (λ window. IsNarrow numbers.now lines.now window.first window.end) }
@@ -119,7 +124,7 @@ pub fn window_of(alloc: Global, lines: &[Line], numbers: &[u32]) -> Result<Windo
     let gone = Gone { numbers, sorted };
     let oldest = oldest_gone(lines, &gone);
     let behind = behind_gone(lines, &gone, oldest);
-    let first = oldest.saturating_sub(1);
+    let first = first_touched(lines, oldest);
     let end = window_end(lines, &gone, first, behind);
     Ok(Window { first, end })
 }

@@ -22,7 +22,7 @@ use Rattle.office_model.specs.declared.refusal.BrokenRule.TheVariants as B
 use Rattle.office_model.specs.declared.refusal.Refusal.{Refusal}
 use Rattle.office_model.specs.declared.refusal.Refusal.TheVariants as R
 use Rattle.office_model.specs.Meaning.{Reply}
-use Rattle.reply_bodies.specs.Frames.{next_bytes}
+use Rattle.restore_stream.specs.Layouts.{frame_bytes}
 use Rattle.reply_bodies.specs.Objects.{json_text, object_text}
 use Rattle.reply_bodies.specs.Replies.{short_fields, long_data, refused, refusal_fields}
 
@@ -164,7 +164,7 @@ answer_json event answer =
 -- the message of an answer: the bytes of a file or of a frame, or JSON
 abbrev pub answer_message : Event → Answer → Bool → Bool → Message
 answer_message event (A.Content bytes) closes is_head = bytes_message bytes closes is_head
-answer_message event (A.Next frame) closes is_head = bytes_message (next_bytes frame) closes is_head
+answer_message event (A.Next frame) closes is_head = bytes_message (frame_bytes frame) closes is_head
 answer_message event answer closes is_head = json_message (answer_status event answer) (answer_json event answer) None closes is_head
 
 -- the response to a reply

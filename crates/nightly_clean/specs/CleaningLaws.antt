@@ -22,8 +22,8 @@ use Rattle.pool_changes.specs.Slots.{Slots, with_slot, is_live, claims_of}
 use Rattle.pool_changes.specs.Relisted.{marked, removed}
 use Rattle.pool_changes.specs.Listed.{bucket_item_of, bucket_item_at, IsBucketOf}
 use Rattle.pool_changes.specs.Indexed.{relisted_by, after, IsOf, AreLive, AreUnclaimed}
-use Rattle.nightly_clean.specs.declared.fate.Fate.{Fate}
-use Rattle.nightly_clean.specs.declared.fate.Fate.TheVariants.{Gains, Loses, Leaves}
+use Rattle.pool_fate.specs.declared.fate.Fate.{Fate}
+use Rattle.pool_fate.specs.declared.fate.Fate.TheVariants.{Gains, Loses, Leaves}
 use Rattle.ref_counts.specs.Cleaning.{next_mark}
 use Rattle.nightly_clean.specs.Cleanings.{is_named, is_protected, is_wanted, wanted_ids, live_as, cleaned_slot, cleaned}
 use Rattle.disk_trait.specs.declared.ids.FileId.TheVariants.{Pool}

@@ -4,7 +4,7 @@
 --     is_wanted fate protected marked      whether a content has this fate
 --     wanted_ids fate protected items      the names of the contents that have it
 --     cleaned bucket hosts slots      the names of the pool afterwards
-use Rattle.std.specs.Prelude.{◌≡◌, ℕ, ◌/◌, ◌==◌, nat_lt, Bool, not, ◌&&◌, ◌||◌, List, [], ◌∷◌, length, Option, Some, None, if◌then◌else◌}
+use Rattle.std.specs.Prelude.{◌≡◌, ℕ, ◌/◌, ◌==◌, nat_lt, Bool, ◌||◌, List, [], ◌∷◌, length, Option, Some, None, if◌then◌else◌}
 use Rattle.std.specs.List.{list_any}
 use Rattle.disk_trait.specs.declared.ids.PoolId.{PoolId}
 use Rattle.pool_index.specs.Items.{byte_of}
@@ -16,8 +16,9 @@ use Rattle.pool_changes.specs.declared.listing.BucketItem.{BucketItem}
 use Rattle.pool_changes.specs.Slots.{Slots}
 use Rattle.pool_changes.specs.Listed.{IsBucketOf}
 use Rattle.pool_changes.specs.Indexed.{after}
-use Rattle.nightly_clean.specs.declared.fate.Fate.{Fate}
-use Rattle.nightly_clean.specs.declared.fate.Fate.TheVariants.{Gains, Loses, Leaves}
+use Rattle.pool_fate.specs.declared.fate.Fate.{Fate}
+use Rattle.pool_fate.specs.Fates.{fate_of, is_same_fate}
+use Rattle.pool_fate.specs.declared.fate.Fate.TheVariants.{Gains, Loses, Leaves}
 use Rattle.nightly_clean.specs.declared.cleaning.Cleaning.{Cleaning}
 
 abbrev pub is_named : List Items → PoolId → Bool
@@ -26,11 +27,9 @@ is_named hosts id = list_any (λ counts. nat_lt 0 (number counts id)) hosts
 abbrev pub is_protected : List Items → BucketItem → Bool
 is_protected hosts item = item.claimed || is_named hosts item.id
 
--- an unprotected content gains the mark, and leaves if it has it; a protected one loses it
+-- a content of the bucket that is protected or not, and marked or not, has this fate
 abbrev pub is_wanted : Fate → (protected marked : Bool) → Bool
-is_wanted Gains protected marked = not protected && not marked
-is_wanted Loses protected marked = protected && marked
-is_wanted Leaves protected marked = not protected && marked
+is_wanted fate protected marked = is_same_fate (fate_of true protected marked) fate
 
 abbrev pub wanted_ids : Fate → (BucketItem → Bool) → List BucketItem → List PoolId
 wanted_ids fate protected [] = []

@@ -7,9 +7,9 @@ ghost use Rattle.pool_changes.specs.Indexed.{after};
 ghost use Rattle.pool_changes.specs.Written.{LeadsIndex};
 ghost use Rattle.nightly_clean.specs.Cleanings.{is_named, is_protected, wanted_ids, IsCleaning};
 
-use crate::fate::Fate;
 use disk_trait::PoolId;
 use pool_changes::{BucketItem, IndexChange};
+use pool_fate::{Fate, fate_of};
 use pool_name::Namer;
 use pool_store::Pool;
 use ref_counts::{Counts, number};
@@ -54,7 +54,7 @@ fn wanted_ids(
 {
     let mut ids = Vec::new(alloc);
     for item in items {
-        if fate.is_of(is_protected(counts, item), item.mark) {
+        if fate_of(true, is_protected(counts, item), item.mark).is_same(fate) {
             ids.push(item.id)?;
         }
     }

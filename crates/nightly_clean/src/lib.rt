@@ -13,7 +13,5 @@
 #![tactic(auto)]
 
 mod cleaning;
-mod fate;
 
 pub use cleaning::{Cleaning, clean};
-pub use fate::Fate;

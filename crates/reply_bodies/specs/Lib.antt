@@ -1,4 +1,3 @@
-pub mod Frames
 pub mod Laws
 pub mod Objects
 pub mod Replies

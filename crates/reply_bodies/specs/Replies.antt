@@ -19,13 +19,13 @@ use Rattle.office_model.specs.declared.answer.Answer.{Answer}
 use Rattle.office_model.specs.declared.answer.Answer.TheVariants as A
 use Rattle.office_model.specs.declared.answer.OfficeStats.{OfficeStats}
 use Rattle.office_model.specs.declared.answer.NamedNode.{NamedNode}
-use Rattle.office_model.specs.declared.nodes.Node.{Node}
-use Rattle.office_model.specs.declared.nodes.Node.TheVariants as N
+use Rattle.tree_frames.specs.declared.nodes.Node.{Node}
+use Rattle.tree_frames.specs.declared.nodes.Node.TheVariants as N
 use Rattle.office_model.specs.declared.refusal.Refusal.{Refusal}
 use Rattle.office_model.specs.declared.refusal.Refusal.TheVariants.{Broken, Halted, DiskFault, Damaged, Memory}
 use Rattle.office_model.specs.RuleNames.{rule_name}
 use Rattle.office_model.specs.Session.{session_text}
-use Rattle.reply_bodies.specs.Frames.{next_bytes}
+use Rattle.restore_stream.specs.Layouts.{frame_bytes}
 use Rattle.reply_bodies.specs.Objects.{Field, Text, Count, Flag, Member, json_text, json_object, json_list, json_count, json_integer}
 
 -- ---- short answers
@@ -138,7 +138,7 @@ long_data _ = None
 
 -- the body of an answer that isn't short, none of a short one and of a file
 abbrev pub long_body : Answer → Option (List ℕ)
-long_body (A.Next frame) = Some (next_bytes frame)
+long_body (A.Next frame) = Some (frame_bytes frame)
 long_body answer = option_map (λ value. json_text value) (long_data answer)
 
 -- the body is made in memory

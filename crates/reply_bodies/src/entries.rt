@@ -2,7 +2,7 @@
 
 ghost use Rattle.std.specs.Prelude.{◌≡◌, ◌++◌, codes, map, None, OnOk, IfOk};
 ghost use Rattle.std.specs.Option.{option_copied};
-ghost use Rattle.office_model.specs.declared.nodes.Node.TheVariants.{File as FileValue, Dir as DirValue, Link as LinkValue};
+ghost use Rattle.tree_frames.specs.declared.nodes.Node.TheVariants.{File as FileValue, Dir as DirValue, Link as LinkValue};
 ghost use Rattle.reply_bodies.specs.Objects.{json_list, json_text, json_integer, data_tokens, member_tokens, all_members};
 ghost use Rattle.reply_bodies.specs.Replies.{octal, kind_members, name_members, node_members, node_data, entry_data, entries_data};
 

@@ -6,8 +6,8 @@ use Rattle.std.proofs.lemmas.Bool.Decides.{nat_tests}
 use Rattle.attr_records.specs.Attributes.{Attributes}
 use Rattle.attr_records.specs.Items.{Tree}
 use Rattle.restore_stream.specs.declared.faults.ReadStreamFault.{ReadStreamFault}
-use Rattle.restore_stream.specs.declared.nodes.Node.{Node}
-use Rattle.restore_stream.specs.declared.nodes.Node.TheVariants as N
+use Rattle.tree_frames.specs.declared.nodes.Node.{Node}
+use Rattle.tree_frames.specs.declared.nodes.Node.TheVariants as N
 use Rattle.restore_stream.specs.Cuts.{Layout, chosen, seen_as}
 use Rattle.restore_stream.specs.Layouts.{kind_of}
 use Rattle.restore_stream.specs.Reading.{Finds, Refuses}

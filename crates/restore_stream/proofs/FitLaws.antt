@@ -14,15 +14,15 @@ use Rattle.attr_records.specs.declared.nodes.Item.{Item}
 use Rattle.attr_records.specs.declared.nodes.Item.TheVariants as I
 use Rattle.attr_records.specs.Items.{Tree, is_dir}
 use Rattle.attr_records.specs.Attributes.{Attributes}
-use Rattle.restore_stream.specs.declared.nodes.Node.{Node}
-use Rattle.restore_stream.specs.declared.nodes.Node.TheVariants as N
+use Rattle.tree_frames.specs.declared.nodes.Node.{Node}
+use Rattle.tree_frames.specs.declared.nodes.Node.TheVariants as N
 use Rattle.attr_records.specs.Paths.{path_cmp, parent}
 use Rattle.attr_records.specs.PathLaws.{byte_cmp_total, path_cmp_total, parent-parts}
 use Rattle.attr_records.specs.PathRuleLaws.{short_path}
 use Rattle.attr_records.specs.NameLaws.{short_target}
 use Rattle.attr_records.specs.Trees.{node_at, is_dir_found, is_dir_at, is_parent_in, IsTree}
 use Rattle.restore_stream.specs.Trees.{IsMadeTree, IsAttr, IsItem, IsInRange, may_follow}
-use Rattle.restore_stream.specs.Frames.{node_of, bytes_of, pieces_of, pieces}
+use Rattle.tree_frames.specs.Frames.{node_of, bytes_of, pieces_of, pieces}
 use Rattle.restore_stream.specs.Cuts.{Layout, field, nothing, followed_by, seen_as}
 use Rattle.restore_stream.specs.Sequences.{AreAll, sequence}
 use Rattle.restore_stream.specs.Streams.{limited, attr_layout, node_layout, entry_layout, piece_layout, piece_step, pieces_layout, size_of, row_layout, row_step, end_layout, rows_layout, stream_layout}

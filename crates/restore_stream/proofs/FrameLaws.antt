@@ -7,10 +7,10 @@ use Rattle.std.proofs.lemmas.Bool.Decides.{nat_tests}
 use Rattle.std.proofs.lemmas.List.{length-drop, length-take}
 use Rattle.attr_records.specs.declared.nodes.Item.{Item}
 use Rattle.attr_records.specs.Items.{Tree}
-use Rattle.restore_stream.specs.declared.nodes.Node.{Node}
-use Rattle.restore_stream.specs.declared.nodes.Frame.{Frame}
-use Rattle.restore_stream.specs.declared.nodes.Frame.TheVariants.{Entry, Piece, End}
-use Rattle.restore_stream.specs.Frames.{node_of, bytes_of, pieces_of, pieces, row_frames, frames, frames_left}
+use Rattle.tree_frames.specs.declared.nodes.Node.{Node}
+use Rattle.tree_frames.specs.declared.nodes.Frame.{Frame}
+use Rattle.tree_frames.specs.declared.nodes.Frame.TheVariants.{Entry, Piece, End}
+use Rattle.tree_frames.specs.Frames.{node_of, bytes_of, pieces_of, pieces, row_frames, frames, frames_left}
 
 pieces_enough : (m n : ℕ) (bytes : List ℕ) → length bytes ≤ m → length bytes ≤ n → pieces_of m bytes ≡ pieces_of n bytes
 unfolding pieces_of

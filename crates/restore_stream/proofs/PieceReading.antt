@@ -11,7 +11,7 @@ use Rattle.wire_bytes.specs.Layout.{number_bytes}
 use Rattle.wire_bytes.proofs.Numbers.{length-number_bytes}
 use Rattle.stream_traits.specs.ToldLaws.{before_nil}
 use Rattle.restore_stream.specs.declared.faults.ReadStreamFault.{ReadStreamFault}
-use Rattle.restore_stream.specs.Frames.{pieces_of, pieces}
+use Rattle.tree_frames.specs.Frames.{pieces_of, pieces}
 use Rattle.restore_stream.specs.Cuts.{Layout, field, nothing, chosen, followed_by, seen_as}
 use Rattle.restore_stream.specs.Sequences.{AreAll, items_print, sequence}
 use Rattle.restore_stream.specs.Streams.{limited, one_more, piece_layout, piece_size, piece_step, pieces_layout}

@@ -9,8 +9,8 @@ use Rattle.wire_bytes.specs.Layout.{number_bytes}
 use Rattle.attr_records.specs.declared.nodes.Item.{Item}
 use Rattle.attr_records.specs.declared.nodes.Item.TheVariants as I
 use Rattle.attr_records.specs.Items.{Tree}
-use Rattle.restore_stream.specs.declared.nodes.Frame.TheVariants.{Piece, End}
-use Rattle.restore_stream.specs.Frames.{node_of, bytes_of, pieces_of, pieces, row_frames, frames}
+use Rattle.tree_frames.specs.declared.nodes.Frame.TheVariants.{Piece, End}
+use Rattle.tree_frames.specs.Frames.{node_of, bytes_of, pieces_of, pieces, row_frames, frames}
 use Rattle.restore_stream.specs.Layouts.{entry_bytes, frame_bytes, frames_bytes, stream_bytes, magic}
 use Rattle.restore_stream.specs.Cuts.{Layout, field, nothing, followed_by, seen_as}
 use Rattle.restore_stream.specs.Sequences.{all_print, sequence}

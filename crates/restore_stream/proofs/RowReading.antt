@@ -11,9 +11,9 @@ use Rattle.attr_records.specs.Attributes.{Attributes}
 use Rattle.attr_records.specs.declared.nodes.Item.{Item}
 use Rattle.attr_records.specs.Items.{Tree}
 use Rattle.restore_stream.specs.declared.faults.ReadStreamFault.{ReadStreamFault}
-use Rattle.restore_stream.specs.declared.nodes.Node.{Node}
-use Rattle.restore_stream.specs.declared.nodes.Node.TheVariants as N
-use Rattle.restore_stream.specs.Frames.{node_of, bytes_of, pieces}
+use Rattle.tree_frames.specs.declared.nodes.Node.{Node}
+use Rattle.tree_frames.specs.declared.nodes.Node.TheVariants as N
+use Rattle.tree_frames.specs.Frames.{node_of, bytes_of, pieces}
 use Rattle.restore_stream.specs.Layouts.{attr_bytes, kind_of, node_bytes, entry_bytes, tail_length, magic}
 use Rattle.restore_stream.specs.Cuts.{Layout, field, followed_by, seen_as}
 use Rattle.restore_stream.specs.Sequences.{items_print}

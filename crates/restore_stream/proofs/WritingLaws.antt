@@ -5,8 +5,8 @@ use Rattle.std.proofs.lemmas.List.{append-nil}
 use Rattle.stream_traits.specs.Told.{behind, WroteFront}
 use Rattle.stream_traits.specs.ToldLaws.{behind_nil, behind_append, WroteFront-none, WroteFront-before, WroteFront-after}
 use Rattle.attr_records.specs.Items.{Tree}
-use Rattle.restore_stream.specs.declared.nodes.Frame.{Frame}
-use Rattle.restore_stream.specs.Frames.{frames}
+use Rattle.tree_frames.specs.declared.nodes.Frame.{Frame}
+use Rattle.tree_frames.specs.Frames.{frames}
 use Rattle.restore_stream.specs.Layouts.{frame_bytes, frames_bytes, stream_bytes, magic}
 use Rattle.restore_stream.specs.Writing.{WroteFrames}
 

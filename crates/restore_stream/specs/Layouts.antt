@@ -8,11 +8,11 @@ use Rattle.std.specs.List.{flat_map}
 use Rattle.wire_bytes.specs.Layout.{number_bytes, signed_bytes, text_bytes}
 use Rattle.attr_records.specs.Attributes.{Attributes}
 use Rattle.attr_records.specs.Items.{Tree}
-use Rattle.restore_stream.specs.declared.nodes.Node.{Node}
-use Rattle.restore_stream.specs.declared.nodes.Node.TheVariants.{File, Dir, Link}
-use Rattle.restore_stream.specs.declared.nodes.Frame.{Frame}
-use Rattle.restore_stream.specs.declared.nodes.Frame.TheVariants.{Entry, Piece, End}
-use Rattle.restore_stream.specs.Frames.{frames}
+use Rattle.tree_frames.specs.declared.nodes.Node.{Node}
+use Rattle.tree_frames.specs.declared.nodes.Node.TheVariants.{File, Dir, Link}
+use Rattle.tree_frames.specs.declared.nodes.Frame.{Frame}
+use Rattle.tree_frames.specs.declared.nodes.Frame.TheVariants.{Entry, Piece, End}
+use Rattle.tree_frames.specs.Frames.{frames}
 
 -- mode, uid, gid, mtime, nanos
 unfoldable pub attr_bytes : Attributes → List ℕ

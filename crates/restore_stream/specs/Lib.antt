@@ -1,5 +1,4 @@
 pub mod Cuts
-pub mod Frames
 pub mod Layouts
 pub mod PieceLaws
 pub mod Reading

@@ -3,7 +3,7 @@ use Rattle.std.specs.Prelude.{◌≡◌, ℕ, zero, suc, ◌-◌, ◌≤◌, Lis
 use Rattle.std.specs.List.{concat}
 use Rattle.std.proofs.Common.{refl, ap, ◌∙◌, arith}
 use Rattle.std.proofs.lemmas.List.{length-drop, take-append-drop}
-use Rattle.restore_stream.specs.Frames.{pieces_of, pieces}
+use Rattle.tree_frames.specs.Frames.{pieces_of, pieces}
 
 concat-pieces_of : (n : ℕ) (bytes : List ℕ) → length bytes ≤ n → concat (pieces_of n bytes) ≡ bytes
 unfolding pieces_of

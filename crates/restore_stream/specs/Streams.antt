@@ -18,9 +18,9 @@ use Rattle.attr_records.specs.declared.nodes.Item.TheVariants as I
 use Rattle.attr_records.specs.Items.{Tree}
 use Rattle.attr_records.specs.PathRules.{broken_path_rule}
 use Rattle.attr_records.specs.Names.{is_link_target}
-use Rattle.restore_stream.specs.declared.nodes.Node.{Node}
-use Rattle.restore_stream.specs.declared.nodes.Node.TheVariants as N
-use Rattle.restore_stream.specs.Frames.{node_of, bytes_of, pieces}
+use Rattle.tree_frames.specs.declared.nodes.Node.{Node}
+use Rattle.tree_frames.specs.declared.nodes.Node.TheVariants as N
+use Rattle.tree_frames.specs.Frames.{node_of, bytes_of, pieces}
 use Rattle.restore_stream.specs.PieceLaws.{concat-pieces}
 use Rattle.restore_stream.specs.Layouts.{kind_of, entry_bytes, magic}
 use Rattle.restore_stream.specs.Trees.{may_follow}

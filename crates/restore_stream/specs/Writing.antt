@@ -1,7 +1,7 @@
 -- Frames that are written to a stream.
 use Rattle.std.specs.Prelude.{◌≡◌, ℕ, List, ◌++◌, Option}
 use Rattle.stream_traits.specs.Told.{behind}
-use Rattle.restore_stream.specs.declared.nodes.Frame.{Frame}
+use Rattle.tree_frames.specs.declared.nodes.Frame.{Frame}
 use Rattle.restore_stream.specs.Layouts.{frames_bytes}
 
 -- some frames were written: those that were left, but for those that are left still

@@ -8,12 +8,12 @@ ghost use Rattle.restore_stream.specs.Streams.{u8_field, u32_field, text_field16
 use crate::faults::ReadStreamFault;
 use crate::fields::{read_bytes, read_i64, read_text16, read_u8, read_u32, read_u64};
 use crate::made::MadeList;
-use crate::nodes::{FileNode, Node};
 use attr_records::{
     Attr, Dir, Link, LinkTarget, MAX_MODE, MAX_NANOS, PathName, broken_path_rule, is_link_target,
 };
 use std::alloc::Global;
 use stream_traits::{Faults, Source};
+use tree_frames::{FileNode, Node};
 
 /// Reads a number of four bytes that is at most this one, in a frame that begins at `start`.
 fn read_u32_up_to<S: Source>(

@@ -1,14 +1,14 @@
 ghost use Rattle.std.specs.Prelude.{◌≡◌, ◌≤◌, ◌++◌, [], length, take, drop, IfOk, IfSome, OnErr, None};
 ghost use Rattle.std.specs.Option.{option_to_list};
-ghost use Rattle.restore_stream.specs.Frames.{frames, frames_left, bytes_of};
+ghost use Rattle.tree_frames.specs.Frames.{frames, frames_left, bytes_of};
 ghost use Rattle.restore_stream.specs.Layouts.{IsFrame};
 
 use crate::made::Made;
-use crate::nodes::{Frame, node_of};
 use attr_records::Item;
 use disk_trait::Bytes;
 use std::alloc::{AllocError, Global};
 use std::marker::Model;
+use tree_frames::{Frame, node_of};
 
 /// The most bytes of a piece.
 pub const MAX_PIECE_BYTES: usize = 65_536;
@@ -27,8 +27,8 @@ pub struct FrameCursor<'a> {
 
 impl<'a> Model for FrameCursor<'a> {
     ghost use Rattle.std.specs.Prelude.{List};
-    ghost use Rattle.restore_stream.specs.declared.nodes.Frame.{Frame};
-    ghost use Rattle.restore_stream.specs.Frames.{frames_left};
+    ghost use Rattle.tree_frames.specs.declared.nodes.Frame.{Frame};
+    ghost use Rattle.tree_frames.specs.Frames.{frames_left};
 
     ghost Value = { List Frame };
 

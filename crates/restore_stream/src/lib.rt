@@ -28,7 +28,6 @@ mod fields;
 mod frames;
 mod laws;
 mod made;
-mod nodes;
 mod reading;
 mod writing;
 
@@ -36,6 +35,6 @@ pub use faults::ReadStreamFault;
 pub use frames::{FrameCursor, MAX_PIECE_BYTES};
 pub use laws::no_stream_begins_another;
 pub use made::{Made, MadeList, PushFault};
-pub use nodes::{FileNode, Frame, Node, node_of};
 pub use reading::read_stream;
+pub use tree_frames::{FileNode, Frame, Node, node_of};
 pub use writing::{WriteStreamFault, frame_bytes, write_stream};

@@ -6,7 +6,7 @@ ghost use Rattle.fault_counts.specs.Counts.{Counted};
 ghost use Rattle.stream_traits.specs.Told.{before};
 ghost use Rattle.attr_records.specs.declared.nodes.Item.{Item as ItemValue};
 ghost use Rattle.attr_records.specs.Items.{Tree};
-ghost use Rattle.restore_stream.specs.Frames.{pieces};
+ghost use Rattle.tree_frames.specs.Frames.{pieces};
 ghost use Rattle.restore_stream.specs.Layouts.{entry_bytes, tail_length, magic, stream_bytes};
 ghost use Rattle.restore_stream.specs.Reading.{Reads, ReadsExactly, IsOther};
 ghost use Rattle.restore_stream.specs.Streams.{u8_field, bytes_field_of, pieces_layout, size_of, item_of, row_layout, row_step, rows_layout, stream_layout};
@@ -17,11 +17,11 @@ use crate::faults::ReadStreamFault;
 use crate::fields::{fill, read_u8};
 use crate::frames::MAX_PIECE_BYTES;
 use crate::made::{Made, MadeList};
-use crate::nodes::Node;
 use attr_records::{File, Item, PathName};
 use disk_trait::Bytes;
 use std::alloc::Global;
 use stream_traits::{Faults, Source};
+use tree_frames::Node;
 
 /// An offset this much further on. There is no memory for what would lie behind the largest one.
 fn further(offset: usize, count: usize) -> Result<usize, ReadStreamFault>

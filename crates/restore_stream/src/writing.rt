@@ -11,13 +11,13 @@ ghost use Rattle.restore_stream.specs.Writing.{WroteFrames};
 
 use crate::frames::FrameCursor;
 use crate::made::MadeList;
-use crate::nodes::{FileNode, Frame, Node};
 use attr_records::{Attr, Link, PathName};
 use disk_trait::Bytes;
 use std::alloc::{AllocError, Global};
 use std::error::Error;
 use std::fmt;
 use stream_traits::{Failed, Faults, Sink, write_all};
+use tree_frames::{FileNode, Frame, Node};
 use wire_bytes::{put_bytes, put_i64, put_text16, put_u8, put_u32, put_u64};
 
 /// Writes attributes: mode, uid, gid, mtime, nanos.

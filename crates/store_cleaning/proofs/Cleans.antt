@@ -34,8 +34,8 @@ use Rattle.pool_store.specs.Accepted.{fits_accepted}
 use Rattle.backup_views.specs.declared.kept.Views.{Views}
 use Rattle.ref_counts.specs.Numbers.{Items}
 use Rattle.nightly_clean.specs.declared.cleaning.Cleaning.{Cleaning}
-use Rattle.nightly_clean.specs.declared.fate.Fate.{Fate as NameFate}
-use Rattle.nightly_clean.specs.declared.fate.Fate.TheVariants as By
+use Rattle.pool_fate.specs.declared.fate.Fate.{Fate}
+use Rattle.pool_fate.specs.Fates.{is_same_fate}
 use Rattle.nightly_clean.specs.Cleanings.{is_named, is_protected as is_kept, wanted_ids, cleaned_slot, cleaned as cleaned_names, IsCleaning}
 use Rattle.open_sessions.specs.declared.sessions.Sessions.{Sessions}
 use Rattle.open_sessions.specs.Opened.{AreSessions, claims_in}
@@ -43,7 +43,7 @@ use Rattle.open_sessions.specs.SessionLaws.{AreSessions-claimed}
 use Rattle.office_model.specs.declared.answer.Answer.{Answer}
 use Rattle.office_model.specs.declared.answer.Answer.TheVariants.{Cleaned}
 use Rattle.office_model.specs.declared.event.Event.TheVariants.{Clean}
-use Rattle.office_model.specs.declared.fate.Fate.TheVariants.{Gains, Loses, Leaves}
+use Rattle.pool_fate.specs.declared.fate.Fate.TheVariants.{Stays, Gains, Loses, Leaves}
 use Rattle.office_model.specs.declared.refusal.BrokenRule.TheVariants.{BadBucket}
 use Rattle.office_model.specs.declared.refusal.Refusal.{Refusal}
 use Rattle.office_model.specs.declared.refusal.Refusal.TheVariants.{Broken, DiskFault}
@@ -72,7 +72,7 @@ use Rattle.store_parts.specs.RunLaws.{runs_reads, runs_refused, reads_still, cou
 use Rattle.store_parts.specs.WriteLaws.{LeadsTo, Holds, runs_write_refused, runs_written}
 use Rattle.store_parts.specs.ListLaws.{entry_found}
 use Rattle.store_parts.specs.HoldingLaws.{any_found}
-use Rattle.store_cleaning.specs.CleanLaws.{sessions_hold, hosts_count, AreKept, kept_by, fate_named, listed_item, bucket_claimed, either_way, cleaned_used, cleaned_claims, cleaned_given, cleaned_index, cleaned_number, changes_in, none_cleaned, some_cleaned}
+use Rattle.store_cleaning.specs.CleanLaws.{sessions_hold, hosts_count, AreKept, kept_by, listed_item, bucket_claimed, either_way, cleaned_used, cleaned_claims, cleaned_given, cleaned_index, cleaned_number, changes_in, none_cleaned, some_cleaned}
 
 -- ---- the model's side
 
@@ -171,20 +171,20 @@ module _ {D N S : Type 0} {d : DiskGhosts D} {n : NamerGhosts N S} where
       abbrev protected : List ℕ → Bool
       protected = is_protected office.hosts office.dumps office.restores
 
-      number : (wanted : NameFate) → length (wanted_ids wanted (is_kept old.counts) is.items)
-          ≡ fated inside protected (fate_named wanted) office.pool
-      number wanted =
+      number : (wanted : Fate) → is_same_fate Stays wanted ≡ false → length (wanted_ids wanted (is_kept old.counts) is.items)
+          ≡ fated inside protected wanted office.pool
+      number wanted turns =
           cleaned_number n.digest_of bucket old.counts (slots old) (contents_of at.all) office.pool protected at.stands.pool
-          (protected_is_kept old office names at) at.stands.one at.sound.pool_order is.items is.of_bucket wanted
+          (protected_is_kept old office names at) at.stands.one at.sound.pool_order is.items is.of_bucket wanted turns
 
       gained : cleaning.marked ≡ fated inside protected Gains office.pool
-      gained = is.marked ∙ number By.Gains
+      gained = is.marked ∙ number Gains refl
 
       lost : cleaning.unmarked ≡ fated inside protected Loses office.pool
-      lost = is.unmarked ∙ number By.Loses
+      lost = is.unmarked ∙ number Loses refl
 
       left : cleaning.removed ≡ fated inside protected Leaves office.pool
-      left = is.removed ∙ number By.Leaves
+      left = is.removed ∙ number Leaves refl
 
       judged : CleanEvent.carried names.digest_of bucket office ≡ Ok (carried_by inside office)
       judged = ap (λ f. CleanEvent.carried f bucket office) at.digest ∙ judged_by n.digest_of bucket office within

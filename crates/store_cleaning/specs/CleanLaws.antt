@@ -37,18 +37,17 @@ use Rattle.pool_changes.specs.Listed.{item_of, index_of, bucket_item_of, bucket_
 use Rattle.ref_counts.specs.Cleaning.{next_mark}
 use Rattle.ref_counts.specs.Numbers.{Items, total as total_named}
 use Rattle.ref_counts.specs.Stored.{Backup as StoredBackup, stored}
-use Rattle.nightly_clean.specs.declared.fate.Fate.{Fate as NameFate}
-use Rattle.nightly_clean.specs.declared.fate.Fate.TheVariants as N
 use Rattle.nightly_clean.specs.Cleanings.{is_named, is_protected as is_kept, is_wanted, wanted_ids, live_as, cleaned_slot, cleaned as cleaned_names}
 use Rattle.open_sessions.specs.declared.sessions.OpenDump.{OpenDump}
 use Rattle.open_sessions.specs.declared.sessions.OpenRestore.{OpenRestore}
 use Rattle.open_sessions.specs.declared.sessions.Sessions.{Sessions}
 use Rattle.open_sessions.specs.Opened.{IsDump, IsRestore, AreSessions, base_of, claims_in, claims_in_dumps, claims_in_restores}
-use Rattle.office_model.specs.declared.fate.Fate.{Fate}
-use Rattle.office_model.specs.declared.fate.Fate.TheVariants.{Stays, Gains, Loses, Leaves}
+use Rattle.pool_fate.specs.declared.fate.Fate.{Fate}
+use Rattle.pool_fate.specs.declared.fate.Fate.TheVariants.{Stays, Gains, Loses, Leaves}
 use Rattle.office_model.specs.Office.{Office, Dump, Restore, in_dumps, in_bases, in_restores}
 use Rattle.office_model.specs.Places.{Differ}
-use Rattle.office_model.specs.Pool.{Pool, byte_cmp, mark_of, holds, fate_of, mark_after, kept_as, is_same_fate, fate, cleaned, fated}
+use Rattle.office_model.specs.Pool.{Pool, byte_cmp, mark_of, holds, kept_as, fate, cleaned, fated}
+use Rattle.pool_fate.specs.Fates.{fate_of, mark_after, is_same_fate}
 use Rattle.office_model.specs.UsedNames.{Among}
 use Rattle.office_model.specs.events.Clean.{in_bucket}
 use Rattle.office_model.specs.events.Stats.{total}
@@ -158,32 +157,6 @@ kept_by hosted opened true true h o = sym (ap (λ (b : Bool). b || opened) h)
 kept_by hosted opened true false h o = sym (λ i. h i || o i)
 kept_by hosted opened false true h o = sym (ap (λ (b : Bool). b || opened) h)
 kept_by hosted opened false false h o = sym (λ i. h i || o i)
-
--- the fate of a content by that of its name
-abbrev pub fate_named : NameFate → Fate
-fate_named N.Gains = Gains
-fate_named N.Loses = Loses
-fate_named N.Leaves = Leaves
-
-same_inside : (wanted : NameFate) (protected mark : Bool)
-    → is_same_fate (fate_of true protected mark) (fate_named wanted) ≡ is_wanted wanted protected mark
-same_inside N.Gains true true = refl
-same_inside N.Gains true false = refl
-same_inside N.Gains false true = refl
-same_inside N.Gains false false = refl
-same_inside N.Loses true true = refl
-same_inside N.Loses true false = refl
-same_inside N.Loses false true = refl
-same_inside N.Loses false false = refl
-same_inside N.Leaves true true = refl
-same_inside N.Leaves true false = refl
-same_inside N.Leaves false true = refl
-same_inside N.Leaves false false = refl
-
-none_outside : (wanted : NameFate) → is_same_fate Stays (fate_named wanted) ≡ false
-none_outside N.Gains = refl
-none_outside N.Loses = refl
-none_outside N.Leaves = refl
 
 -- the item of a live name, as the index has it
 pub listed_item : (id : PoolId) (slot : Option Slot) (item : BucketItem) → bucket_item_of id slot ≡ Some item
@@ -325,12 +298,12 @@ module _ (digest_of : List ℕ → List ℕ) (bucket : ℕ) (counts : List Items
   -- ---- how many
 
   module _ (one : IsOneToOne (IsListed (index_of slots)) contents) (in_order : IsInOrder byte_cmp pool) (items : List BucketItem)
-      (of : IsBucketOf slots bucket items) (wanted : NameFate) where
+      (of : IsBucketOf slots bucket items) (wanted : Fate) (turns : is_same_fate Stays wanted ≡ false) where
     entry : BucketItem → List ℕ × Bool
     entry item = (contents item.id, item.mark)
 
     weight : List ℕ × Bool → ℕ
-    weight e = cond (is_same_fate (fate inside protected e) (fate_named wanted)) 1 0
+    weight e = cond (is_same_fate (fate inside protected e) wanted) 1 0
 
     within : List ℕ × Bool → Bool
     within e = inside e.0
@@ -372,10 +345,10 @@ module _ (digest_of : List ℕ → List ℕ) (bucket : ℕ) (counts : List Items
         step true rest = omega (arith, rest)
         step false rest = omega (arith, rest)
 
-    fated_total : (pool : Pool) → fated inside protected (fate_named wanted) pool ≡ total weight pool
+    fated_total : (pool : Pool) → fated inside protected wanted pool ≡ total weight pool
     unfolding weight
     fated_total [] = refl
-    fated_total (e ∷ pool) = ap (λ n. cond (is_same_fate (fate inside protected e) (fate_named wanted)) 1 0 + n) (fated_total pool)
+    fated_total (e ∷ pool) = ap (λ n. cond (is_same_fate (fate inside protected e) wanted) 1 0 + n) (fated_total pool)
 
     -- contents outside the bucket don't count
     only_inside : (pool : Pool) → total weight (filter within pool) ≡ total weight pool
@@ -387,8 +360,8 @@ module _ (digest_of : List ℕ → List ℕ) (bucket : ℕ) (counts : List Items
             → total weight (cond b (e ∷ filter within pool) (filter within pool)) ≡ weight e + total weight pool
         step true f rest = ap (λ n. weight e + n) rest
         step false f rest =
-            let none : weight e ≡ 0 = ap (λ (b : Bool). cond (is_same_fate (fate_of b (protected e.0) e.1) (fate_named wanted)) 1 0) f
-            ∙ ap (λ (b : Bool). cond b 1 0) (none_outside wanted) in
+            let none : weight e ≡ 0 = ap (λ (b : Bool). cond (is_same_fate (fate_of b (protected e.0) e.1) wanted) 1 0) f
+            ∙ ap (λ (b : Bool). cond b 1 0) turns in
             omega (arith, rest, none)
 
     item_weight : (i : ℕ) (item : BucketItem) → slice_get items i ≡ Some item
@@ -397,8 +370,7 @@ module _ (digest_of : List ℕ → List ℕ) (bucket : ℕ) (counts : List Items
     item_weight i item e =
         let name = of_name i item e in
         ap (λ (p : Bool). cond (is_wanted wanted p item.mark) 1 0) (kept item.id item name.found)
-        ∙ ap (λ (b : Bool). cond b 1 0) (sym (same_inside wanted (protected (contents item.id)) item.mark))
-        ∙ ap (λ (b : Bool). cond (is_same_fate (fate_of b (protected (contents item.id)) item.mark) (fate_named wanted)) 1 0)
+        ∙ ap (λ (b : Bool). cond (is_same_fate (fate_of b (protected (contents item.id)) item.mark) wanted) 1 0)
         (sym name.inside_is)
 
     entries : total weight (map entry items) ≡ total weight (filter within pool)
@@ -439,7 +411,7 @@ module _ (digest_of : List ℕ → List ℕ) (bucket : ℕ) (counts : List Items
         back : (j : ℕ) (e : List ℕ × Bool) → slice_get (filter within pool) j ≡ Some e → Among (map entry items) e
         back j e g = let w = kept_were within pool e (j, g) in placed e w.0 w.1
 
-    pub cleaned_number : length (wanted_ids wanted (is_kept counts) items) ≡ fated inside protected (fate_named wanted) pool
+    pub cleaned_number : length (wanted_ids wanted (is_kept counts) items) ≡ fated inside protected wanted pool
     cleaned_number =
         length_wanted items
         ∙ total-each (λ item. cond (is_wanted wanted (is_kept counts item) item.mark) 1 0) (λ item. weight (entry item)) items item_weight

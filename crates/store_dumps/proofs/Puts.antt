@@ -56,7 +56,7 @@ use Rattle.office_model.specs.declared.refusal.BrokenRule.TheVariants.{NoSession
 use Rattle.office_model.specs.declared.refusal.Refusal.{Refusal}
 use Rattle.office_model.specs.declared.refusal.Refusal.TheVariants as R
 use Rattle.office_model.specs.declared.session.SessionName.{SessionName}
-use Rattle.office_model.specs.Frames.{bytes_of as item_bytes}
+use Rattle.tree_frames.specs.Frames.{bytes_of as item_bytes}
 use Rattle.office_model.specs.Meaning.{Carried, Judged, Reply, Stages}
 use Rattle.office_model.specs.Office.{Office, Dump, Names, with_dumps}
 use Rattle.office_model.specs.Step.{Running, IsStep, MayFault, meaning_of}

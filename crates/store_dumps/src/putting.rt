@@ -17,7 +17,7 @@ ghost use Rattle.pool_store.specs.Chains.{SaysDamaged, SaysGiven};
 ghost use Rattle.pool_store.specs.Pools.{Misses, IsCertain, IsNotForeign};
 ghost use Rattle.open_sessions.specs.declared.sessions.OpenDump.{OpenDump};
 ghost use Rattle.office_model.specs.declared.event.Event.TheVariants.{Put};
-ghost use Rattle.office_model.specs.Frames.{bytes_of};
+ghost use Rattle.tree_frames.specs.Frames.{bytes_of};
 ghost use Rattle.store_parts.specs.Runs.{Runs};
 ghost use Rattle.store_dumps.specs.Alike.{AreAlike};
 ghost use Rattle.store_dumps.specs.Putting.{record_for, content_found, TakesIn, refusal_of, refused_put};

@@ -20,7 +20,7 @@ use Rattle.stored_trees.specs.ResolvedLaws.{node_at-resolved}
 use Rattle.office_model.specs.declared.answer.Answer.TheVariants.{Entries}
 use Rattle.office_model.specs.declared.answer.NamedNode.{NamedNode}
 use Rattle.office_model.specs.declared.event.Event.TheVariants.{List as ListEvent}
-use Rattle.office_model.specs.declared.nodes.Node.TheVariants as N
+use Rattle.tree_frames.specs.declared.nodes.Node.TheVariants as N
 use Rattle.office_model.specs.declared.refusal.BrokenRule.{BrokenRule}
 use Rattle.office_model.specs.declared.refusal.Refusal.{Refusal}
 use Rattle.office_model.specs.declared.refusal.Refusal.TheVariants.{Broken, Memory}

@@ -30,14 +30,14 @@ use Rattle.stored_trees.specs.Values.{IfFound}
 use Rattle.stored_trees.specs.ValueLaws.{AllValues-find}
 use Rattle.office_model.specs.declared.answer.Answer.TheVariants.{Entry, Content}
 use Rattle.office_model.specs.declared.event.Event.TheVariants.{Lookup, ReadFile}
-use Rattle.office_model.specs.declared.nodes.Node.{Node}
-use Rattle.office_model.specs.declared.nodes.Node.TheVariants as N
+use Rattle.tree_frames.specs.declared.nodes.Node.{Node}
+use Rattle.tree_frames.specs.declared.nodes.Node.TheVariants as N
 use Rattle.office_model.specs.declared.refusal.BrokenRule.{BrokenRule}
 use Rattle.office_model.specs.declared.refusal.BrokenRule.TheVariants.{NoPath}
 use Rattle.office_model.specs.declared.refusal.Refusal.{Refusal}
 use Rattle.office_model.specs.declared.refusal.Refusal.TheVariants.{Broken, Halted, DiskFault, Damaged, Memory}
 use Rattle.office_model.specs.Office.{Office, Host, Backup, Names}
-use Rattle.office_model.specs.Frames.{node_of}
+use Rattle.tree_frames.specs.Frames.{node_of}
 use Rattle.office_model.specs.Meaning.{Judged, ◌>>=◌, found}
 use Rattle.office_model.specs.Parts.{backup_of}
 use Rattle.office_model.specs.events.Lookup as LookupEvent

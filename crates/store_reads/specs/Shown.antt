@@ -25,8 +25,8 @@ use Rattle.pool_store.specs.declared.fault.PoolFault.TheVariants as P
 use Rattle.ref_counts.specs.Stored.{Backup as StoredBackup}
 use Rattle.stored_trees.specs.Resolved.{resolved, AreTold}
 use Rattle.office_model.specs.declared.answer.NamedNode.{NamedNode}
-use Rattle.office_model.specs.declared.nodes.Node.{Node}
-use Rattle.office_model.specs.declared.nodes.Node.TheVariants as N
+use Rattle.tree_frames.specs.declared.nodes.Node.{Node}
+use Rattle.tree_frames.specs.declared.nodes.Node.TheVariants as N
 use Rattle.office_model.specs.declared.refusal.BrokenRule.{BrokenRule}
 use Rattle.office_model.specs.declared.refusal.BrokenRule.TheVariants.{NoPath, NotAFile, NotADirectory, ChainFull}
 use Rattle.office_model.specs.declared.refusal.Refusal.{Refusal}

@@ -18,8 +18,8 @@ use Rattle.attr_records.specs.Items.{Tree}
 use Rattle.stored_trees.specs.Resolved.{resolved}
 use Rattle.office_model.specs.declared.answer.Answer.TheVariants.{Next as NextAnswer}
 use Rattle.office_model.specs.declared.event.Event.TheVariants.{ReadNext}
-use Rattle.office_model.specs.declared.nodes.Frame.{Frame}
-use Rattle.office_model.specs.declared.nodes.Frame.TheVariants as F
+use Rattle.tree_frames.specs.declared.nodes.Frame.{Frame}
+use Rattle.tree_frames.specs.declared.nodes.Frame.TheVariants as F
 use Rattle.office_model.specs.declared.refusal.BrokenRule.TheVariants.{NoSession}
 use Rattle.office_model.specs.declared.refusal.Refusal.{Refusal}
 use Rattle.office_model.specs.declared.refusal.Refusal.TheVariants.{Broken, Halted, DiskFault, Damaged, Memory}

@@ -18,9 +18,9 @@ use Rattle.attr_tables.specs.declared.records.Record.TheVariants.{File, Dir, Lin
 use Rattle.merge_view.specs.Views.{Rows, is_mark, HasNoMarks}
 use Rattle.stored_trees.specs.Values.{AllValues}
 use Rattle.stored_trees.specs.Resolved.{bytes_of, resolved, resolved_item, IsTold, IsToldContent}
-use Rattle.office_model.specs.declared.nodes.Node.TheVariants as N
-use Rattle.office_model.specs.declared.nodes.Frame.TheVariants as F
-use Rattle.office_model.specs.Frames.{node_of}
+use Rattle.tree_frames.specs.declared.nodes.Node.TheVariants as N
+use Rattle.tree_frames.specs.declared.nodes.Frame.TheVariants as F
+use Rattle.tree_frames.specs.Frames.{node_of}
 use Rattle.office_model.specs.Frames as Frames
 use Rattle.office_model.specs.Office.{Restore}
 use Rattle.open_sessions.specs.declared.sessions.Asked.{Asked}

@@ -11,9 +11,9 @@ use Rattle.disk_trait.specs.declared.ids.PoolId.{PoolId}
 use Rattle.disk_trait.specs.declared.ids.FileId.TheVariants.{Pool as PoolFile}
 use Rattle.attr_tables.specs.declared.records.Record.{Record}
 use Rattle.merge_view.specs.Views.{Rows}
-use Rattle.office_model.specs.declared.nodes.Node.{Node}
-use Rattle.office_model.specs.declared.nodes.Frame.{Frame}
-use Rattle.office_model.specs.declared.nodes.Frame.TheVariants as F
+use Rattle.tree_frames.specs.declared.nodes.Node.{Node}
+use Rattle.tree_frames.specs.declared.nodes.Frame.{Frame}
+use Rattle.tree_frames.specs.declared.nodes.Frame.TheVariants as F
 use Rattle.office_model.specs.declared.refusal.Refusal.{Refusal}
 use Rattle.office_model.specs.declared.refusal.Refusal.TheVariants as R
 use Rattle.open_sessions.specs.declared.sessions.Asked.{Asked}

@@ -5,7 +5,8 @@ use Rattle.std.specs.Ordering.{eq_by_cmp}
 use Rattle.std.specs.List.{cons_option}
 use Rattle.std.proofs.Common.{refl, sym, ap, ◌∙◌, subst}
 use Rattle.ordered_lists.specs.Order.{IsInOrder, IsBelowAll}
-use Rattle.office_model.specs.Pool.{Pool, byte_cmp, mark_of, is_pooled, holds, fate, fate_of, mark_after, kept_as, cleaned}
+use Rattle.office_model.specs.Pool.{Pool, byte_cmp, mark_of, is_pooled, holds, fate, kept_as, cleaned}
+use Rattle.pool_fate.specs.Fates.{fate_of, mark_after}
 use Rattle.office_model.specs.Office.{Office, Host, Backup, Dump, Restore, with_pool, IsSound, host_holds, in_hosts, in_dumps, in_bases}
 use Rattle.office_model.specs.Meaning.{Same}
 use Rattle.office_model.specs.events.Clean.{is_protected, in_bucket, meaning}

@@ -5,7 +5,8 @@ use Rattle.std.proofs.lemmas.Bool.{false≢true}
 use Rattle.std.proofs.lemmas.Bool.Decides.{nat_tests}
 use Rattle.std.proofs.lemmas.List.{take_all}
 use Rattle.backup_rules.specs.declared.lines.Line.{Line}
-use Rattle.backup_delete.specs.Trees.{is_first_filled, is_gone, are_gone, is_next_gone}
+use Rattle.backup_delete.specs.Trees.{is_first_filled, is_gone, is_next_gone}
+use Rattle.backup_delete.specs.Towers.{folds}
 use Rattle.backup_delete.specs.Windows.{part, any_gone, IsWindow}
 use Rattle.backup_delete.specs.WindowLaws.{or_left, or_right}
 use Rattle.backup_delete.proofs.windows.window_of.Goals as goal
@@ -46,17 +47,17 @@ module _ (numbers : List ℕ) where
   first_stays (line ∷ lines) none = or_left (is_gone numbers line.number) (any_gone numbers lines) none
 
   is_window : (lines : List Line) (oldest behind first end : ℕ) → any_gone numbers (take oldest lines) ≡ false → oldest ≤ behind
-      → any_gone numbers (drop behind lines) ≡ false → first ≡ oldest - 1 → behind ≤ end → end ≤ length lines
-      → (end < length lines → are_gone numbers (part first end lines) ≡ false → behind < end)
-      → (end < length lines → are_gone numbers (part first end lines) ≡ false → is_first_filled (drop (end - 1) lines) ≡ true)
+      → any_gone numbers (drop behind lines) ≡ false → first ≤ oldest
+      → (0 < first → first ≡ oldest → is_first_filled (drop (first - 1) lines) ≡ true) → behind ≤ end → end ≤ length lines
+      → (end < length lines → 0 < folds numbers (part first end lines) → behind < end)
+      → (end < length lines → 0 < folds numbers (part first end lines) → is_first_filled (drop (end - 1) lines) ≡ true)
       → IsWindow numbers lines first end
-  is_window lines oldest behind first end none after rest is more within some filled = record {
+  is_window lines oldest behind first end none after rest is before more within some filled = record {
     within = within;
-    before = fewer_before first oldest lines (omega (arith, is)) none;
+    before = fewer_before first oldest lines is none;
     behind = fewer_behind behind end lines more rest;
     rises = omega (arith, is, after, more);
-    some = λ newer. omega (arith, newer, is, after, more);
-    oldest = λ newer. stays_before first oldest lines (omega (arith, newer, is)) none;
+    oldest = λ newer gone. step newer gone (nat_lt first oldest) refl;
     newest = λ less stay.
         let past = some less stay in
         record {
@@ -64,6 +65,13 @@ module _ (numbers : List ℕ) where
           stays = first_stays (drop (end - 1) lines) (fewer_behind behind (end - 1) lines (omega (arith, past)) rest);
         };
   }
+    where
+      step : 0 < first → is_next_gone numbers (drop first lines) ≡ true → (b : Bool) → nat_lt first oldest ≡ b
+          → is_first_filled (drop (first - 1) lines) ≡ true
+      step newer gone true e =
+          let less : first < oldest = grind (arith, nat_tests, e) in
+          absurd (false≢true (sym (stays_before first oldest lines less none) ∙ gone))
+      step newer gone false e = let same : first ≡ oldest = grind (arith, nat_tests, e, is) in before newer same
 
   module _ (lines : List Line) (oldest behind : ℕ) (none : any_gone numbers (take oldest lines) ≡ false)
       (rest : any_gone numbers (drop behind lines) ≡ false) (some : any_gone numbers lines ≡ true) (within : oldest ≤ length lines) where
@@ -77,7 +85,7 @@ module _ (numbers : List ℕ) where
             let all : length lines ≤ oldest = grind (arith, nat_tests, e) in
             absurd (false≢true (sym (ap (any_gone numbers) (sym (take_all oldest lines all)) ∙ none) ∙ some))
 
-    near : (first : ℕ) → (oldest < length lines → any_gone numbers (take (oldest + 1) lines) ≡ true) → first ≡ oldest - 1
+    near : (first : ℕ) → (oldest < length lines → any_gone numbers (take (oldest + 1) lines) ≡ true) → oldest ≤ first + 1
         → any_gone numbers (take (first + 2) lines) ≡ true
     near first here is = step (any_gone numbers (take (first + 2) lines)) refl
       where
@@ -115,7 +123,7 @@ returns-clause-narrow c =
     record {
       near = λ some.
           near numbers lines oldest.result behind.result oldest.ensures.before behind.ensures.behind some oldest.ensures.within
-          c.saturating_sub-first.result oldest.ensures.here (search rules);
+          c.first_touched-first.result oldest.ensures.here c.first_touched-first.ensures.near;
       unfilled = λ some i past less.
           unfilled numbers lines oldest.result behind.result oldest.ensures.before behind.ensures.behind some oldest.ensures.within
           c.window_end-end.result i behind.ensures.after oldest.ensures.on behind.ensures.newest c.window_end-end.ensures.unfilled
@@ -124,7 +132,7 @@ returns-clause-narrow c =
 
 pub returns-clause-window : goal.returns-clause-window
 returns-clause-window c =
-    is_window c.args.numbers.now c.args.lines.now c.oldest_gone-oldest.result c.behind_gone-behind.result c.saturating_sub-first.result
+    is_window c.args.numbers.now c.args.lines.now c.oldest_gone-oldest.result c.behind_gone-behind.result c.first_touched-first.result
     c.window_end-end.result c.oldest_gone-oldest.ensures.before c.behind_gone-behind.ensures.after c.behind_gone-behind.ensures.behind
-    (search rules) c.window_end-end.ensures.after c.window_end-end.ensures.within c.window_end-end.ensures.more
+    c.first_touched-first.ensures.before c.first_touched-first.ensures.filled c.window_end-end.ensures.after c.window_end-end.ensures.within c.window_end-end.ensures.more
     c.window_end-end.ensures.filled

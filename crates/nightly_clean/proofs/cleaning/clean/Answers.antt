@@ -2,7 +2,7 @@ use Rattle.std.proofs.Common.{List, length, subst, sym, ap, ◌∙◌}
 use Rattle.disk_trait.specs.declared.ids.PoolId.{PoolId}
 use Rattle.pool_changes.specs.Kept.{slots_of}
 use Rattle.pool_changes.specs.Indexed.{AreLive, AreUnclaimed}
-use Rattle.nightly_clean.specs.declared.fate.Fate.TheVariants.{Gains, Loses, Leaves}
+use Rattle.pool_fate.specs.declared.fate.Fate.TheVariants.{Gains, Loses, Leaves}
 use Rattle.nightly_clean.specs.Cleanings.{is_protected, wanted_ids}
 use Rattle.nightly_clean.specs.CleaningLaws.{live_wanted, unclaimed_wanted, cleaning_after}
 use Rattle.nightly_clean.proofs.cleaning.clean.Goals as goal

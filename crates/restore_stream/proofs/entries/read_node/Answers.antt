@@ -1,5 +1,5 @@
 use Rattle.std.proofs.Common.{subst, sym}
-use Rattle.restore_stream.specs.declared.nodes.Node.{Node}
+use Rattle.tree_frames.specs.declared.nodes.Node.{Node}
 use Rattle.restore_stream.specs.Cuts.{Layout}
 use Rattle.restore_stream.specs.Reading.{Reads}
 use Rattle.restore_stream.proofs.EntryLaws.{node_is_file, node_is_dir, node_is_link, eqb_no}

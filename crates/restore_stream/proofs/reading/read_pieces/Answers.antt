@@ -1,6 +1,6 @@
 -- One more piece, or all of them.
 use Rattle.std.proofs.Common.{rules, subst, sym, ap, ◌∙◌, ◌+◌, length}
-use Rattle.restore_stream.specs.Frames.{pieces}
+use Rattle.tree_frames.specs.Frames.{pieces}
 use Rattle.restore_stream.specs.Streams.{pieces_layout}
 use Rattle.restore_stream.specs.Reading.{Finds}
 use Rattle.restore_stream.proofs.ReadingLaws.{reads_again}

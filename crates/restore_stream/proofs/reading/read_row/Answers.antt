@@ -1,6 +1,6 @@
 -- An entry, and the pieces of its file.
 use Rattle.std.proofs.Common.{ap, ◌∙◌, ◌+◌, length}
-use Rattle.restore_stream.specs.Frames.{pieces}
+use Rattle.tree_frames.specs.Frames.{pieces}
 use Rattle.restore_stream.specs.Streams.{row_layout, pieces_layout}
 use Rattle.restore_stream.proofs.ReadingLaws.{reads_again}
 use Rattle.restore_stream.proofs.RowReading.{entry_refuses, pieces_refuse, row_came, row_behind, sized, sized_refuses, first_at}

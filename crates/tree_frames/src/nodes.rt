@@ -1,5 +1,5 @@
 ghost use Rattle.std.specs.Prelude.{◌≡◌, IfOk};
-ghost use Rattle.restore_stream.specs.Frames.{node_of};
+ghost use Rattle.tree_frames.specs.Frames.{node_of};
 
 use attr_records::{Attr, Dir, Item, Link, PathName};
 use disk_trait::Bytes;

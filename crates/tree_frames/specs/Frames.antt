@@ -7,10 +7,10 @@ use Rattle.std.specs.List.{flat_map}
 use Rattle.attr_records.specs.declared.nodes.Item.{Item}
 use Rattle.attr_records.specs.declared.nodes.Item.TheVariants as I
 use Rattle.attr_records.specs.Items.{Tree}
-use Rattle.restore_stream.specs.declared.nodes.Node.{Node}
-use Rattle.restore_stream.specs.declared.nodes.Node.TheVariants as N
-use Rattle.restore_stream.specs.declared.nodes.Frame.{Frame}
-use Rattle.restore_stream.specs.declared.nodes.Frame.TheVariants.{Entry, Piece, End}
+use Rattle.tree_frames.specs.declared.nodes.Node.{Node}
+use Rattle.tree_frames.specs.declared.nodes.Node.TheVariants as N
+use Rattle.tree_frames.specs.declared.nodes.Frame.{Frame}
+use Rattle.tree_frames.specs.declared.nodes.Frame.TheVariants.{Entry, Piece, End}
 
 abbrev pub node_of : Item → Node
 node_of (I.File file) = N.File (record { attr = file.attr; group = file.group; size = length file.bytes })

@@ -1,0 +1,15 @@
+//! What look-ups, listings and restores give of a tree: nodes without the bytes of files, and frames. It knows paths, items and
+//! bytes, and neither offices nor streams. The main definition is `frames` of specs/Frames: each path in order, behind a file its
+//! bytes in pieces, last the end.
+//!
+//! | Type | What it is |
+//! |---|---|
+//! | `Node`, `FileNode` | what stands at a path, without the bytes of a file |
+//! | `Frame` | an entry, a piece of at most 65,536 bytes, or the end |
+//!
+//! A call: `node_of(alloc, &item)?` is the node of an item.
+#![tactic(auto)]
+
+mod nodes;
+
+pub use nodes::{FileNode, Frame, Node, node_of};
