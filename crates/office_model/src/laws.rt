@@ -1,0 +1,17 @@
+//! What follows from the definitions.
+
+ghost use Rattle.office_model.specs.declared.event.Event.{Event};
+ghost use Rattle.office_model.specs.Meaning.{Reply};
+ghost use Rattle.office_model.specs.Step.{State, meaning_of, IsStep, IsSoundState};
+ghost use Rattle.office_model.specs.laws.Lawful.{IsLawful};
+
+/// Each event is lawful: carried out in a sound office with its names, it answers what is of its kind and leaves a sound office, in
+/// which nothing is held but what was held before and what was put.
+pub fn each_event_is_lawful()
+    ensures { (event : Event) → IsLawful (meaning_of event) }
+{}
+
+/// A step leads from a sound state to a sound one.
+pub fn a_step_keeps_a_sound_state()
+    ensures { (old : State) (event : Event) (reply : Reply) (new : State) → IsSoundState old → IsStep old event reply new → IsSoundState new }
+{}
