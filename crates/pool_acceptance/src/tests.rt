@@ -109,6 +109,23 @@ fn read<N: Namer>(
     }
 }
 
+/// Whether the pool says that a name holds a content.
+fn holds<N: Namer>(
+    alloc: Global,
+    pool: &Pool<N>,
+    journal: &mut Journal<MemoryDisk>,
+    id: PoolId,
+    content: &[u8],
+) -> Result<bool, Fail> {
+    if journal.halted() {
+        return Err(Fail::new("the journal is halted"));
+    }
+    match pool.holds(alloc, journal, id, content) {
+        Ok(same) => Ok(same),
+        Err(fault) => Err(Fail::new(format_args!("{fault}"))),
+    }
+}
+
 /// An index by hand, in either form, lists `hello`, in the fifth bucket; an altered file of it is told with its bytes.
 #[test]
 fn an_index_by_hand_is_opened(rt: HostRuntime) -> Result<(), Fail> {
@@ -205,6 +222,62 @@ fn contents_of_one_digest_have_extensions(rt: HostRuntime) -> Result<(), Fail> {
             Ok(bytes) => assert_eq!(rt; bytes.as_slice(), content),
             Err(_) => return Err(Fail::new("damaged")),
         }
+    }
+    Ok(())
+}
+
+/// The file of a listed name is damaged: its content gets the next extension, and from then on that one.
+#[test]
+fn a_damaged_file_is_passed_over(rt: HostRuntime) -> Result<(), Fail> {
+    let alloc = rt.alloc();
+    let mut journal = journal_of(
+        alloc,
+        &[
+            (FileId::PoolBucket(0x5d), BUCKET),
+            (FileId::Pool(HELLO), b"hellO"),
+        ],
+    )?;
+    let mut pool = opened(alloc, &mut journal, Md5Namer)?;
+    assert_eq!(rt; extension_of(alloc, &mut pool, &mut journal, b"hello")?, 1);
+    assert_eq!(rt; extension_of(alloc, &mut pool, &mut journal, b"hello")?, 1);
+    assert!(rt; !holds(alloc, &pool, &mut journal, HELLO, b"hello")?);
+    assert!(rt; holds(alloc, &pool, &mut journal, HELLO, b"hellO")?);
+    Ok(())
+}
+
+/// A name holds the bytes of its file and no others, while it is live or staged.
+#[test]
+fn a_name_holds_its_bytes_alone(rt: HostRuntime) -> Result<(), Fail> {
+    let alloc = rt.alloc();
+    let doomed = PoolId {
+        digest: HELLO.digest,
+        extension: 1,
+    };
+    let unused = PoolId {
+        digest: HELLO.digest,
+        extension: 2,
+    };
+    let mut journal = journal_of(
+        alloc,
+        &[
+            (FileId::PoolBucket(0x5d), BUCKET),
+            (FileId::Pool(HELLO), b"hello"),
+            (FileId::Pool(doomed), b"hello"),
+        ],
+    )?;
+    let pool = opened(alloc, &mut journal, Md5Namer)?;
+    assert!(rt; pool.has(HELLO) && !pool.has(doomed) && !pool.has(unused));
+    let cases: [(PoolId, &[u8], bool); 7] = [
+        (HELLO, b"hello", true),
+        (HELLO, b"hellO", false),
+        (HELLO, b"hell", false),
+        (HELLO, b"hello!", false),
+        (HELLO, b"", false),
+        (doomed, b"hello", false),
+        (unused, b"hello", false),
+    ];
+    for (id, content, same) in cases {
+        assert_eq!(rt; holds(alloc, &pool, &mut journal, id, content)?, same);
     }
     Ok(())
 }

@@ -9,13 +9,12 @@ ghost use Rattle.disk_trait.specs.Files.{Files};
 ghost use Rattle.intent_journal.specs.Calls.{Reads};
 ghost use Rattle.pool_changes.specs.Kept.{slots_of};
 ghost use Rattle.pool_changes.specs.Slots.{id_of};
-ghost use Rattle.pool_store.specs.Chains.{IsMet, SaysDamaged, SaysGiven, OfReading, freed};
+ghost use Rattle.pool_store.specs.Chains.{IsMet, freed};
 
 use crate::fault::PoolFault;
 use disk_trait::{Bytes, Disk, FileId, PoolId};
 use intent_journal::{Journal, JournalFault};
 use pool_changes::{Names, Slot};
-use pool_name::Namer;
 use std::alloc::Global;
 
 /// What the files of a digest are to a content.
@@ -27,6 +26,16 @@ pub(crate) enum Met {
     Free(u16),
     /// None holds it, and each extension is used.
     Full,
+}
+
+/// Whether a name is live or staged.
+pub(crate) fn is_given(names: &Names, id: PoolId) -> bool
+    ensures { result ≡ is_given (slots_of names.now id) }
+{
+    match names.get(id) {
+        Some(Slot::Live { .. } | Slot::Staged { .. }) => true,
+        Some(Slot::Doomed) | None => false,
+    }
 }
 
 /// What a fault of a journal that isn't halted is to a pool.
@@ -60,74 +69,29 @@ pub(crate) fn read_file<D: Disk>(
     }
 }
 
-/// Whether the file of a name holds the content.
-fn holds<D: Disk, N: Namer>(
+/// Whether a name is live or staged and its file holds exactly this content. No digest is made: a file that is absent, or
+/// damaged, holds another one.
+pub(crate) fn holds<D: Disk>(
     alloc: Global,
     journal: &mut Journal<D>,
-    namer: &N,
+    names: &Names,
     id: PoolId,
     content: &[u8],
 ) -> Result<bool, PoolFault>
     requires { journal.old.halted ≡ false }
-    ensures same { IfOk result (λ same. same ≡ true → (all : Files) → D.files journal.old.disk ≡ Some all → all (PoolFile id) ≡ Some content.now) }
-    ensures other { IfOk result (λ same. same ≡ false → (all : Files) → D.files journal.old.disk ≡ Some all → all (PoolFile id) ≡ Some content.now → ⊥) }
-    ensures damaged { IfErr result (SaysDamaged N.digest_of (D.files journal.old.disk)) }
-    ensures named { IfErr result (λ fault. (other : PoolId) (found : Option (List ℕ)) → fault ≡ PoolFault.Damaged other found → other ≡ id) }
-    ensures fault { IfErr result OfReading }
+    ensures same { IfOk result (λ same. same ≡ true → (is_given (slots_of names.now id) ≡ true) × ((all : Files) → D.files journal.old.disk ≡ Some all → all (PoolFile id) ≡ Some content.now)) }
+    ensures other { IfOk result (λ same. same ≡ false → is_given (slots_of names.now id) ≡ true → (all : Files) → D.files journal.old.disk ≡ Some all → all (PoolFile id) ≡ Some content.now → ⊥) }
+    ensures fault { IfErr result (λ fault. (fault ≡ PoolFault.Disk) ⊎ (fault ≡ PoolFault.Memory)) }
     ensures reads { Reads journal.old journal.new }
     ensures counted { Counted (D.fault_count journal.old.disk) (D.fault_count journal.new.disk) (IsErrOf result PoolFault.Disk) }
 {
-    match read_file(alloc, journal, FileId::Pool(id)) {
-        Ok(None) => Err(PoolFault::Damaged { id, found: None }),
-        Ok(Some(found)) => {
-            if found.as_slice() == content {
-                return Ok(true);
-            }
-            if namer.name(found.as_slice()) != id.digest {
-                return Err(PoolFault::Damaged {
-                    id,
-                    found: Some(found),
-                });
-            }
-            Ok(false)
-        }
-        Err(fault) => Err(fault),
+    if !is_given(names, id) {
+        return Ok(false);
     }
-}
-
-/// What one name is to a content.
-#[derive(Clone, Copy, Debug, PartialEq, Eq)]
-enum Seen {
-    Same,
-    Other,
-}
-
-/// What a used name is to a content.
-fn look<D: Disk, N: Namer>(
-    alloc: Global,
-    journal: &mut Journal<D>,
-    namer: &N,
-    names: &Names,
-    id: PoolId,
-    content: &[u8],
-) -> Result<Seen, PoolFault>
-    requires { journal.old.halted ≡ false }
-    ensures same { IfOk result (λ seen. seen ≡ Seen.Same → (is_given (slots_of names.now id) ≡ true) × ((all : Files) → D.files journal.old.disk ≡ Some all → all (PoolFile id) ≡ Some content.now)) }
-    ensures other { IfOk result (λ seen. seen ≡ Seen.Other → is_given (slots_of names.now id) ≡ true → (all : Files) → D.files journal.old.disk ≡ Some all → all (PoolFile id) ≡ Some content.now → ⊥) }
-    ensures damaged { IfErr result (SaysDamaged N.digest_of (D.files journal.old.disk)) }
-    ensures given { IfErr result (SaysGiven (slots_of names.now)) }
-    ensures fault { IfErr result OfReading }
-    ensures reads { Reads journal.old journal.new }
-    ensures counted { Counted (D.fault_count journal.old.disk) (D.fault_count journal.new.disk) (IsErrOf result PoolFault.Disk) }
-{
-    match names.get(id) {
-        None => Ok(Seen::Other),
-        Some(Slot::Doomed) => Ok(Seen::Other),
-        Some(_) => match holds(alloc, journal, namer, id, content) {
-            Ok(true) => Ok(Seen::Same),
-            Ok(false) => Ok(Seen::Other),
-            Err(fault) => Err(fault),
-        },
+    match read_file(alloc, journal, FileId::Pool(id)) {
+        Ok(Some(found)) => Ok(found.as_slice() == content),
+        Ok(None) => Ok(false),
+        Err(fault) => Err(fault),
     }
 }
 
@@ -149,19 +113,16 @@ fn first_free(free: Option<u16>, at: u32, used: u16) -> Option<u16>
 }
 
 /// Compares a content with each live or staged file of its digest, in order of extension.
-pub(crate) fn meet<D: Disk, N: Namer>(
+pub(crate) fn meet<D: Disk>(
     alloc: Global,
     journal: &mut Journal<D>,
-    namer: &N,
     names: &Names,
     digest: [u8; 16],
     content: &[u8],
 ) -> Result<Met, PoolFault>
     requires { journal.old.halted ≡ false }
     ensures met { IfOk result (IsMet (slots_of names.now) digest (D.files journal.old.disk) content.now) }
-    ensures damaged { IfErr result (SaysDamaged N.digest_of (D.files journal.old.disk)) }
-    ensures given { IfErr result (SaysGiven (slots_of names.now)) }
-    ensures fault { IfErr result OfReading }
+    ensures fault { IfErr result (λ fault. (fault ≡ PoolFault.Disk) ⊎ (fault ≡ PoolFault.Memory)) }
     ensures reads { Reads journal.old journal.new }
     ensures counted { Counted (D.fault_count journal.old.disk) (D.fault_count journal.new.disk) (IsErrOf result PoolFault.Disk) }
 {
@@ -180,9 +141,9 @@ pub(crate) fn meet<D: Disk, N: Namer>(
                     digest,
                     extension: used,
                 };
-                match look(alloc, journal, namer, names, id, content) {
-                    Ok(Seen::Same) => return Ok(Met::Same(used)),
-                    Ok(Seen::Other) => {}
+                match holds(alloc, journal, names, id, content) {
+                    Ok(true) => return Ok(Met::Same(used)),
+                    Ok(false) => {}
                     Err(fault) => return Err(fault),
                 }
                 free = first_free(free, at, used);

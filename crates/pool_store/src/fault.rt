@@ -17,7 +17,7 @@ pub enum PoolFault {
     Disk,
     /// There was no memory.
     Memory,
-    /// The file of a name is absent, or has another digest than the name: what was found of it.
+    /// The file of a name is absent, or has another digest than the name: what was found of it. At a read alone.
     Damaged { id: PoolId, found: Option<Bytes> },
     /// No live or staged file holds the content, and each of the 65,536 names of its digest is used.
     ChainFull,

@@ -2,9 +2,10 @@
 //! journal's files, and nothing of trees, hosts or backups.
 //!
 //! Its main clause: an id has exactly its bytes, whatever namer gives digests. A content that a live or staged file holds
-//! gets that file's name, and another one the least unused extension of its digest; equal digests are never trusted. A
-//! name is *live* where the index lists it, *staged* from the write of its file to the commit that lists it, and *doomed*
-//! until a sweep takes its file away. A claim holds a staged name, and keeps a live one from being removed.
+//! gets that file's name, and another one the least unused extension of its digest; equal digests are never trusted, and a
+//! file that is damaged is passed over. A name is *live* where the index lists it, *staged* from the write of its file to
+//! the commit that lists it, and *doomed* until a sweep takes its file away. A claim holds a staged name, and keeps a live
+//! one from being removed.
 //!
 //! | Type | What it is |
 //! |---|---|

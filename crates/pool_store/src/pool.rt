@@ -21,7 +21,7 @@ ghost use Rattle.pool_changes.specs.Indexed.{after, IsOf, AreGiven, AreLive, Are
 ghost use Rattle.pool_store.specs.Sweeps.{IsPruned, Sweeps, AreAllUsed, AreAllGiven};
 ghost use Rattle.pool_changes.specs.Named.{NoneDoomed};
 
-use crate::chain::{Met, read_file};
+use crate::chain::{Met, holds, is_given, read_file};
 use crate::fault::PoolFault;
 use crate::opening::{doomed_names, list_index};
 use crate::stage::{find_place, stage_new};
@@ -102,9 +102,17 @@ impl<N: Namer> Pool<N> {
         self.names.get(id)
     }
 
-    /// Makes sure of n claims, which then take no memory.
+    /// Whether a name is live or staged.
+    pub fn has(&self, id: PoolId) -> bool
+        ensures { result ≡ is_given (slots_of self.now.names id) }
+    {
+        is_given(&self.names, id)
+    }
+
+    /// Makes sure of n claims, which then take no memory. It never lowers how many were made sure of before.
     pub fn reserve(&mut self, n: usize) -> Result<(), AllocError>
         ensures ok { OnOk result (n ≤ self.new.spare) }
+        ensures kept { self.old.spare ≤ self.new.spare }
         ensures same { IsSame (slots_of self.old.names) (slots_of self.new.names) }
         ensures err { OnErr result (self.new.spare ≡ self.old.spare) }
         ensures form { self.new.in_one_file ≡ self.old.in_one_file }
@@ -182,8 +190,29 @@ impl<N: Namer> Pool<N> {
         }
     }
 
-    /// Claims the content's name, which is that of the live or staged file that holds it, or else a new one whose file
-    /// is staged.
+    /// Whether a name is live or staged and its file holds exactly this content. The two are compared, and no digest is
+    /// made: a file that is absent or damaged holds another content.
+    pub fn holds<D: Disk>(
+        &self,
+        alloc: Global,
+        journal: &mut Journal<D>,
+        id: PoolId,
+        content: &[u8],
+    ) -> Result<bool, PoolFault>
+        requires { journal.old.halted ≡ false }
+        ensures same { IfOk result (λ same. same ≡ true → (is_given (slots_of self.now.names id) ≡ true)
+            × ((all : Files) → D.files journal.old.disk ≡ Some all → all (PoolFile id) ≡ Some content.now)) }
+        ensures other { IfOk result (λ same. same ≡ false → is_given (slots_of self.now.names id) ≡ true → (all : Files) → D.files journal.old.disk ≡ Some all
+            → all (PoolFile id) ≡ Some content.now → ⊥) }
+        ensures fault { IfErr result (λ fault. (fault ≡ PoolFault.Disk) ⊎ (fault ≡ PoolFault.Memory)) }
+        ensures reads { Reads journal.old journal.new }
+        ensures counted { Counted (D.fault_count journal.old.disk) (D.fault_count journal.new.disk) (IsErrOf result PoolFault.Disk) }
+    {
+        holds(alloc, journal, &self.names, id, content)
+    }
+
+    /// Claims the content's name, which is that of the live or staged file that holds it, or else a new one, with the
+    /// least unused extension, whose file is staged. A file that holds anything else is passed over, damaged or not.
     pub fn match_or_stage<D: Disk>(
         &mut self,
         alloc: Global,
@@ -197,6 +226,7 @@ impl<N: Namer> Pool<N> {
         ensures damaged { IfErr result (SaysDamaged N.digest_of (D.files journal.old.disk)) }
         ensures given { IfErr result (SaysGiven (slots_of self.old.names)) }
         ensures kind { IfErr result IsNotForeign }
+        ensures undamaged { IfErr result (λ fault. (other : PoolId) (found : Option (List ℕ)) → fault ≡ PoolFault.Damaged other found → ⊥) }
         ensures certain { IsCertain (slots_of self.old.names) (D.uncertain journal.old.disk) → IsCertain (slots_of self.old.names) (D.uncertain journal.new.disk) }
         ensures any_moment { (all : Files) → D.files journal.old.disk ≡ Some all → IsCertain (slots_of self.old.names) (D.uncertain journal.old.disk)
             → LeavesOnly D.moment D.left_since journal.old.disk journal.new.disk (ComesTo all (unlisted (slots_of self.old.names))) }
@@ -209,14 +239,7 @@ impl<N: Namer> Pool<N> {
             return Err(PoolFault::Memory);
         }
         let digest = self.namer.name(content);
-        let extension = match find_place(
-            alloc,
-            journal,
-            &self.namer,
-            &self.names,
-            digest,
-            content,
-        ) {
+        let extension = match find_place(alloc, journal, &self.names, digest, content) {
             Ok(Met::Same(extension)) => {
                 let id = PoolId { digest, extension };
                 match self.names.get(id) {

@@ -9,7 +9,7 @@ ghost use Rattle.intent_journal.specs.Overlay.{ComesTo};
 ghost use Rattle.pool_changes.specs.declared.slot.Slot.TheVariants.{Staged};
 ghost use Rattle.pool_changes.specs.Kept.{slots_of, IsSet, IsSame};
 ghost use Rattle.pool_changes.specs.Slots.{unlisted};
-ghost use Rattle.pool_store.specs.Chains.{IsMet, SaysDamaged, SaysGiven, OfReading};
+ghost use Rattle.pool_store.specs.Chains.{IsMet};
 ghost use Rattle.pool_store.specs.Pools.{IsCertain, IsUnstaged};
 
 use crate::chain::{Met, meet};
@@ -17,23 +17,19 @@ use crate::fault::PoolFault;
 use disk_trait::{Disk, FileId, PoolId};
 use intent_journal::{Journal, JournalFault};
 use pool_changes::{Names, Slot};
-use pool_name::Namer;
 use std::alloc::Global;
 
 /// Compares a content with the files of its digest.
-pub(crate) fn find_place<D: Disk, N: Namer>(
+pub(crate) fn find_place<D: Disk>(
     alloc: Global,
     journal: &mut Journal<D>,
-    namer: &N,
     names: &Names,
     digest: [u8; 16],
     content: &[u8],
 ) -> Result<Met, PoolFault>
     requires { journal.old.halted ≡ false }
     ensures met { IfOk result (IsMet (slots_of names.now) digest (D.files journal.old.disk) content.now) }
-    ensures damaged { IfErr result (SaysDamaged N.digest_of (D.files journal.old.disk)) }
-    ensures given { IfErr result (SaysGiven (slots_of names.now)) }
-    ensures fault { IfErr result OfReading }
+    ensures fault { IfErr result (λ fault. (fault ≡ PoolFault.Disk) ⊎ (fault ≡ PoolFault.Memory)) }
     ensures told { D.files journal.new.disk ≡ D.files journal.old.disk }
     ensures certain { IsCertain (slots_of names.now) (D.uncertain journal.old.disk) → IsCertain (slots_of names.now) (D.uncertain journal.new.disk) }
     ensures any_moment { (all : Files) → D.files journal.old.disk ≡ Some all → IsCertain (slots_of names.now) (D.uncertain journal.old.disk)
@@ -41,7 +37,7 @@ pub(crate) fn find_place<D: Disk, N: Namer>(
     ensures stays { journal.new.halted ≡ journal.old.halted }
     ensures counted { Counted (D.fault_count journal.old.disk) (D.fault_count journal.new.disk) (IsErrOf result PoolFault.Disk) }
 {
-    meet(alloc, journal, namer, names, digest, content)
+    meet(alloc, journal, names, digest, content)
 }
 
 /// Writes the file of an unused name. Whatever the write answers, the name is used from then on.
