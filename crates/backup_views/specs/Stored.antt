@@ -1,6 +1,7 @@
 -- What files tell of a host's backups by their tables.
 --     IsTableFile rows found      what was found is the file of these rows, in either layout
---     AreTables all host lines tables      each line's table is its file
+--     AreTableFiles all host lines tables      each line's table is its file
+--     AreTables all host lines tables      and that of a filled backup is a whole tree
 --     tree_from lines tables      the tree of the first of these backups, the oldest, through the tables
 use Rattle.std.specs.Prelude.{◌≡◌, ℕ, ◌+◌, true, List, [], ◌∷◌, length, Option, Some, if◌then◌else◌}
 use Rattle.disk_trait.specs.declared.ids.FileId.TheVariants.{Table}
@@ -15,6 +16,13 @@ pub record IsTableFile (rows : Rows) (found : Option (List ℕ)) : Type 0 where
   pub layout : TableLayout
   pub fits : IsTable layout rows
   pub is : found ≡ Some (table_file layout rows)
+
+-- one table for each line, which its file tells
+abbrev pub AreTableFiles : Files → ℕ → List Line → List Rows → Type 0
+AreTableFiles all host [] [] = Unit {0}
+AreTableFiles all host [] (rows ∷ tables) = ⊥
+AreTableFiles all host (line ∷ lines) [] = ⊥
+AreTableFiles all host (line ∷ lines) (rows ∷ tables) = IsTableFile rows (all (Table host line.number)) × AreTableFiles all host lines tables
 
 -- the table of a backup of this host; a filled one is a whole tree
 pub record HasTable (all : Files) (host : ℕ) (line : Line) (rows : Rows) : Type 0 where

@@ -19,4 +19,4 @@ mod tables;
 
 pub use fault::ViewFault;
 pub use kept::{KeptView, Views};
-pub use tables::{read_entries, read_tree};
+pub use tables::{read_entries, read_tables, read_tree};

@@ -6,7 +6,7 @@ ghost use Rattle.disk_trait.specs.declared.ids.FileId.TheVariants.{Table as Tabl
 ghost use Rattle.disk_trait.specs.Files.{Files};
 ghost use Rattle.merge_view.specs.Views.{Rows, IsWhole};
 ghost use Rattle.journal_view.specs.View.{told, Quiet};
-ghost use Rattle.backup_views.specs.Stored.{IsTableFile, AreTables, tree_from, depth_of};
+ghost use Rattle.backup_views.specs.Stored.{IsTableFile, AreTableFiles, AreTables, tree_from, depth_of};
 ghost use Rattle.backup_views.specs.Faults.{IsNoTable, SaysDamaged, SaysOneDamaged};
 
 use crate::fault::{ViewFault, fault_of};
@@ -101,15 +101,19 @@ fn depth(lines: &[Line]) -> usize
     count
 }
 
-/// The tables of these backups, the first one's first.
-fn read_tables<D: Disk>(
+/// The tables of these backups of a host, the first one's first. A refusal changes nothing: `Damaged` comes only if one of
+/// these files is absent or no table's.
+pub fn read_tables<D: Disk>(
     alloc: Global,
     journal: &mut Journal<D>,
     host: u32,
     lines: &[Line],
 ) -> Result<Vec<Table>, ViewFault>
     requires { journal.old.halted ≡ false }
-    ensures one { IfOk result (λ tables. (all : Files) (stored : List Rows) → told journal.old ≡ Some all → AreTables all host lines.now stored → tables.items ≡ stored) }
+    ensures each { IfOk result (λ tables. length tables.items ≡ length lines.now) }
+    ensures there { IfOk result (λ tables. (all : Files) → told journal.old ≡ Some all → AreTableFiles all host lines.now tables.items) }
+    ensures one { IfOk result (λ tables. (all : Files) (stored : List Rows) → told journal.old ≡ Some all
+        → AreTableFiles all host lines.now stored → tables.items ≡ stored) }
     ensures damaged { IfErr result (SaysOneDamaged (told journal.old) host lines.now) }
     ensures quiet { Quiet journal.old journal.new }
     ensures counted { Counted (D.fault_count journal.old.disk) (D.fault_count journal.new.disk) (IsErrOf result ViewFault.Disk) }
