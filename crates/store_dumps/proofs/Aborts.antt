@@ -18,7 +18,7 @@ use Rattle.office_model.specs.declared.refusal.BrokenRule.TheVariants.{NoSession
 use Rattle.office_model.specs.Office.{Office, Dump, Names, dump_index, with_dumps}
 use Rattle.office_model.specs.Parts.{dump_at}
 use Rattle.office_model.specs.laws.Judging.{at_found}
-use Rattle.office_model.specs.laws.StepLaws.{IsSound-carried}
+use Rattle.office_model.specs.laws.StateLaws.{AreSound-carried}
 use Rattle.office_model.specs.events.Abort as AbortEvent
 use Rattle.office_files.specs.Pairs.{AtEachPair, other_at}
 use Rattle.office_files.specs.Pooled.{contents_of}
@@ -108,6 +108,6 @@ module _ {D N S : Type 0} {d : DiskGhosts D} {n : NamerGhosts N S} where
                     (sym restores) at.sessions.restores;
                 sequence = sequence ∙ at.sessions.sequence;
               })
-              refl refl (IsSound-carried office names (Abort session) (record { answer = Done; after = next }) at.sound judged);
+              refl refl (AreSound-carried office names (Abort session) (record { answer = Done; after = next }) names at.sound judged refl);
         })
         (λ office names. refl) refl

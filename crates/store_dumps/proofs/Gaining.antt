@@ -11,7 +11,8 @@ use Rattle.pool_changes.specs.Slots.{claims_of}
 use Rattle.pool_store.specs.Fits.{fits_less}
 use Rattle.pool_store.specs.Pools.{IsCertain}
 use Rattle.open_sessions.specs.Opened.{AreSessions, claims_in}
-use Rattle.office_model.specs.Office.{Office, Names, IsSound, durable}
+use Rattle.office_model.specs.Office.{Office, Names}
+use Rattle.office_model.specs.UsedNames.{AreSound}
 use Rattle.office_files.specs.Pooled.{contents_of}
 use Rattle.store_parts.specs.declared.parts.StoreParts.{StoreParts}
 use Rattle.store_parts.specs.Held.{given}
@@ -55,9 +56,9 @@ module _ {D N S : Type 0} {d : DiskGhosts D} {n : NamerGhosts N S} where
       → new.counts ≡ old.counts → new.views ≡ old.views → new.halted ≡ old.halted
       → new.pool.in_one_file ≡ old.pool.in_one_file
       → ((id : PoolId) → claims_in new.sessions id ≡ claims_in old.sessions id + count id)
-      → (AreSessions n.holds (given (slots new)) (contents_of at.all) office old.sessions
-      → AreSessions n.holds (given (slots new)) (contents_of at.all) next new.sessions)
-      → next.durable ≡ durable office → next.hosts ≡ office.hosts → IsSound next → IsRunning new next names
+      → (AreSessions n.holds (given (slots new)) (contents_of at.all) office.volatile old.sessions
+      → AreSessions n.holds (given (slots new)) (contents_of at.all) next.volatile new.sessions)
+      → next.durable ≡ office.durable → next.hosts ≡ office.hosts → AreSound next names → IsRunning new next names
   unfolding working_staged staged_gains
   running_gains old new office next names count at gains journal catalog counts views halted form claims opens same hosts sound =
       running_let_go mid new office next names (λ id. 0) (λ id. claims_of (slots new id)) working (λ id. refl) refl refl refl refl refl

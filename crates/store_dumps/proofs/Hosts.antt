@@ -9,7 +9,7 @@ use Rattle.std.proofs.lemmas.Option.{slice_get_read}
 use Rattle.backup_index.specs.Index.{Index}
 use Rattle.office_catalog.specs.Known.{Known, host_named, names_of}
 use Rattle.office_model.specs.declared.refusal.BrokenRule.TheVariants.{NoHost}
-use Rattle.office_model.specs.Office.{Office, Host, host_index}
+use Rattle.office_model.specs.Office.{Durable, Host, host_index}
 use Rattle.office_model.specs.Parts.{at, host_at}
 use Rattle.office_model.specs.laws.Judging.{at_found}
 use Rattle.office_model.specs.laws.Lookups.{host_index-found}
@@ -30,12 +30,12 @@ index_read hosts found place index same within is =
     slice_get_read hosts (length hosts) place index refl within (is ∙ ap (λ (l : List Index). get_or l place index) same)
 
 -- the host of this name, with its index
-pub record IsNamed (office : Office) (known : Known) (name : List ℕ) (place : ℕ) : Type 0 where
+pub record IsNamed (office : Durable) (known : Known) (name : List ℕ) (place : ℕ) : Type 0 where
   pub host : Host
   pub is_host : slice_get office.hosts place ≡ Some host
   pub judged : host_at office.hosts name ≡ Ok (record { index = place; value = host })
 
-module _ (office : Office) (known : Known) (is : known ≡ known_of_office office) where
+module _ (office : Durable) (known : Known) (is : known ≡ known_of_office office) where
   host_found : (name : List ℕ) → host_named (names_of known.hosts) name ≡ host_index office.hosts name
   host_found name = ap (λ (k : Known). host_named (names_of k.hosts) name) is ∙ found_from name 0 0 office.hosts
 

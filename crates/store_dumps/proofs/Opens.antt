@@ -32,7 +32,7 @@ use Rattle.office_model.specs.declared.session.SessionName.{SessionName}
 use Rattle.office_model.specs.Meaning.{Carried, Judged, ◌>>=◌, ◌>>◌, breaks}
 use Rattle.office_model.specs.Office.{Office, Host, Dump, Names, dump_index_of_host, number_limit, last_sequence, numbered_as, with_dumps}
 use Rattle.office_model.specs.Parts.{host_at, lines_of}
-use Rattle.office_model.specs.laws.StepLaws.{IsSound-carried}
+use Rattle.office_model.specs.laws.StateLaws.{AreSound-carried}
 use Rattle.office_model.specs.events.OpenDump as OpenDumpModel
 use Rattle.office_files.specs.Pairs.{AtEachPair, pairs_push}
 use Rattle.office_files.specs.Pooled.{contents_of}
@@ -69,7 +69,9 @@ judged_from false next sequence rest = second (nat_le number_limit next)
 
 -- what a further dump makes of an office
 abbrev pub with_fresh : Office → ℕ → Kind → ℕ → Tree → Office
-with_fresh office host kind now base = numbered_as (with_dumps office (office.dumps ++ OpenDumpModel.new_dump (OpenDumpModel.next_session office) host kind now base ∷ [])) (office.sequence + 1)
+with_fresh office host kind now base =
+    numbered_as (with_dumps office (office.dumps ++ OpenDumpModel.new_dump (OpenDumpModel.next_session office) host kind now base ∷ []))
+    (office.sequence + 1)
 
 abbrev opened : Office → ℕ → Kind → ℕ → Tree → Carried
 opened office host kind now base = record {
@@ -119,8 +121,8 @@ module _ (given : PoolId → Type 0) (contents : PoolId → List ℕ) (office : 
   }
 
   pub sessions_opened : {S : Type 0} (holds : S → List ℕ → Type 0) (old new : Sessions S) (epoch : ℕ) (name : SessionName)
-      → epoch ≡ office.epoch → AreSessions holds given contents office old → IsOpened old epoch place kind now rows name new
-      → AreSessions holds given contents (with_fresh office place kind now (resolved contents rows)) new
+      → epoch ≡ office.epoch → AreSessions holds given contents office.volatile old → IsOpened old epoch place kind now rows name new
+      → AreSessions holds given contents (with_fresh office place kind now (resolved contents rows)).volatile new
   sessions_opened {S} holds old new epoch name same are opened = record {
     dumps = subst (λ (items : List OpenDump). AtEachPair (λ i. IsDump given contents)
         (office.dumps ++ OpenDumpModel.new_dump (OpenDumpModel.next_session office) place kind now (resolved contents rows) ∷ []) items)
@@ -283,7 +285,7 @@ module _ {D N S : Type 0} {d : DiskGhosts D} {n : NamerGhosts N S} where
                     (λ are. sessions_opened (given (slots new)) (contents_of at.all) office place kind now rows rows_of n.holds
                     old.sessions new.sessions old.catalog.epoch session epoch are has.sessions)
                     refl refl
-                    (IsSound-carried office names Event' (record { answer = DumpAnswer session; after = next }) at.sound judged)
+                    (AreSound-carried office names Event' (record { answer = DumpAnswer session; after = next }) names at.sound judged refl)
 
   -- ---- its base is read before
 

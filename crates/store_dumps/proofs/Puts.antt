@@ -61,9 +61,10 @@ use Rattle.office_model.specs.Meaning.{Carried, Judged, Reply, Stages}
 use Rattle.office_model.specs.Office.{Office, Dump, Names, with_dumps}
 use Rattle.office_model.specs.Step.{Running, IsStep, MayFault, meaning_of}
 use Rattle.office_model.specs.History.{IsUndamaged}
-use Rattle.office_model.specs.UsedNames.{AreNamesAfter, IsNamedBy}
-use Rattle.office_model.specs.laws.StepLaws.{IsSound-carried}
+use Rattle.office_model.specs.UsedNames.{IsRenamed, AreNamesAfter}
+use Rattle.office_model.specs.laws.StateLaws.{AreSound-carried}
 use Rattle.office_model.specs.events.Put as PutEvent
+use Rattle.office_model.specs.events.Put.{name_change}
 use Rattle.office_files.specs.Pairs.{AtEachPair}
 use Rattle.office_files.specs.Pooled.{contents_of}
 use Rattle.office_files.specs.Stands.{StandsFor}
@@ -79,7 +80,7 @@ use Rattle.store_dumps.specs.Claims.{LetsGo, claims_of_content}
 use Rattle.store_dumps.specs.Putting.{record_for, content_found, TakesIn, refusal_of, refused_put}
 use Rattle.store_dumps.proofs.Aborts.{place_of, no_dump, IsFound, dump_found}
 use Rattle.store_dumps.proofs.Running.{running_let_go}
-use Rattle.store_dumps.proofs.Staged.{StagedAs, MissedAs, staged_as, missed_as, full_as}
+use Rattle.store_dumps.proofs.Staged.{AreNamedAs, StagedAs, MissedAs, staged_as, missed_as, full_as}
 
 -- ---- items and records
 
@@ -272,13 +273,14 @@ module _ {D N S : Type 0} {d : DiskGhosts D} {n : NamerGhosts N S} where
         -- the names that a put that breaks no rule leaves
         names_after : (used' : List PoolId) → RuleIs None
             → PutEvent.is_chain_full office.pool office.dumps names (some_bytes (item_bytes item)) ≡ false
-            → ((carried : Carried) → IsNamedBy office names (Ok carried) (some_bytes (item_bytes item)) used')
-            → (reply : Reply) → AreNamesAfter office names Event' reply used'
+            → AreNamedAs office names (item_bytes item) used'
+            → (reply : Reply) → AreNamesAfter office names (meaning_of Event') reply (with_used names used')
         names_after used' rule free named reply =
-            subst (λ (j : Judged Carried). IsNamedBy office names j (content_of item) used') (sym (put_judged rule free))
-            (subst (λ (c : Option (List ℕ)). IsNamedBy office names (Ok (record { answer = Done; after = next })) c used')
-            (sym (content_is item))
-            (named (record { answer = Done; after = next })))
+            subst (λ (j : Judged Carried). IsRenamed (name_change (content_of item)) office names j reply (with_used names used'))
+            (sym (put_judged rule free))
+            (subst (λ (c : Option (List ℕ)).
+            IsRenamed (name_change c) office names (Ok (record { answer = Done; after = next })) reply (with_used names used'))
+            (sym (content_is item)) (named (record { answer = Done; after = next }) reply))
 
       pub put_broken : (rule : PutRule) → RuleIs (Some rule)
           → (office : Office) (names : Names) → IsRunning old office names
@@ -356,7 +358,7 @@ module _ {D N S : Type 0} {d : DiskGhosts D} {n : NamerGhosts N S} where
             sessions_put : (new : Sessions S)
                 → new.dumps.items ≡ slice_set old.sessions.dumps.items index (with_record dump path (record_for item content))
                 → new.restores.items ≡ old.sessions.restores.items → new.sequence ≡ old.sessions.sequence
-                → AreSessions n.holds (given (slots mid)) (contents_of (staged office names at).has.all') (next office names at) new
+                → AreSessions n.holds (given (slots mid)) (contents_of (staged office names at).has.all') (next office names at).volatile new
             unfolding working_staged
             sessions_put new dumps restores sequence =
                 let f = found office names at in
@@ -393,14 +395,15 @@ module _ {D N S : Type 0} {d : DiskGhosts D} {n : NamerGhosts N S} where
                 let judged = put_judged office names at rule s.free in
                 record {
                   next = Running (next office names at) (names' office names at);
-                  step = (judged, names_after office names at s.has.used' rule s.free s.named (Ok Done), refl);
+                  step = (judged, names_after office names at s.has.used' rule s.free s.named (Ok Done));
                   undamaged = tt;
                   in_state = running_let_go mid new office (next office names at) (names' office names at)
                       (λ id. claims_of_content (content_found (node_at dump.tree path)) id) total
                       (working_staged old mid office names at refl refl refl refl refl form stays s.has) s.claims same catalog counts
                       views halted (go (enough office names at)) kept (claims_put office names at new.sessions dumps restores)
                       (sessions_put office names at new.sessions dumps restores sequence) refl refl
-                      (IsSound-carried office names Event' (record { answer = Done; after = next office names at }) at.sound judged);
+                      (AreSound-carried office names Event' (record { answer = Done; after = next office names at }) (names' office names at)
+                      at.sound judged (names_after office names at s.has.used' rule s.free s.named (Ok Done)));
                 };
             crash = λ office names at. crash_may new same office names at;
             in_kind = refl;
@@ -426,7 +429,7 @@ module _ {D N S : Type 0} {d : DiskGhosts D} {n : NamerGhosts N S} where
                 let contents = contents_of s.has.all' in
                 record {
                   next = Running office (names' office names at);
-                  step = (refl, names_after office names at s.has.used' rule s.free s.named (Err R.Memory), refl);
+                  step = (refl, names_after office names at s.has.used' rule s.free s.named (Err R.Memory));
                   undamaged = tt;
                   in_state = running_let_go mid new office office (names' office names at) (claims_of_content content) total w s.claims
                       same catalog counts views halted (go (λ id. omega (arith, s.claims id))) kept
@@ -443,7 +446,7 @@ module _ {D N S : Type 0} {d : DiskGhosts D} {n : NamerGhosts N S} where
                             (sym alike.restores) w.sessions.restores;
                         sequence = alike.sequence ∙ w.sessions.sequence;
                       })
-                      refl refl at.sound;
+                      refl refl w.sound;
                 };
             crash = λ office names at. crash_may new same office names at;
             in_kind = tt;
@@ -472,14 +475,16 @@ module _ {D N S : Type 0} {d : DiskGhosts D} {n : NamerGhosts N S} where
             claimed = missed.claims;
           }
 
-          names_missed : (refusal : Refusal) → AreNamesAfter office names Event' (Err refusal) missed.has.used'
+          names_missed : (refusal : Refusal)
+              → AreNamesAfter office names (meaning_of Event') (Err refusal) (with_used names missed.has.used')
           names_missed refusal = step missed.named
             where
               step : (missed.has.used' ≡ names.used)
-                  ⊎ (((carried : Carried) → IsNamedBy office names (Ok carried) (some_bytes (item_bytes item)) missed.has.used')
+                  ⊎ (AreNamedAs office names (item_bytes item) missed.has.used'
                   × (PutEvent.is_chain_full office.pool office.dumps names (some_bytes (item_bytes item)) ≡ false))
-                  → AreNamesAfter office names Event' (Err refusal) missed.has.used'
-              step (inl same) = subst (λ (u : List PoolId). AreNamesAfter office names Event' (Err refusal) u) (sym same)
+                  → AreNamesAfter office names (meaning_of Event') (Err refusal) (with_used names missed.has.used')
+              step (inl same) = subst
+                  (λ (u : List PoolId). AreNamesAfter office names (meaning_of Event') (Err refusal) (with_used names u)) (sym same)
                   (names_refused office names Event' refusal at.used.distinct)
               step (inr named) = names_after office names at missed.has.used' rule named.1 named.0 (Err refusal)
 
@@ -504,7 +509,6 @@ module _ {D N S : Type 0} {d : DiskGhosts D} {n : NamerGhosts N S} where
           steps = λ office names at. steps_missed P.Disk some misses office names at R.DiskFault (
             (early ((meaning_of Event').carried office names), tt, refl),
             names_missed P.Disk some misses office names at R.DiskFault,
-            refl,
           ) tt;
           crash = λ office names at. crash_may mid refl office names at;
           in_kind = tt;
@@ -512,7 +516,7 @@ module _ {D N S : Type 0} {d : DiskGhosts D} {n : NamerGhosts N S} where
         }
         runs_missed P.Memory some misses damaged given kind counted = record {
           steps = λ office names at. steps_missed P.Memory some misses office names at R.Memory
-              (refl, names_missed P.Memory some misses office names at R.Memory, refl) tt;
+              (refl, names_missed P.Memory some misses office names at R.Memory) tt;
           crash = λ office names at. crash_may mid refl office names at;
           in_kind = tt;
           counted = counted_fine counted (λ x. absurd cc) (λ x. absurd cc);
@@ -533,7 +537,6 @@ module _ {D N S : Type 0} {d : DiskGhosts D} {n : NamerGhosts N S} where
               refl,
             ),
             names_missed P.ChainFull some misses office names at (R.Broken ChainFull),
-            refl,
           ) tt;
           crash = λ office names at. crash_may mid refl office names at;
           in_kind = tt;

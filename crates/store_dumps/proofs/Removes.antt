@@ -22,7 +22,7 @@ use Rattle.office_model.specs.declared.event.Event.TheVariants.{Remove}
 use Rattle.office_model.specs.declared.refusal.BrokenRule.TheVariants.{NoSession, NoPath}
 use Rattle.office_model.specs.declared.session.SessionName.{SessionName}
 use Rattle.office_model.specs.Office.{Office, Dump, Names, with_dumps}
-use Rattle.office_model.specs.laws.StepLaws.{IsSound-carried}
+use Rattle.office_model.specs.laws.StateLaws.{AreSound-carried}
 use Rattle.office_model.specs.events.Remove as RemoveEvent
 use Rattle.office_files.specs.Pairs.{AtEachPair}
 use Rattle.office_files.specs.Pooled.{contents_of}
@@ -157,6 +157,6 @@ module _ {D N S : Type 0} {d : DiskGhosts D} {n : NamerGhosts N S} where
                       (sym restores) at.sessions.restores;
                   sequence = sequence ∙ at.sessions.sequence;
                 })
-                refl refl (IsSound-carried office names (Remove session path) (record { answer = Done; after = next }) at.sound judged);
+                refl refl (AreSound-carried office names (Remove session path) (record { answer = Done; after = next }) names at.sound judged refl);
           })
           (λ office names. refl) refl

@@ -35,10 +35,10 @@ use Rattle.office_model.specs.declared.refusal.Refusal.{Refusal}
 use Rattle.office_model.specs.declared.refusal.Refusal.TheVariants.{Broken, DiskFault, Memory}
 use Rattle.office_model.specs.declared.refusal.BrokenRule.{BrokenRule}
 use Rattle.office_model.specs.Meaning.{Reply}
-use Rattle.office_model.specs.Office.{Office, Host, Names, IsSound, durable}
+use Rattle.office_model.specs.Office.{Office, Durable, Host, Names}
 use Rattle.office_model.specs.Step.{Running, IsStep, IsAnswerTo, meaning_of}
 use Rattle.office_model.specs.History.{IsUndamaged}
-use Rattle.office_model.specs.UsedNames.{AreNamesAfter}
+use Rattle.office_model.specs.UsedNames.{AreSound, AreNamesAfter}
 use Rattle.office_files.specs.Pairs.{AtEachPair}
 use Rattle.office_files.specs.Pooled.{contents_of}
 use Rattle.office_files.specs.Stands.{Stands}
@@ -67,7 +67,7 @@ abbrev IsFault : Reply → Type 0
 IsFault reply = reply ≡ Err DiskFault
 
 module _ {D N S : Type 0} {d : DiskGhosts D} {n : NamerGhosts N S} where
-  pub stored_let_go : (journal : Journal D d) (pool pool' : Pool N S n) (catalog : Known) (office : Office) (names : Names)
+  pub stored_let_go : (journal : Journal D d) (pool pool' : Pool N S n) (catalog : Known) (office : Durable) (names : Names)
       (count : PoolId → ℕ)
       → IsStored journal pool catalog office names → LetsGo count (slots_of pool.names) (slots_of pool'.names)
       → pool'.in_one_file ≡ pool.in_one_file → IsStored journal pool' catalog office names
@@ -109,8 +109,8 @@ module _ {D N S : Type 0} {d : DiskGhosts D} {n : NamerGhosts N S} where
       → new.journal ≡ old.journal → new.catalog ≡ old.catalog → new.counts ≡ old.counts → new.views ≡ old.views → new.halted ≡ old.halted
       → LetsGo count (slots old) (slots new) → new.pool.in_one_file ≡ old.pool.in_one_file
       → ((id : PoolId) → claims_in new.sessions id + count id ≡ total id)
-      → AreSessions n.holds (given (slots old)) (contents_of at.all) next new.sessions
-      → next.durable ≡ durable office → next.hosts ≡ office.hosts → IsSound next → IsRunning new next names
+      → AreSessions n.holds (given (slots old)) (contents_of at.all) next.volatile new.sessions
+      → next.durable ≡ office.durable → next.hosts ≡ office.hosts → AreSound next names → IsRunning new next names
   unfolding stored_let_go
   running_let_go old new office next names count total at claims_are journal catalog counts views halted go form claims sessions same hosts
       sound = record {
@@ -121,7 +121,7 @@ module _ {D N S : Type 0} {d : DiskGhosts D} {n : NamerGhosts N S} where
             all = at.all;
             backups = at.backups;
             told_is = ap told journal ∙ at.told_is;
-            stands = subst (λ (o : Office). Stands n.digest_of (index_of (slots new)) at.backups at.all o) (sym same) stored.stands;
+            stands = subst (λ (o : Durable). Stands n.digest_of (index_of (slots new)) at.backups at.all o) (sym same) stored.stands;
             tells = stored.tells;
             fits = subst (λ (j : Journal D d). Fits n.digest_of (slots new) (uncertain j) at.all) (sym journal) stored.fits;
             all_used = stored.all_used;
@@ -130,7 +130,7 @@ module _ {D N S : Type 0} {d : DiskGhosts D} {n : NamerGhosts N S} where
             catalog_is = catalog ∙ at.catalog_is ∙ ap known_of_office (sym same);
           };
           counted = subst (λ (cs : List Items). AreCountsOf cs at.backups) (sym counts) at.counted;
-          sessions = AreSessions-claimed n.holds (given (slots old)) (contents_of at.all) (given (slots new)) (contents_of at.all) next new.sessions
+          sessions = AreSessions-claimed n.holds (given (slots old)) (contents_of at.all) (given (slots new)) (contents_of at.all) next.volatile new.sessions
               (λ id g some. ((go id).given g (subst (λ (m : ℕ). 0 < m) (sym (claimed id)) some), refl)) sessions;
           view = subst (λ (v : Views). IsKeptView v.kept next.hosts at.backups) (sym views)
               (subst (λ (hosts : List Host). IsKeptView old.views.kept hosts at.backups) (sym hosts) at.view);
@@ -166,12 +166,12 @@ module _ {D N S : Type 0} {d : DiskGhosts D} {n : NamerGhosts N S} where
 
   pub runs_kept : (old new : StoreParts D N S d n) (event : Event) (answer : Answer) → new.journal ≡ old.journal
       → ((office : Office) (names : Names) → IsRunning old office names → Makes event answer office names new)
-      → ((office : Office) (names : Names) → AreNamesAfter office names event (Ok answer) names.used) → IsAnswerTo event answer
+      → ((office : Office) (names : Names) → AreNamesAfter office names (meaning_of event) (Ok answer) names) → IsAnswerTo event answer
       → Runs old event (Ok answer) new
   runs_kept old new event answer journal makes stay in_kind = record {
     steps = λ office names at.
         let made = makes office names at in
-        record { next = Running made.next names; step = (made.judged, stay office names, refl); undamaged = tt; in_state = made.running };
+        record { next = Running made.next names; step = (made.judged, stay office names); undamaged = tt; in_state = made.running };
     crash = λ office names at.
         subst (λ (j : Journal D d). FindsOnly old.journal j (MayRecover n.digest_of office ((meaning_of event).carried office names)))
         (sym journal)

@@ -23,16 +23,16 @@ use Rattle.pool_store.specs.Chains as C
 use Rattle.pool_store.specs.Pools.{IsCertain, IsUnstaged, IsFull, Matches, Adds, Takes}
 use Rattle.stored_trees.specs.Resolved.{bytes_of, IsToldContent}
 use Rattle.open_sessions.specs.Opened.{claims_in}
-use Rattle.office_model.specs.events.Put.{is_spent, is_chain_full}
-use Rattle.office_model.specs.Meaning.{Carried}
+use Rattle.office_model.specs.events.Put.{is_spent, is_chain_full, name_change}
+use Rattle.office_model.specs.Meaning.{Carried, Reply}
 use Rattle.office_model.specs.Office.{Office, Names, is_held}
-use Rattle.office_model.specs.UsedNames.{Among, AddsName, IsNamedBy}
+use Rattle.office_model.specs.UsedNames.{Among, AddsName, IsRenamed}
 use Rattle.office_files.specs.Pooled.{contents_of}
 use Rattle.store_parts.specs.declared.parts.StoreParts.{StoreParts}
 use Rattle.store_parts.specs.Held.{given}
 use Rattle.store_parts.specs.States.{slots, IsRunning}
 use Rattle.store_parts.specs.HoldingLaws.{given_held, not_held}
-use Rattle.store_parts.specs.StagingLaws.{HasStaged}
+use Rattle.store_parts.specs.StagingLaws.{with_used, HasStaged}
 use Rattle.store_dumps.specs.Claims.{claims_of_content}
 use Rattle.store_dumps.specs.ClaimLaws.{one_of}
 use Rattle.store_dumps.specs.Putting.{TakesIn}
@@ -56,6 +56,11 @@ and_false : (a b : Bool) → b ≡ false → (a && b) ≡ false
 and_false true b e = e
 and_false false b e = refl
 
+-- the names that a put of the bytes may leave, if it breaks no rule
+abbrev pub AreNamedAs : Office → Names → List ℕ → List PoolId → Type 0
+AreNamedAs office names bytes used' = (carried : Carried) (reply : Reply)
+    → IsRenamed (name_change (some_bytes bytes)) office names (Ok carried) reply (with_used names used')
+
 module _ {D N S : Type 0} {d : DiskGhosts D} {n : NamerGhosts N S} where
   pub record StagedAs (old mid : StoreParts D N S d n) (office : Office) (names : Names) (at : IsRunning old office names)
       (content : Option PoolId) (bytes : List ℕ) : Type 0 where
@@ -63,14 +68,14 @@ module _ {D N S : Type 0} {d : DiskGhosts D} {n : NamerGhosts N S} where
     pub claims : (id : PoolId) → claims_of (slots mid id) ≡ claims_in old.sessions id + claims_of_content content id
     pub told : IsToldContent (given (slots mid)) (contents_of has.all') (length bytes) content
     pub is : bytes_of (contents_of has.all') content ≡ bytes
-    pub named : (carried : Carried) → IsNamedBy office names (Ok carried) (some_bytes bytes) has.used'
+    pub named : AreNamedAs office names bytes has.used'
     pub free : is_chain_full office.pool office.dumps names (some_bytes bytes) ≡ false
 
   pub record MissedAs (old mid : StoreParts D N S d n) (office : Office) (names : Names) (at : IsRunning old office names)
       (bytes : List ℕ) : Type 0 where
     pub has : HasStaged old mid names at.all
     pub claims : (id : PoolId) → claims_of (slots mid id) ≡ claims_in old.sessions id
-    pub named : (has.used' ≡ names.used) ⊎ (((carried : Carried) → IsNamedBy office names (Ok carried) (some_bytes bytes) has.used')
+    pub named : (has.used' ≡ names.used) ⊎ (AreNamedAs office names bytes has.used'
         × (is_chain_full office.pool office.dumps names (some_bytes bytes) ≡ false))
 
   -- ---- the chain
@@ -135,9 +140,10 @@ module _ {D N S : Type 0} {d : DiskGhosts D} {n : NamerGhosts N S} where
       named_some : (used' : List PoolId)
           → (used' ≡ names.used) ⊎ ((is_held office.pool office.dumps content ≡ false)
           × AddsName (names.digest_of content) names.used used')
-          → (carried : Carried) → IsNamedBy office names (Ok carried) (some_bytes content) used'
-      named_some used' how carried =
-          subst (λ (c : Option (List ℕ)). IsNamedBy office names (Ok carried) c used') (sym (some_is content some)) how
+          → AreNamedAs office names content used'
+      named_some used' how carried reply =
+          subst (λ (c : Option (List ℕ)). IsRenamed (name_change c) office names (Ok carried) reply (with_used names used'))
+          (sym (some_is content some)) (refl, how)
 
       matched : Matches (slots old) (slots mid) (told old.journal) (told mid.journal) id content
           → StagedAs old mid office names at (Some id) content
@@ -202,7 +208,8 @@ module _ {D N S : Type 0} {d : DiskGhosts D} {n : NamerGhosts N S} where
       claims = λ asked. ap claims_of (same asked) ∙ at.claimed asked ∙ nothing (claims_in old.sessions asked);
       told = none;
       is = empty_is bytes none;
-      named = λ carried. subst (λ (c : Option (List ℕ)). IsNamedBy office names (Ok carried) c names.used) (sym (none_is bytes none)) refl;
+      named = λ carried reply. subst (λ (c : Option (List ℕ)). IsRenamed (name_change c) office names (Ok carried) reply names)
+          (sym (none_is bytes none)) refl;
       free = ap (is_chain_full office.pool office.dumps names) (none_is bytes none);
     }
       where

@@ -58,7 +58,7 @@ module _ {D N S : Type 0} {d : DiskGhosts D} {n : NamerGhosts N S} where
       (means : (office : Office) (names : Names) → (meaning_of event).carried office names
       ≡ (judged office >>= λ x. Ok (record { answer = f x; after = office })))
       (touches : (office : Office) (names : Names) → (meaning_of event).touches office names ≡ ReadsFiles)
-      (unnamed : (office : Office) (names : Names) (answer : Answer) → AreNamesAfter office names event (Ok answer) names.used)
+      (unnamed : (office : Office) (names : Names) (answer : Answer) → AreNamesAfter office names (meaning_of event) (Ok answer) names)
       (in_kind : (x : A) → IsAnswerTo event (f x)) where
     carried_is : (office : Office) (names : Names) (told : Judged A) → judged office ≡ told
         → (meaning_of event).carried office names ≡ (told >>= λ x. Ok (record { answer = f x; after = office }))
@@ -70,7 +70,7 @@ module _ {D N S : Type 0} {d : DiskGhosts D} {n : NamerGhosts N S} where
         → Counted (d.fault_count old.journal.disk) (d.fault_count new.journal.disk) failed → (failed → ⊥) → Runs old event (Ok (f x)) new
     runs_ok new x reads is counted fine =
         runs_reads old new event (Ok (f x)) reads
-        (λ office names at. (carried_is office names (Ok x) (is office names at), unnamed office names (f x), refl)) (λ office names at. tt) (in_kind x)
+        (λ office names at. (carried_is office names (Ok x) (is office names at), unnamed office names (f x))) (λ office names at. tt) (in_kind x)
         (counted_fine counted fine (λ e. absurd cc))
 
     pub runs_err : {T : Type 0} (new : StoreParts D N S d n) (refusal : Refusal) → Reads old new → IsRefusal old judged refusal

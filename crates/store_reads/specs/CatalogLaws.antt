@@ -16,7 +16,7 @@ use Rattle.office_files.specs.Hosts.{index_of_host}
 use Rattle.office_known.specs.KnownLaws.{indices_from, known_of_office, index_at}
 use Rattle.office_model.specs.declared.refusal.BrokenRule.{BrokenRule}
 use Rattle.office_model.specs.declared.refusal.BrokenRule.TheVariants.{NoHost, NoBackup}
-use Rattle.office_model.specs.Office.{Office, Host, Backup, AreNumbered, host_index, backup_index}
+use Rattle.office_model.specs.Office.{Durable, Host, Backup, AreNumbered, host_index, backup_index}
 use Rattle.office_model.specs.Meaning.{Judged, ◌>>=◌, found}
 use Rattle.office_model.specs.Parts.{At, at, host_at, backup_at, backup_of, lines_of}
 use Rattle.office_model.specs.Places.{position-found}
@@ -87,7 +87,7 @@ abbrev pub IsLineFound : Known → ℕ → ℕ → Option ℕ → Type 0
 IsLineFound known place number line =
     (index : Index) → slice_get known.hosts place ≡ Some index → line ≡ line_numbered index.lines number
 
-module _ (known : Known) (office : Office) (known_is : known ≡ known_of_office office) where
+module _ (known : Known) (office : Durable) (known_is : known ≡ known_of_office office) where
   host_found : (name : List ℕ) → host_named (K.names_of known.hosts) name ≡ host_index office.hosts name
   host_found name = ap (λ (k : Known). host_named (K.names_of k.hosts) name) known_is ∙ host_place 0 0 office.hosts name
 
@@ -127,7 +127,7 @@ pub record IsBackupAt (backups : List Backup) (number place : ℕ) : Type 0 wher
   pub there : slice_get backups place ≡ Some backup
   pub number_is : backup.line.number ≡ number
 
-module _ (known : Known) (office : Office) (known_is : known ≡ known_of_office office) where
+module _ (known : Known) (office : Durable) (known_is : known ≡ known_of_office office) where
   module _ (place : ℕ) (host : Host) (there : slice_get office.hosts place ≡ Some host) (number line : ℕ)
       (found_line : IsLineFound known place number (Some line)) where
     is_line : backup_index host.backups number ≡ Some line

@@ -19,7 +19,7 @@ use Rattle.office_model.specs.declared.answer.Answer.TheVariants.{Done}
 use Rattle.office_model.specs.declared.event.Event.TheVariants.{CloseRead}
 use Rattle.office_model.specs.declared.refusal.BrokenRule.TheVariants.{NoSession}
 use Rattle.office_model.specs.Office.{Office, Names, with_restores}
-use Rattle.office_model.specs.laws.StepLaws.{IsSound-carried}
+use Rattle.office_model.specs.laws.StateLaws.{AreSound-carried}
 use Rattle.office_model.specs.events.CloseRead as CloseReadEvent
 use Rattle.office_files.specs.Pooled.{contents_of}
 use Rattle.store_parts.specs.declared.parts.StoreParts.{StoreParts}
@@ -70,12 +70,14 @@ module _ {D N S : Type 0} {d : DiskGhosts D} {n : NamerGhosts N S} (old : StoreP
           form = form;
           names = near_lost (slots old) (slots new) (λ id. occurrences id restore.rows) (gone office names at);
         })
-        (AreSessions-claimed n.holds (given (slots old)) (contents_of at.all) (given (slots new)) (contents_of at.all) (without office) new.sessions
+        (AreSessions-claimed n.holds (given (slots old)) (contents_of at.all) (given (slots new)) (contents_of at.all) (without office).volatile
+        new.sessions
         (λ id g some. ((gone office names at id).given g (let same = claimed id in omega (arith, same, some)), refl))
-        (AreSessions-restore_taken old.sessions new.sessions dumps n.holds (given (slots old)) (contents_of at.all) office at.sessions index
+        (AreSessions-restore_taken old.sessions new.sessions dumps n.holds (given (slots old)) (contents_of at.all) office.volatile
+        at.sessions index
         restores sequence))
         claimed refl refl
-        (IsSound-carried office names (CloseRead session) (record { answer = Done; after = without office }) at.sound judged)
+        (AreSound-carried office names (CloseRead session) (record { answer = Done; after = without office }) names at.sound judged refl)
       where
         claimed : (id : PoolId) → claims_of (slots new id) ≡ claims_in new.sessions id
         claimed id = omega (

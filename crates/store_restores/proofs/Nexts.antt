@@ -24,8 +24,9 @@ use Rattle.office_model.specs.declared.refusal.BrokenRule.TheVariants.{NoSession
 use Rattle.office_model.specs.declared.refusal.Refusal.{Refusal}
 use Rattle.office_model.specs.declared.refusal.Refusal.TheVariants.{Broken, Halted, DiskFault, Damaged, Memory}
 use Rattle.office_model.specs.declared.session.SessionName.{SessionName}
-use Rattle.office_model.specs.Office.{Office, Restore, Names, IsSound, with_restores}
-use Rattle.office_model.specs.laws.StepLaws.{IsSound-carried}
+use Rattle.office_model.specs.Office.{Office, Restore, Names, with_restores}
+use Rattle.office_model.specs.UsedNames.{AreSound}
+use Rattle.office_model.specs.laws.StateLaws.{AreSound-carried}
 use Rattle.office_model.specs.events.ReadNext.{moved_on, frame_of}
 use Rattle.office_model.specs.events.ReadNext as ReadNextEvent
 use Rattle.office_files.specs.Pooled.{contents_of}
@@ -217,12 +218,12 @@ module _ {D N S : Type 0} {d : DiskGhosts D} {n : NamerGhosts N S} where
       running_moved : (new : StoreParts D N S d n) (office : Office) (names : Names) (at : IsRunning old office names) (position : ℕ)
           (place : Place S) → Stays old new → IsSame (slots old) (slots new) → MovesTo old.sessions index restore place new.sessions
           → IsAt n.holds (found office names at).value.tree position place
-          → IsSound (with_value office (record (found office names at).value { position = position }))
+          → AreSound (with_value office (record (found office names at).value { position = position })) names
           → IsRunning new (with_value office (record (found office names at).value { position = position })) names
       running_moved new office names at position place stays same moves is sound =
           running_stays old new office next names at stays
-          (sessions_given old new office names at next (λ id g. ap is_given (same id) ∙ g)
-          (AreSessions-restore_moved old.sessions new.sessions moves.dumps n.holds (given (slots old)) (contents_of at.all) office
+          (sessions_given old new office names at next.volatile (λ id g. ap is_given (same id) ∙ g)
+          (AreSessions-restore_moved old.sessions new.sessions moves.dumps n.holds (given (slots old)) (contents_of at.all) office.volatile
           at.sessions index
           (record (found office names at).value { position = position }) (record restore { place = place })
           (IsRestore-moved n.holds (given (slots old)) (contents_of at.all) (found office names at).value restore position place is
@@ -270,7 +271,8 @@ module _ {D N S : Type 0} {d : DiskGhosts D} {n : NamerGhosts N S} where
               next = after;
               judged = judged;
               running = running_moved new office names at (moved_on (value office names at)).position place stays names_same moves g.at
-                  (IsSound-carried office names (ReadNext session) (record { answer = NextAnswer frame; after = after }) at.sound judged);
+                  (AreSound-carried office names (ReadNext session) (record { answer = NextAnswer frame; after = after }) names at.sound judged
+                  refl);
             })
             (λ office names. refl) refl
 

@@ -34,7 +34,7 @@ use Rattle.office_model.specs.declared.session.SessionName.{SessionName}
 use Rattle.office_model.specs.Meaning.{Carried, Judged, ◌>>=◌, ◌>>◌, breaks}
 use Rattle.office_model.specs.Office.{Office, Restore, Names, last_sequence, numbered_as, with_restores}
 use Rattle.office_model.specs.Parts.{backup_of}
-use Rattle.office_model.specs.laws.StepLaws.{IsSound-carried}
+use Rattle.office_model.specs.laws.StateLaws.{AreSound-carried}
 use Rattle.office_model.specs.events.OpenDump.{next_session}
 use Rattle.office_model.specs.events.OpenRead as OpenReadEvent
 use Rattle.office_files.specs.Pooled.{contents_of, IsListed}
@@ -98,7 +98,8 @@ unspent : (sequence : ℕ) → sequence < 2 ^ 64 - 1 → nat_le last_sequence se
 unspent sequence h = grind (arith, nat_tests)
 
 abbrev opened : Office → Tree → Office
-opened office tree = numbered_as (with_restores office (office.restores ++ OpenReadEvent.new_restore (next_session office) tree ∷ [])) (office.sequence + 1)
+opened office tree =
+    numbered_as (with_restores office (office.restores ++ OpenReadEvent.new_restore (next_session office) tree ∷ [])) (office.sequence + 1)
 
 module _ {D N S : Type 0} {d : DiskGhosts D} {n : NamerGhosts N S} where
   pub reads_of : (old mid : StoreParts D N S d n) → Looks old mid → Reads old mid
@@ -257,12 +258,13 @@ module _ {D N S : Type 0} {d : DiskGhosts D} {n : NamerGhosts N S} where
               form = has.form;
               names = near_gained (slots old) (slots new) (λ id. occurrences id rows) gains;
             })
-            (sessions_given old new office names at next (λ id g. (gains id).given ∙ g)
-            (AreSessions-restore_opened old.sessions new.sessions has.sessions.dumps n.holds (given (slots old)) (contents_of at.all) office
+            (sessions_given old new office names at next.volatile (λ id g. (gains id).given ∙ g)
+            (AreSessions-restore_opened old.sessions new.sessions has.sessions.dumps n.holds (given (slots old)) (contents_of at.all) office.volatile
             at.sessions (OpenReadEvent.new_restore (next_session office) shows.backup.tree) (fresh session rows)
             is_restore has.sessions.restores has.sessions.sequence))
             claimed refl refl
-            (IsSound-carried office names (OpenRead name number) (record { answer = RestoreAnswer session; after = next }) at.sound judged)
+            (AreSound-carried office names (OpenRead name number) (record { answer = RestoreAnswer session; after = next }) names at.sound judged
+            refl)
 
       pub open_made : (new : StoreParts D N S d n) (session : SessionName) → mid.sessions.sequence < 2 ^ 64 - 1
           → HasOpened mid rows session new → new.journal ≡ mid.journal → Runs old (OpenRead name number) (Ok (RestoreAnswer session)) new

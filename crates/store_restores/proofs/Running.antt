@@ -26,9 +26,9 @@ use Rattle.office_model.specs.declared.answer.Answer.{Answer}
 use Rattle.office_model.specs.declared.event.Event.{Event}
 use Rattle.office_model.specs.declared.refusal.Refusal.TheVariants.{Memory}
 use Rattle.office_model.specs.Meaning.{Carried, Judged}
-use Rattle.office_model.specs.Office.{Office, Host, Names, IsSound, durable}
+use Rattle.office_model.specs.Office.{Office, Durable, Volatile, Host, Names}
 use Rattle.office_model.specs.Step.{Running, IsAnswerTo, meaning_of}
-use Rattle.office_model.specs.UsedNames.{AreNamesAfter}
+use Rattle.office_model.specs.UsedNames.{AreSound, AreNamesAfter}
 use Rattle.office_files.specs.Pairs.{AtEachPair}
 use Rattle.office_files.specs.Pooled.{contents_of}
 use Rattle.office_files.specs.Stands.{Stands}
@@ -109,9 +109,9 @@ module _ {D N S : Type 0} {d : DiskGhosts D} {n : NamerGhosts N S} where
     pub names : AreNear (slots old) (slots new)
 
   pub running_stays : (old new : StoreParts D N S d n) (office next : Office) (names : Names) (at : IsRunning old office names)
-      → Stays old new → AreSessions n.holds (given (slots new)) (contents_of at.all) next new.sessions
+      → Stays old new → AreSessions n.holds (given (slots new)) (contents_of at.all) next.volatile new.sessions
       → ((id : PoolId) → claims_of (slots new id) ≡ claims_in new.sessions id)
-      → next.durable ≡ durable office → next.hosts ≡ office.hosts → IsSound next → IsRunning new next names
+      → next.durable ≡ office.durable → next.hosts ≡ office.hosts → AreSound next names → IsRunning new next names
   running_stays old new office next names at stays sessions claimed same hosts sound = record {
     working = record {
       ready = stays.halted ∙ at.ready;
@@ -120,7 +120,7 @@ module _ {D N S : Type 0} {d : DiskGhosts D} {n : NamerGhosts N S} where
         all = at.all;
         backups = at.backups;
         told_is = stays.quiet.told_same ∙ at.told_is;
-        stands = subst (λ (o : Office). Stands n.digest_of (index_of (slots new)) at.backups at.all o) (sym same)
+        stands = subst (λ (o : Durable). Stands n.digest_of (index_of (slots new)) at.backups at.all o) (sym same)
             (subst (λ (index : Index). Stands n.digest_of index at.backups at.all office.durable) (sym index) at.stands);
         tells = subst (λ (index : Index). TellsIn new.pool.in_one_file index at.all) (sym index)
             (subst (λ (form : Bool). TellsIn form (index_of (slots old)) at.all) (sym stays.form) at.tells);
@@ -171,7 +171,7 @@ module _ {D N S : Type 0} {d : DiskGhosts D} {n : NamerGhosts N S} where
 
   module _ (old new : StoreParts D N S d n) (office : Office) (names : Names) (at : IsRunning old office names) where
     -- names that stay given name the same contents
-    pub sessions_given : (next : Office) → ((id : PoolId) → given (slots old) id → given (slots new) id)
+    pub sessions_given : (next : Volatile) → ((id : PoolId) → given (slots old) id → given (slots new) id)
         → AreSessions n.holds (given (slots old)) (contents_of at.all) next new.sessions
         → AreSessions n.holds (given (slots new)) (contents_of at.all) next new.sessions
     sessions_given next still = AreSessions-kept n.holds (given (slots old)) (contents_of at.all) (given (slots new))
@@ -180,7 +180,7 @@ module _ {D N S : Type 0} {d : DiskGhosts D} {n : NamerGhosts N S} where
     pub running_kept : HasKept old new → IsRunning new office names
     running_kept kept =
         running_stays old new office office names at (stays_kept old new kept)
-        (sessions_given office (λ id g. ap is_given (kept.names id) ∙ g) (record {
+        (sessions_given office.volatile (λ id g. ap is_given (kept.names id) ∙ g) (record {
           dumps = subst (λ (items : List OpenDump). AtEachPair (λ i. IsDump (given (slots old)) (contents_of at.all)) office.dumps items)
               (sym kept.sessions.dumps) at.sessions.dumps;
           restores = subst (λ (items : List (OpenRestore S)). AtEachPair (λ i. IsRestore n.holds (given (slots old)) (contents_of at.all))
@@ -218,12 +218,12 @@ module _ {D N S : Type 0} {d : DiskGhosts D} {n : NamerGhosts N S} where
       (counted : Counted (count_of old) (count_of new) failed) (fine : failed → ⊥) where
     pub runs_ok : (answer : Answer)
         → ((office : Office) (names : Names) → IsRunning old office names → Makes event answer office names new)
-        → ((office : Office) (names : Names) → AreNamesAfter office names event (Ok answer) names.used) → IsAnswerTo event answer
+        → ((office : Office) (names : Names) → AreNamesAfter office names (meaning_of event) (Ok answer) names) → IsAnswerTo event answer
         → Runs old event (Ok answer) new
     runs_ok answer makes stay in_kind = record {
       steps = λ office names at.
           let made = makes office names at in
-          record { next = Running made.next names; step = (made.judged, stay office names, refl); undamaged = tt; in_state = made.running };
+          record { next = Running made.next names; step = (made.judged, stay office names); undamaged = tt; in_state = made.running };
       crash = λ office names at. crash_quiet old new office names at quiet ((meaning_of event).carried office names);
       in_kind = in_kind;
       counted = counted_fine counted fine (λ e. absurd cc);

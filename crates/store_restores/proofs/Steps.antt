@@ -21,7 +21,7 @@ use Rattle.stored_trees.specs.Resolved.{bytes_of, resolved, resolved_item, IsTol
 use Rattle.tree_frames.specs.declared.nodes.Node.TheVariants as N
 use Rattle.tree_frames.specs.declared.nodes.Frame.TheVariants as F
 use Rattle.tree_frames.specs.Frames.{node_of}
-use Rattle.office_model.specs.Frames as Frames
+use Rattle.tree_frames.specs.Frames as Frames
 use Rattle.office_model.specs.Office.{Restore}
 use Rattle.open_sessions.specs.declared.sessions.Asked.{Asked}
 use Rattle.open_sessions.specs.declared.sessions.Next.TheVariants as Next
