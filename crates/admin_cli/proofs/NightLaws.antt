@@ -13,7 +13,7 @@ use Rattle.pool_name.specs.declared.namer.Namer.{Ghosts as NamerGhosts}
 use Rattle.journal_view.specs.Found.{Finds}
 use Rattle.office_model.specs.declared.refusal.Refusal.{Refusal}
 use Rattle.office_model.specs.declared.refusal.Refusal.TheVariants as R
-use Rattle.office_model.specs.Office.{Office, reopened}
+use Rattle.office_model.specs.Office.{Durable, reopened}
 use Rattle.office_model.specs.Step.{Call}
 use Rattle.store_opening.specs.Begins.{MayLeave}
 use Rattle.store_opening.specs.Opens.{IsOf, Opened}
@@ -63,7 +63,7 @@ some_period bytes read is = some_nights (value_at BackupPCNightlyPeriod is.docum
 -- ---- a run that opened its store
 
 has_cause : {D : Type 0} (d : DiskGhosts D) (digest_of : List ℕ → List ℕ) (disk disk' : D) (calls : List Call) (halted : Bool)
-    (a b : Office) (end : NightEnd) (moment : ℕ) (day : ℤ) (period : ℕ) → Ends moment day period end calls
+    (a b : Durable) (end : NightEnd) (moment : ℕ) (day : ℤ) (period : ℕ) → Ends moment day period end calls
     → IsServed d digest_of disk disk' calls halted a b → HasCause end (d.fault_count disk) (d.fault_count disk')
 has_cause d digest_of disk disk' calls halted a b (N.Done night) moment day period ends served = tt
 has_cause d digest_of disk disk' calls halted a b N.NotNow moment day period ends served = tt
@@ -76,8 +76,8 @@ has_cause d digest_of disk disk' calls halted a b (N.Refused refusal) moment day
 has_cause d digest_of disk disk' calls halted a b N.Memory moment day period ends served = tt
 
 module _ {D N S : Type 0} {d : DiskGhosts D} {n : NamerGhosts N S} (disk : D) (store store' : Store D N S d n)
-    (opened : (a b : Office) → IsOf n.digest_of (d.files disk) (d.uncertain disk) a b → Opened a b store.parts)
-    (begun : (a b : Office) → IsOf n.digest_of (d.files disk) (d.uncertain disk) a b
+    (opened : (a b : Durable) → IsOf n.digest_of (d.files disk) (d.uncertain disk) a b → Opened a b store.parts)
+    (begun : (a b : Durable) → IsOf n.digest_of (d.files disk) (d.uncertain disk) a b
     → Leaves d.moment d.left_since disk store.parts.journal.disk (Finds (MayLeave n.digest_of a b)))
     (calm : d.fault_count store.parts.journal.disk ≡ d.fault_count disk) where
   pub does_night : (scheduled : Bool) (line : Option Line) (settings : List ℕ) (read : Settings) (port port' : DirectPort D N S d n)
@@ -121,7 +121,7 @@ module _ {D N S : Type 0} {d : DiskGhosts D} {n : NamerGhosts N S} (disk : D) (s
 -- ---- how it ends
 
 module _ {D : Type 0} (d : DiskGhosts D) (digest_of : List ℕ → List ℕ) (disk disk' : D) (linked linked' : ℕ) (note : Note) where
-  all_complete : (a b : Office) (failed halted : Bool) → (failed ≡ true → Rose linked linked')
+  all_complete : (a b : Durable) (failed halted : Bool) → (failed ≡ true → Rose linked linked')
       → (halted ≡ true → Rose (d.fault_count disk) (d.fault_count disk'))
       → d.fault_count disk < 2 ^ 64 - 1 → d.fault_count disk' ≡ d.fault_count disk → linked < 2 ^ 64 - 1 → linked' ≡ linked
       → EndsWell d digest_of disk disk' linked linked' note (note_of_all failed halted) a b
@@ -131,7 +131,7 @@ module _ {D : Type 0} (d : DiskGhosts D) (digest_of : List ℕ → List ℕ) (di
       let rose : Rose (d.fault_count disk) (d.fault_count disk') = stopped refl in absurd (omega (arith, rose, m, same))
   all_complete a b false false link stopped m same l same_link = inl refl
 
-  refused_ends : (a b : Office) (refusal : Refusal) (halted : Bool) → IsRefusedFor refusal (d.fault_count disk) (d.fault_count disk')
+  refused_ends : (a b : Durable) (refusal : Refusal) (halted : Bool) → IsRefusedFor refusal (d.fault_count disk) (d.fault_count disk')
       → d.fault_count disk < 2 ^ 64 - 1 → d.fault_count disk' ≡ d.fault_count disk
       → EndsWell d digest_of disk disk' linked linked' note (note_of_refused refusal halted) a b
   refused_ends a b (R.Broken rule) halted cause m same = absurd cause
@@ -140,7 +140,7 @@ module _ {D : Type 0} (d : DiskGhosts D) (digest_of : List ℕ → List ℕ) (di
   refused_ends a b (R.Damaged file found) halted cause m same = absurd cause
   refused_ends a b R.Memory halted cause m same = inr (inr (inl refl))
 
-  night_ends : (a b : Office) (end : NightEnd) (failed halted : Bool) (link link' : LinkSeen) → link.faults ≡ linked → link'.faults ≡ linked'
+  night_ends : (a b : Durable) (end : NightEnd) (failed halted : Bool) (link link' : LinkSeen) → link.faults ≡ linked → link'.faults ≡ linked'
       → Says (text_of end) link link' failed → (halted ≡ true → Rose (d.fault_count disk) (d.fault_count disk'))
       → HasCause end (d.fault_count disk) (d.fault_count disk')
       → d.fault_count disk < 2 ^ 64 - 1 → d.fault_count disk' ≡ d.fault_count disk → linked < 2 ^ 64 - 1 → linked' ≡ linked

@@ -11,7 +11,7 @@ use Rattle.disk_trait.specs.Images.{Leaves, leaves_then, leaves_wider}
 use Rattle.pool_name.specs.declared.namer.Namer.{Ghosts as NamerGhosts}
 use Rattle.journal_view.specs.Found.{Finds}
 use Rattle.journal_view.specs.FoundLaws.{finds_wider}
-use Rattle.office_model.specs.Office.{Office, reopened}
+use Rattle.office_model.specs.Office.{Durable, reopened}
 use Rattle.office_model.specs.Step.{Call, Running}
 use Rattle.store_opening.specs.declared.fault.OpenRefusal.{OpenRefusal}
 use Rattle.store_opening.specs.declared.fault.OpenRefusal.TheVariants as O
@@ -38,15 +38,15 @@ use Rattle.admin_cli.specs.Run.{note_of, note_of_refusal, StandsForEither, IsSer
 use Rattle.admin_cli.proofs.RefusalLaws.{none_said, said_task, file_of, refused_for_memory, tells_refused, tells_unopened}
 
 module _ {D N S : Type 0} {d : DiskGhosts D} {n : NamerGhosts N S} (disk : D) (store store' : Store D N S d n)
-    (opened : (a b : Office) → IsOf n.digest_of (d.files disk) (d.uncertain disk) a b → Opened a b store.parts)
-    (begun : (a b : Office) → IsOf n.digest_of (d.files disk) (d.uncertain disk) a b
+    (opened : (a b : Durable) → IsOf n.digest_of (d.files disk) (d.uncertain disk) a b → Opened a b store.parts)
+    (begun : (a b : Durable) → IsOf n.digest_of (d.files disk) (d.uncertain disk) a b
     → Leaves d.moment d.left_since disk store.parts.journal.disk (Finds (MayLeave n.digest_of a b)))
     (calm : d.fault_count store.parts.journal.disk ≡ d.fault_count disk) where
-  pub is_served : (calls : List Call) → Moves store calls store' → (a b : Office) → StandsForEither d n.digest_of disk a b
+  pub is_served : (calls : List Call) → Moves store calls store' → (a b : Durable) → StandsForEither d n.digest_of disk a b
       → IsServed d n.digest_of disk store'.parts.journal.disk calls (store'.parts.halted || store'.parts.journal.halted) a b
   is_served calls moved a b stands =
       let o = opened a b stands in
-      let g = moved.goes (Running (reopened o.office) o.names) o.running (o.running.sound, o.running.used.distinct) in
+      let g = moved.goes (Running (reopened o.office) o.names) o.running o.running.sound in
       record {
         office = o.office;
         is_one = o.is_one;
@@ -154,11 +154,11 @@ refuses d digest_of disk disk' line settings task read link moments refusal note
 }
 
 module _ {D : Type 0} (d : DiskGhosts D) (digest_of : List ℕ → List ℕ) (disk disk' : D) (linked linked' : ℕ) (note : Note) where
-  abbrev pub EndsWell : Note → Office → Office → Type 0
+  abbrev pub EndsWell : Note → Durable → Durable → Type 0
   EndsWell said a b =
       (status_of said ≡ 0) ⊎ ((status_of said ≡ 1) ⊎ ((status_of said ≡ 6) ⊎ ((said ≡ EpochsSpent) × HasLast a b)))
 
-  served_complete : (a b : Office) (end : End) (halted : Bool) → (end ≡ LinkFault → Rose linked linked')
+  served_complete : (a b : Durable) (end : End) (halted : Bool) → (end ≡ LinkFault → Rose linked linked')
       → (halted ≡ true → Rose (d.fault_count disk) (d.fault_count disk'))
       → d.fault_count disk < 2 ^ 64 - 1 → d.fault_count disk' ≡ d.fault_count disk → linked < 2 ^ 64 - 1 → linked' ≡ linked
       → EndsWell (note_of end halted) a b
@@ -175,7 +175,7 @@ module _ {D : Type 0} (d : DiskGhosts D) (digest_of : List ℕ → List ℕ) (di
       let rose : Rose (d.fault_count disk) (d.fault_count disk') = stopped refl in absurd (omega (arith, rose, m, same))
   served_complete a b BadRequest false link stopped m same l same_link = inr (inl refl)
 
-  unopened_complete : (a b : Office) (refusal : OpenRefusal) → StandsForEither d digest_of disk a b
+  unopened_complete : (a b : Durable) (refusal : OpenRefusal) → StandsForEither d digest_of disk a b
       → IsUnopened d digest_of disk disk' refusal → d.fault_count disk < 2 ^ 64 - 1 → d.fault_count disk' ≡ d.fault_count disk
       → EndsWell (note_of_refusal refusal) a b
   unopened_complete a b (O.Foreign file found) stands is m same = absurd (is.left a b stands)
@@ -184,7 +184,7 @@ module _ {D : Type 0} (d : DiskGhosts D) (digest_of : List ℕ → List ℕ) (di
       let rose : Rose (d.fault_count disk) (d.fault_count disk') = is.counted.rose refl in absurd (omega (arith, rose, m, same))
   unopened_complete a b O.Memory stands is m same = inr (inr (inl refl))
 
-  early_complete : (a b : Office) (line : Option Line) (settings : List ℕ) → IsRefused line settings note → IsSome line
+  early_complete : (a b : Durable) (line : Option Line) (settings : List ℕ) → IsRefused line settings note → IsSome line
       → IsSettingsFile settings → EndsWell note a b
   early_complete a b None settings is said file = absurd (none_said said)
   early_complete a b (Some line) settings is said file =

@@ -10,7 +10,7 @@ use Rattle.disk_trait.specs.Images.{Leaves}
 use Rattle.pool_name.specs.declared.namer.Namer.{Ghosts as NamerGhosts}
 use Rattle.journal_view.specs.Found.{Finds}
 use Rattle.stream_traits.specs.declared.link.Faults.{Ghosts}
-use Rattle.office_model.specs.Office.{Office}
+use Rattle.office_model.specs.Office.{Durable}
 use Rattle.store_opening.specs.Begins.{MayLeave}
 use Rattle.store_opening.specs.Opens.{IsOf, Opened}
 use Rattle.office_store.specs.declared.store.Store.{Store}
@@ -31,8 +31,8 @@ use Rattle.admin_cli.specs.Servers.{has_risen, note_of_served, counts_of, Serves
 use Rattle.admin_cli.proofs.RunLaws.{is_served, EndsWell}
 
 module _ {D N S : Type 0} {d : DiskGhosts D} {n : NamerGhosts N S} (disk : D) (store store' : Store D N S d n)
-    (opened : (a b : Office) → IsOf n.digest_of (d.files disk) (d.uncertain disk) a b → Opened a b store.parts)
-    (begun : (a b : Office) → IsOf n.digest_of (d.files disk) (d.uncertain disk) a b
+    (opened : (a b : Durable) → IsOf n.digest_of (d.files disk) (d.uncertain disk) a b → Opened a b store.parts)
+    (begun : (a b : Durable) → IsOf n.digest_of (d.files disk) (d.uncertain disk) a b
     → Leaves d.moment d.left_since disk store.parts.journal.disk (Finds (MayLeave n.digest_of a b)))
     (calm : d.fault_count store.parts.journal.disk ≡ d.fault_count disk) {T C G L : Type 0} (l : Ghosts L)
     (coming given_back : T → Option (List L)) (faults : T → ℕ) (moments_of : C → Option (List ℕ)) where
@@ -90,7 +90,7 @@ none_rose (count ∷ counts) =
     let same : nat_lt count count ≡ false = grind (arith, nat_tests) in rw same (none_rose counts)
 
 module _ {D : Type 0} (d : DiskGhosts D) (digest_of : List ℕ → List ℕ) (disk disk' : D) (linked linked' : ℕ) (note : Note) where
-  risen_ends : (a b : Office) (failed halted : Bool) → failed ≡ false → (halted ≡ true → Rose (d.fault_count disk) (d.fault_count disk'))
+  risen_ends : (a b : Durable) (failed halted : Bool) → failed ≡ false → (halted ≡ true → Rose (d.fault_count disk) (d.fault_count disk'))
       → d.fault_count disk < 2 ^ 64 - 1 → d.fault_count disk' ≡ d.fault_count disk
       → EndsWell d digest_of disk disk' linked linked' note (note_of_served failed halted) a b
   risen_ends a b true halted calm stopped m same = let no : ⊥ = cc (calm) in absurd no

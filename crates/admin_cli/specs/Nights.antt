@@ -9,7 +9,7 @@ use Rattle.fault_counts.specs.Counts.{Rose, Counted}
 use Rattle.disk_trait.specs.declared.disk.Disk.{Ghosts as DiskGhosts}
 use Rattle.stream_traits.specs.Seen.{LinkSeen}
 use Rattle.stream_traits.specs.Told.{behind, WroteFront}
-use Rattle.office_model.specs.Office.{Office}
+use Rattle.office_model.specs.Office.{Durable}
 use Rattle.office_model.specs.declared.refusal.Refusal.{Refusal}
 use Rattle.office_model.specs.declared.refusal.Refusal.TheVariants as R
 use Rattle.settings_file.specs.declared.read.Settings.{Settings}
@@ -82,7 +82,7 @@ module _ {D : Type 0} (d : DiskGhosts D) (digest_of : List ℕ → List ℕ) whe
     pub halted : Bool
     pub works : Works (LeadsOnDisk d digest_of halted) disk disk' moments moments' read.zone read.wake.items read.period scheduled end
     pub says : Says (text_of end) link link' failed
-    pub cause : (a b : Office) → StandsForEither d digest_of disk a b → HasCause end (d.fault_count disk) (d.fault_count disk')
+    pub cause : (a b : Durable) → StandsForEither d digest_of disk a b → HasCause end (d.fault_count disk) (d.fault_count disk')
     pub later : d.fault_count disk ≤ d.fault_count disk'
     pub note_is : note ≡ note_of_night end failed halted
 

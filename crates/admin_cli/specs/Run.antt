@@ -9,7 +9,7 @@ use Rattle.disk_trait.specs.declared.disk.Disk.{Ghosts as DiskGhosts}
 use Rattle.disk_trait.specs.Images.{Leaves}
 use Rattle.stream_traits.specs.Seen.{LinkSeen}
 use Rattle.journal_view.specs.Found.{Finds}
-use Rattle.office_model.specs.Office.{Office, Names, reopened}
+use Rattle.office_model.specs.Office.{Durable, Names, reopened}
 use Rattle.office_model.specs.Step.{Call, State, Running, Halted, IsPicked}
 use Rattle.office_model.specs.History.{Leads}
 use Rattle.store_opening.specs.declared.fault.OpenRefusal.{OpenRefusal}
@@ -52,14 +52,14 @@ is_halted (Halted before next names) = true
 
 module _ {D : Type 0} (d : DiskGhosts D) (digest_of : List ℕ → List ℕ) where
   -- whatever a crash of the disk leaves now, it stands for one of two offices
-  abbrev pub StandsForEither : D → Office → Office → Type 0
+  abbrev pub StandsForEither : D → Durable → Durable → Type 0
   StandsForEither disk = IsOf digest_of (d.files disk) (d.uncertain disk)
 
   -- There is one legal history of these calls, from one of the two offices that the disk stood for, opened, to a last state. The
   -- disk handed back stands for the durable part of its office, or for one of its two if it is halted, for which a fault of the
   -- disk was counted. And a crash at any moment of the run leaves an office as an opening or one of the events may leave it.
-  pub record IsServed (disk disk' : D) (calls : List Call) (halted : Bool) (a b : Office) : Type 0 where
-    pub office : Office
+  pub record IsServed (disk disk' : D) (calls : List Call) (halted : Bool) (a b : Durable) : Type 0 where
+    pub office : Durable
     pub is_one : IsPicked a b office
     pub names : Names
     pub opening : ℕ
@@ -74,7 +74,7 @@ module _ {D : Type 0} (d : DiskGhosts D) (digest_of : List ℕ → List ℕ) whe
 
   -- the calls lead from one disk to another, if whatever a crash of the first leaves stands for one of two offices
   abbrev pub LeadsOnDisk : (halted : Bool) → D → List Call → D → Type 0
-  LeadsOnDisk halted disk calls disk' = (a b : Office) → StandsForEither disk a b → IsServed disk disk' calls halted a b
+  LeadsOnDisk halted disk calls disk' = (a b : Durable) → StandsForEither disk a b → IsServed disk disk' calls halted a b
 
   -- the words ask for `pipe`, the store was opened, and one connection was served by the settings that were read: its talk, over
   -- calls that lead from the disk that came in to that handed back
@@ -95,8 +95,8 @@ module _ {D : Type 0} (d : DiskGhosts D) (digest_of : List ℕ → List ℕ) whe
   pub record IsUnopened (disk disk' : D) (refusal : OpenRefusal) : Type 0 where
     pub why : SaysWhy (d.files disk) (d.files disk') refusal
     pub counted : Counted (d.fault_count disk) (d.fault_count disk') (refusal ≡ O.DiskFault)
-    pub left : (a b : Office) → StandsForEither disk a b → Left digest_of (d.files disk') (d.uncertain disk') a b refusal
-    pub crash : (a b : Office) → StandsForEither disk a b → Leaves d.moment d.left_since disk disk' (Finds (MayLeave digest_of a b))
+    pub left : (a b : Durable) → StandsForEither disk a b → Left digest_of (d.files disk') (d.uncertain disk') a b refusal
+    pub crash : (a b : Durable) → StandsForEither disk a b → Leaves d.moment d.left_since disk disk' (Finds (MayLeave digest_of a b))
 
   -- words and settings were understood, and the opening was refused
   pub record IsNotOpened (disk disk' : D) (line : Option Line) (settings : List ℕ) (note : Note) : Type 0 where
@@ -123,7 +123,7 @@ module _ {D : Type 0} (d : DiskGhosts D) (digest_of : List ℕ → List ℕ) whe
   -- the office had its last epoch.
   abbrev pub IsComplete : D → D → Option Line → List ℕ → (linked linked' : ℕ) → (doors doors' : List ℕ) → Note → Type 0
   IsComplete disk disk' line settings linked linked' doors doors' note =
-      (a b : Office) → StandsForEither disk a b → IsSome line → IsSettingsFile settings
+      (a b : Durable) → StandsForEither disk a b → IsSome line → IsSettingsFile settings
       → d.fault_count disk < 2 ^ 64 - 1 → d.fault_count disk' ≡ d.fault_count disk → linked < 2 ^ 64 - 1 → linked' ≡ linked
       → doors' ≡ doors
       → (status_of note ≡ 0) ⊎ ((status_of note ≡ 1) ⊎ ((status_of note ≡ 6) ⊎ ((note ≡ EpochsSpent) × HasLast a b)))

@@ -426,11 +426,12 @@ fn add(
     alloc: Global,
     name: &str,
 ) -> Result<Answer, Refusal> {
-    let name = match HostName::read(alloc, name.as_bytes()) {
+    let host = match HostName::read(alloc, name.as_bytes()) {
         Ok(name) => name,
         Err(_) => return Err(Refusal::Memory),
     };
-    store.add_host(alloc, &name, &Rules::defaults(alloc)?)
+    let rules = Rules::defaults(alloc)?;
+    store.apply(alloc, &Event::AddHost { host, rules })
 }
 
 /// The disk of a store with these hosts.
@@ -444,8 +445,8 @@ fn disk_with(alloc: Global, names: &[&str]) -> Result<MemoryDisk, Fail> {
 }
 
 /// How many hosts a store has, which are the first of two.
-fn count_hosts(alloc: Global, store: &Store<MemoryDisk, Md5Namer>) -> Result<u32, Fail> {
-    let text = text_of(alloc, store.hosts(alloc))?;
+fn count_hosts(alloc: Global, store: &mut Store<MemoryDisk, Md5Namer>) -> Result<u32, Fail> {
+    let text = text_of(alloc, store.apply(alloc, &Event::Hosts))?;
     match text.as_str() {
         "" => Ok(0),
         "pc1 " => Ok(1),
@@ -458,7 +459,7 @@ fn count_hosts(alloc: Global, store: &Store<MemoryDisk, Md5Namer>) -> Result<u32
 fn hosts_after(alloc: Global, disk: &MemoryDisk, moment: usize, choice: Choice) -> Result<u32, Fail>
     requires { moment ≤ ⟦<MemoryDisk as Disk>⟧.moment disk.now }
 {
-    count_hosts(alloc, &open(alloc, disk.image(alloc, moment, choice)?)?)
+    count_hosts(alloc, &mut open(alloc, disk.image(alloc, moment, choice)?)?)
 }
 
 #[test]
@@ -482,11 +483,11 @@ fn each_crash_of_a_new_host_leaves_the_hosts_before_or_after(rt: HostRuntime) ->
 /// A store that met a fault is halted; reopened it has the host or not.
 fn expect_halted(alloc: Global, store: &mut Store<MemoryDisk, Md5Namer>) -> Result<(), Fail> {
     expect(store.is_halted() && store.faults() == 1, "not halted")?;
-    match store.hosts(alloc) {
+    match store.apply(alloc, &Event::Hosts) {
         Err(Refusal::Halted) => {}
         _ => return Err(Fail::new("a halted store answers")),
     }
-    match store.reopen(alloc) {
+    match store.apply(alloc, &Event::Reopen) {
         Ok(Answer::Reopened(epoch)) => expect(epoch == 2, "another epoch")?,
         _ => return Err(Fail::new("not reopened")),
     }

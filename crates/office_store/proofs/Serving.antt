@@ -1,53 +1,39 @@
 -- From what the parts of a store do to what the store promises.
-use Rattle.std.specs.Prelude.{◌||◌, IfOk}
-use Rattle.std.proofs.Common.{◌≡◌, Bool, false, true, Err, refl, sym, ◌∙◌, subst, inl, ⊎_elim, arith}
+use Rattle.std.specs.Prelude.{◌||◌}
+use Rattle.std.proofs.Common.{◌≡◌, Bool, false, true, Err, refl, sym, ap, ◌∙◌, subst}
 use Rattle.std.proofs.lemmas.Bool.{false≢true, or_parts}
-use Rattle.fault_counts.specs.Counts.{Counted}
 use Rattle.disk_trait.specs.declared.disk.Disk.{Ghosts as DiskGhosts}
 use Rattle.pool_name.specs.declared.namer.Namer.{Ghosts as NamerGhosts}
 use Rattle.journal_view.specs.View.{FindsOnly}
 use Rattle.journal_view.specs.ViewLaws.{FindsOnly-still}
 use Rattle.office_model.specs.declared.event.Event.{Event}
-use Rattle.office_model.specs.declared.event.Event.TheVariants.{AddHost, SetRules, OpenDump, Put, Remove, Commit, Abort, List as ListEvent, Lookup, ReadFile, OpenRead, ReadNext, CloseRead, Keep, Delete, Expire, Contact, Due, Clean, Sweep, Stats, Hosts, Backups, Reopen}
+use Rattle.office_model.specs.declared.event.Event.TheVariants.{Reopen}
 use Rattle.office_model.specs.declared.refusal.Refusal.TheVariants.{Halted as HaltedReply, DiskFault}
 use Rattle.office_model.specs.Meaning.{Reply}
-use Rattle.office_model.specs.Office.{Office, Names}
-use Rattle.office_model.specs.Step.{State, Running, Halted, IsStep, IsAnswerTo, meaning_of}
+use Rattle.office_model.specs.Office.{Office, Durable, Names}
+use Rattle.office_model.specs.Step.{State, Running, Halted, IsStep, meaning_of}
 use Rattle.store_parts.specs.States.{IsRunning, InState}
 use Rattle.store_parts.specs.Runs.{Steps, Runs}
 use Rattle.store_parts.specs.RunLaws.{counted_still}
 use Rattle.store_opening.specs.Begins.{MayLeave}
-use Rattle.store_opening.specs.Reopens.{first_of, second_of}
+use Rattle.store_opening.specs.Reopens.{Reopens, first_of, second_of}
 use Rattle.office_store.specs.declared.store.Store.{Store}
 use Rattle.office_store.specs.Serves.{is_reopen, LeftBy, MayRecover, Serves}
 
+-- ---- whether an event is a reopening
+
+reopening : (event : Event) → is_reopen event ≡ true → event ≡ Reopen
+reopening Reopen e = refl
+reopening event e = absurd (false≢true e)
+
+pub no_reopening : (event : Event) (asked : Bool) → asked ≡ is_reopen event → asked ≡ false → event ≡ Reopen → ⊥
+no_reopening event asked is no_one e = false≢true (sym no_one ∙ is ∙ ap is_reopen e)
+
 -- a halted office stays, and answers Halted
-stays_halted : (a b : Office) (names : Names) (event : Event) → is_reopen event ≡ false
+stays_halted : (a b : Durable) (names : Names) (event : Event) → is_reopen event ≡ false
     → IsStep (Halted a b names) event (Err HaltedReply) (Halted a b names)
-stays_halted a b names (AddHost name rules) other = ((refl, refl, refl), refl, refl)
-stays_halted a b names (SetRules name change) other = ((refl, refl, refl), refl, refl)
-stays_halted a b names (OpenDump name kind now) other = ((refl, refl, refl), refl, refl)
-stays_halted a b names (Put session path item) other = ((refl, refl, refl), refl, refl)
-stays_halted a b names (Remove session path) other = ((refl, refl, refl), refl, refl)
-stays_halted a b names (Commit session now) other = ((refl, refl, refl), refl, refl)
-stays_halted a b names (Abort session) other = ((refl, refl, refl), refl, refl)
-stays_halted a b names (ListEvent name number directory) other = ((refl, refl, refl), refl, refl)
-stays_halted a b names (Lookup name number path) other = ((refl, refl, refl), refl, refl)
-stays_halted a b names (ReadFile name number path) other = ((refl, refl, refl), refl, refl)
-stays_halted a b names (OpenRead name number) other = ((refl, refl, refl), refl, refl)
-stays_halted a b names (ReadNext session) other = ((refl, refl, refl), refl, refl)
-stays_halted a b names (CloseRead session) other = ((refl, refl, refl), refl, refl)
-stays_halted a b names (Keep name number on) other = ((refl, refl, refl), refl, refl)
-stays_halted a b names (Delete name number) other = ((refl, refl, refl), refl, refl)
-stays_halted a b names (Expire name now) other = ((refl, refl, refl), refl, refl)
-stays_halted a b names (Contact name good) other = ((refl, refl, refl), refl, refl)
-stays_halted a b names (Due name now local) other = ((refl, refl, refl), refl, refl)
-stays_halted a b names (Clean bucket) other = ((refl, refl, refl), refl, refl)
-stays_halted a b names Sweep other = ((refl, refl, refl), refl, refl)
-stays_halted a b names Stats other = ((refl, refl, refl), refl, refl)
-stays_halted a b names Hosts other = ((refl, refl, refl), refl, refl)
-stays_halted a b names (Backups name) other = ((refl, refl, refl), refl, refl)
 stays_halted a b names Reopen other = absurd (false≢true (sym other))
+stays_halted a b names event other = ((refl, refl, refl), refl)
 
 module _ {D N S : Type 0} {d : DiskGhosts D} {n : NamerGhosts N S} where
   -- an event of a store at work
@@ -95,24 +81,23 @@ module _ {D N S : Type 0} {d : DiskGhosts D} {n : NamerGhosts N S} where
     }
 
   -- a reopening
-  pub serves_reopen : (old new : Store D N S d n) (reply : Reply)
+  pub serves_reopen : (old new : Store D N S d n) (event : Event) (reply : Reply) (asked : Bool) → asked ≡ is_reopen event → asked ≡ true
       → ((state : State) → InState old.parts state → Steps state Reopen reply new.parts)
       → ((state : State) → InState old.parts state
       → FindsOnly old.parts.journal new.parts.journal (MayLeave n.digest_of (first_of state) (second_of state)))
-      → IfOk reply (IsAnswerTo Reopen)
-      → Counted (d.fault_count old.parts.journal.disk) (d.fault_count new.parts.journal.disk) (reply ≡ Err DiskFault)
-      → Serves old Reopen reply new
-  serves_reopen old new reply steps crash in_kind counted =
-      record { steps = steps; crash = crash; in_kind = in_kind; counted = counted }
+      → Reopens old.parts reply new.parts → Serves old event reply new
+  serves_reopen old new event reply asked is one steps crash reopens =
+      subst (λ (e : Event). Serves old e reply new) (sym (reopening event (sym is ∙ one)))
+      (record { steps = steps; crash = crash; in_kind = reopens.in_kind; counted = reopens.counted })
 
   -- the store asked whether it is halted, and went on
-  pub answers : (old new : Store D N S d n) (event : Event) (reply : Reply) (halted : Bool) → is_reopen event ≡ false
-      → halted ≡ (old.parts.halted || old.parts.journal.halted) → halted ≡ false → Runs old.parts event reply new.parts
+  pub answers : (old new : Store D N S d n) (event : Event) (reply : Reply) (asked halted : Bool) → asked ≡ is_reopen event
+      → asked ≡ false → halted ≡ (old.parts.halted || old.parts.journal.halted) → halted ≡ false → Runs old.parts event reply new.parts
       → Serves old event reply new
-  answers old new event reply halted other is at_work runs =
-      serves_event old new event reply (or_parts old.parts.halted old.parts.journal.halted (sym is ∙ at_work)).0 runs other
+  answers old new event reply asked halted is other stuck at_work runs =
+      serves_event old new event reply (or_parts old.parts.halted old.parts.journal.halted (sym stuck ∙ at_work)).0 runs (sym is ∙ other)
 
   -- or was, and answered so
-  pub refuses : (old : Store D N S d n) (event : Event) (halted : Bool) → is_reopen event ≡ false
+  pub refuses : (old : Store D N S d n) (event : Event) (asked halted : Bool) → asked ≡ is_reopen event → asked ≡ false
       → halted ≡ (old.parts.halted || old.parts.journal.halted) → halted ≡ true → Serves old event (Err HaltedReply) old
-  refuses old event halted other is stuck = serves_halted old event other (sym is ∙ stuck)
+  refuses old event asked halted is other stuck at_rest = serves_halted old event (sym is ∙ other) (sym stuck ∙ at_rest)

@@ -13,7 +13,7 @@ use Rattle.journal_view.specs.Found.{seen}
 use Rattle.office_model.specs.declared.event.Event.{Event}
 use Rattle.office_model.specs.declared.refusal.Refusal.TheVariants.{Broken, Halted as HaltedReply, DiskFault, Damaged, Memory}
 use Rattle.office_model.specs.Meaning.{Reply}
-use Rattle.office_model.specs.Office.{Office, Names}
+use Rattle.office_model.specs.Office.{Office, Durable, Names}
 use Rattle.office_model.specs.Step.{State, Running, Halted, IsStep}
 use Rattle.office_model.specs.History.{Entry, GoesOn, IsUndamaged, IsHistory, last_state, last_faults}
 use Rattle.store_parts.specs.States.{InState}
@@ -27,7 +27,7 @@ is_halted (Running office names) = false
 is_halted (Halted before next names) = true
 
 -- an office at work is halted by a fault of the disk alone
-halts_by : (old : Office) (names : Names) (event : Event) (reply : Reply) (before next : Office) (names' : Names)
+halts_by : (old : Office) (names : Names) (event : Event) (reply : Reply) (before next : Durable) (names' : Names)
     → IsStep (Running old names) event reply (Halted before next names') → IsUndamaged reply → reply ≡ Err DiskFault
 halts_by old names event (Ok answer) before next names' step undamaged = absurd step.0
 halts_by old names event (Err (Broken rule)) before next names' step undamaged = absurd step.0

@@ -9,7 +9,7 @@ use Rattle.disk_trait.specs.Files.{Files}
 use Rattle.pool_name.specs.declared.namer.Namer.{Ghosts as NamerGhosts}
 use Rattle.journal_view.specs.View.{FindsOnly}
 use Rattle.office_model.specs.declared.event.Event.{Event}
-use Rattle.office_model.specs.declared.event.Event.TheVariants.{AddHost, SetRules, OpenDump, Put, Remove, Commit, Abort, List as ListEvent, Lookup, ReadFile, OpenRead, ReadNext, CloseRead, Keep, Delete, Expire, Contact, Due, Clean, Sweep, Stats, Hosts, Backups, Reopen}
+use Rattle.office_model.specs.declared.event.Event.TheVariants.{Reopen}
 use Rattle.office_model.specs.declared.refusal.Refusal.TheVariants.{DiskFault}
 use Rattle.office_model.specs.Meaning.{Reply}
 use Rattle.office_model.specs.Step.{State, Running, Halted, IsAnswerTo, meaning_of}
@@ -21,30 +21,8 @@ use Rattle.store_opening.specs.Reopens.{first_of, second_of}
 use Rattle.office_store.specs.declared.store.Store.{Store}
 
 abbrev pub is_reopen : Event → Bool
-is_reopen (AddHost name rules) = false
-is_reopen (SetRules name change) = false
-is_reopen (OpenDump name kind now) = false
-is_reopen (Put session path item) = false
-is_reopen (Remove session path) = false
-is_reopen (Commit session now) = false
-is_reopen (Abort session) = false
-is_reopen (ListEvent name number directory) = false
-is_reopen (Lookup name number path) = false
-is_reopen (ReadFile name number path) = false
-is_reopen (OpenRead name number) = false
-is_reopen (ReadNext session) = false
-is_reopen (CloseRead session) = false
-is_reopen (Keep name number on) = false
-is_reopen (Delete name number) = false
-is_reopen (Expire name now) = false
-is_reopen (Contact name good) = false
-is_reopen (Due name now local) = false
-is_reopen (Clean bucket) = false
-is_reopen Sweep = false
-is_reopen Stats = false
-is_reopen Hosts = false
-is_reopen (Backups name) = false
 is_reopen Reopen = true
+is_reopen event = false
 
 -- A reopening leaves one of the state's two offices, or one of them in its next epoch; any other event of an office at work
 -- what is durable of it before or after; of a halted one its two offices.

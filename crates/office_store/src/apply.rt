@@ -1,54 +1,104 @@
 //! One event of a store, whichever it is.
 
-ghost use Rattle.std.specs.Prelude.{◌≡◌};
+ghost use Rattle.std.specs.Prelude.{◌≡◌, ◌||◌, false};
+ghost use Rattle.office_store.specs.Serves.{is_reopen};
+ghost use Rattle.store_parts.specs.Runs.{Runs};
 
 use crate::store::Store;
 use disk_trait::Disk;
 use office_model::{Answer, Event, Refusal};
 use pool_name::Namer;
 use std::alloc::Global;
+use store_cleaning::{clean, sweep};
+use store_commits::commit_dump;
+use store_deletions::{delete, expire};
+use store_dumps::{abort, open_dump, put, remove};
+use store_hosts::{add_host, backups, contact, due, hosts, keep, set_rules, stats};
+use store_parts::StoreParts;
+use store_reads::{list, lookup, read_file};
+use store_restores::{close_read, open_read, read_next};
+
+/// Whether an event opens the store again.
+fn is_reopen(event: &Event) -> bool
+    ensures { result ≡ is_reopen event.now }
+{
+    matches!(event, Event::Reopen)
+}
+
+/// Carries out an event of parts at work.
+fn carry_out<D: Disk, N: Namer>(
+    parts: &mut StoreParts<D, N>,
+    alloc: Global,
+    event: &Event,
+) -> Result<Answer, Refusal>
+    requires ready { parts.old.halted ≡ false }
+    requires journal_ready { parts.old.journal.halted ≡ false }
+    requires other { is_reopen event.now ≡ false }
+    ensures { Runs parts.old event.now result parts.new }
+{
+    match event {
+        Event::AddHost { host, rules } => add_host(parts, alloc, host, rules),
+        Event::SetRules { host, change } => set_rules(parts, alloc, host, change),
+        Event::OpenDump { host, kind, now } => open_dump(parts, alloc, host, *kind, *now),
+        Event::Put { dump, path, item } => put(parts, alloc, *dump, path, item),
+        Event::Remove { dump, path } => remove(parts, alloc, *dump, path),
+        Event::Commit { dump, now } => commit_dump(parts, alloc, *dump, *now),
+        Event::Abort { dump } => abort(parts, alloc, *dump),
+        Event::List {
+            host,
+            number,
+            directory,
+        } => list(parts, alloc, host, *number, directory.as_ref()),
+        Event::Lookup { host, number, path } => lookup(parts, alloc, host, *number, path),
+        Event::ReadFile { host, number, path } => read_file(parts, alloc, host, *number, path),
+        Event::OpenRead { host, number } => open_read(parts, alloc, host, *number),
+        Event::ReadNext { restore } => read_next(parts, alloc, *restore),
+        Event::CloseRead { restore } => close_read(parts, *restore),
+        Event::Keep { host, number, on } => keep(parts, alloc, host, *number, *on),
+        Event::Delete { host, number } => delete(parts, alloc, host, *number),
+        Event::Expire { host, now } => expire(parts, alloc, host, *now),
+        Event::Contact { host, good } => contact(parts, alloc, host, *good),
+        Event::Due { host, now, local } => due(parts, host, *now, local),
+        Event::Clean { bucket } => clean(parts, alloc, *bucket),
+        Event::Sweep => sweep(parts),
+        Event::Stats => stats(parts),
+        Event::Hosts => hosts(parts, alloc),
+        Event::Backups { host } => backups(parts, alloc, host),
+        Event::Reopen => unreachable!(),
+    }
+}
 
 impl<D: Disk, N: Namer> Store<D, N> {
-    ghost use Rattle.std.specs.Prelude.{IfOk};
-    ghost use Rattle.office_model.specs.Step.{IsAnswerTo};
+    ghost use Rattle.office_model.specs.declared.event.Event.TheVariants.{Reopen};
+    ghost use Rattle.store_opening.specs.Reopens.{Reopens};
     ghost use Rattle.office_store.specs.Serves.{Serves};
 
-    /// Carries out one event, as one step of the office.
+    /// Whether the store is halted: a commit or an opening failed since it was last opened.
+    pub fn is_halted(&self) -> bool
+        ensures { result ≡ (self.now.parts.halted || self.now.parts.journal.halted) }
+    {
+        self.parts.halted || self.parts.journal.halted()
+    }
+
+    /// Carries out one event, as one step of the office. A halted store answers `Halted` to each but `Reopen`.
     ///
     /// After Ok what it did is durable. After a refusal the office is as it was, but for `DiskFault` of an event that commits,
     /// which halts the store: it then answers `Halted` until a `Reopen` finds which of two offices the disk has.
+    ///
+    /// A `Reopen` opens the store again, whether it is at work or halted. After Ok it is at work in the next epoch, with the
+    /// office that was durable, or of a halted one the one of its two that the disk has; open dumps and restores are gone.
+    /// After `Broken` and `Memory` it is as it was. After `DiskFault` it is halted, and the disk has the office as it was or in
+    /// its next epoch; so after `Damaged`, which never comes on a disk that a store left.
     pub fn apply(&mut self, alloc: Global, event: &Event) -> Result<Answer, Refusal>
-        ensures { Serves self.old event.now result self.new }
+        ensures serves { Serves self.old event.now result self.new }
+        ensures reopens { event.now ≡ Reopen → Reopens self.old.parts result self.new.parts }
     {
-        match event {
-            Event::AddHost { host, rules } => self.add_host(alloc, host, rules),
-            Event::SetRules { host, change } => self.set_rules(alloc, host, change),
-            Event::OpenDump { host, kind, now } => self.open_dump(alloc, host, *kind, *now),
-            Event::Put { dump, path, item } => self.put(alloc, *dump, path, item),
-            Event::Remove { dump, path } => self.remove(alloc, *dump, path),
-            Event::Commit { dump, now } => self.commit(alloc, *dump, *now),
-            Event::Abort { dump } => self.abort(alloc, *dump),
-            Event::List {
-                host,
-                number,
-                directory,
-            } => self.list(alloc, host, *number, directory.as_ref()),
-            Event::Lookup { host, number, path } => self.lookup(alloc, host, *number, path),
-            Event::ReadFile { host, number, path } => self.read_file(alloc, host, *number, path),
-            Event::OpenRead { host, number } => self.open_read(alloc, host, *number),
-            Event::ReadNext { restore } => self.read_next(alloc, *restore),
-            Event::CloseRead { restore } => self.close_read(*restore),
-            Event::Keep { host, number, on } => self.keep(alloc, host, *number, *on),
-            Event::Delete { host, number } => self.delete(alloc, host, *number),
-            Event::Expire { host, now } => self.expire(alloc, host, *now),
-            Event::Contact { host, good } => self.contact(alloc, host, *good),
-            Event::Due { host, now, local } => self.due(host, *now, local),
-            Event::Clean { bucket } => self.clean(alloc, *bucket),
-            Event::Sweep => self.sweep(),
-            Event::Stats => self.stats(),
-            Event::Hosts => self.hosts(alloc),
-            Event::Backups { host } => self.backups(alloc, host),
-            Event::Reopen => self.reopen(alloc),
+        if is_reopen(event) {
+            return store_opening::reopen(&mut self.parts, alloc, self.namer);
         }
+        if self.is_halted() {
+            return Err(Refusal::Halted);
+        }
+        carry_out(&mut self.parts, alloc, event)
     }
 }

@@ -1,20 +1,11 @@
 //! The store: the office of backups on a disk, from events to durable files. It is the parts of `store_parts`, kept to
-//! itself; `apply` carries out any event, and each event is a method, too, that answers `Halted`, or hands the parts to the
-//! function that carries it out. [`DirectPort`] is a store as the port of one caller.
+//! itself, and [`Store::apply`] carries out any event: a halted store answers `Halted`, and one at work hands the parts to the
+//! function of the store crate that carries the event out. [`Store::open`] opens a disk, and `close` gives it back.
+//! [`DirectPort`] is a store as the port of one caller.
 //!
 //! The main definition is `Serves` of `specs/Serves`: from each state that the store was in the event was answered by a step
 //! of `office_model` to a state that it is in, and whatever a crash meanwhile leaves, an opening finds an office of that step.
 //! `Moves` of `specs/Moves` says it of a list of calls: a legal history.
-//!
-//! | Methods | Events |
-//! |---|---|
-//! | [`Store::hosts`], `backups`, `due`, `stats` | questions that memory answers |
-//! | `add_host`, `set_rules`, `contact`, `keep` | changes of the catalog |
-//! | `lookup`, `list`, `read_file` | reads of backups |
-//! | `open_dump`, `put`, `remove`, `commit`, `abort` | open dumps |
-//! | `open_read`, `read_next`, `close_read` | restores |
-//! | `delete`, `expire`, `clean`, `sweep` | the end of backups and contents |
-//! | [`Store::open`], `reopen`, `close` | openings |
 //!
 //! ```text
 //! let mut store = Store::open(alloc, disk, Md5Namer)?;
@@ -24,7 +15,6 @@
 #![tactic(auto)]
 
 mod apply;
-mod events;
 mod opening;
 mod port;
 mod store;

@@ -1,26 +1,22 @@
-//! A store is opened, opened again, and given up.
+//! A store is opened, and given up.
 
 ghost use Rattle.std.specs.Prelude.{◌≡◌};
 
 use crate::store::Store;
 use disk_trait::Disk;
-use office_model::{Answer, Refusal};
 use pool_name::Namer;
 use std::alloc::Global;
 use store_opening::OpenRefusal;
 
 impl<D: Disk, N: Namer> Store<D, N> {
-    ghost use Rattle.std.specs.Prelude.{ℕ, List, Option, Err, IfOk, IfErr};
+    ghost use Rattle.std.specs.Prelude.{IfOk, IfErr};
     ghost use Rattle.fault_counts.specs.Counts.{Counted};
-    ghost use Rattle.disk_trait.specs.declared.ids.FileId.{FileId as File};
     ghost use Rattle.disk_trait.specs.Images.{Leaves};
     ghost use Rattle.journal_view.specs.Found.{Finds};
-    ghost use Rattle.office_model.specs.declared.event.Event.TheVariants.{Reopen};
-    ghost use Rattle.office_model.specs.Office.{Office};
-    ghost use Rattle.store_opening.specs.Recovers.{IsForeignTo, SaysWhy};
+    ghost use Rattle.office_model.specs.Office.{Durable};
+    ghost use Rattle.store_opening.specs.Recovers.{SaysWhy};
     ghost use Rattle.store_opening.specs.Begins.{MayLeave};
     ghost use Rattle.store_opening.specs.Opens.{IsOf, Opened, Left};
-    ghost use Rattle.office_store.specs.Serves.{Serves};
 
     /// Opens the store of a disk. A disk without files is that of a store without hosts.
     ///
@@ -28,12 +24,12 @@ impl<D: Disk, N: Namer> Store<D, N> {
     /// refusal, and can be opened again: after `EpochsSpent` and `Memory` it has the office as it was, after `DiskFault` as
     /// it was or in its next epoch. `Foreign` says what was found of the file; it never comes on a disk that a store left.
     pub fn open(alloc: Global, disk: D, namer: N) -> Result<Store<D, N>, (D, OpenRefusal)>
-        ensures opened { IfOk result (λ store. (a b : Office) → IsOf N.digest_of (D.files disk) (D.uncertain disk) a b → Opened a b store.parts) }
-        ensures left { IfErr result (λ refused. (a b : Office) → IsOf N.digest_of (D.files disk) (D.uncertain disk) a b
+        ensures opened { IfOk result (λ store. (a b : Durable) → IsOf N.digest_of (D.files disk) (D.uncertain disk) a b → Opened a b store.parts) }
+        ensures left { IfErr result (λ refused. (a b : Durable) → IsOf N.digest_of (D.files disk) (D.uncertain disk) a b
             → Left N.digest_of (D.files refused.0) (D.uncertain refused.0) a b refused.1) }
-        ensures crash { IfOk result (λ store. (a b : Office) → IsOf N.digest_of (D.files disk) (D.uncertain disk) a b
+        ensures crash { IfOk result (λ store. (a b : Durable) → IsOf N.digest_of (D.files disk) (D.uncertain disk) a b
             → Leaves D.moment D.left_since disk store.parts.journal.disk (Finds (MayLeave N.digest_of a b))) }
-        ensures left_crash { IfErr result (λ refused. (a b : Office) → IsOf N.digest_of (D.files disk) (D.uncertain disk) a b
+        ensures left_crash { IfErr result (λ refused. (a b : Durable) → IsOf N.digest_of (D.files disk) (D.uncertain disk) a b
             → Leaves D.moment D.left_since disk refused.0 (Finds (MayLeave N.digest_of a b))) }
         ensures foreign { IfErr result (λ refused. SaysWhy (D.files disk) (D.files refused.0) refused.1) }
         ensures counted { IfOk result (λ store. D.fault_count store.parts.journal.disk ≡ D.fault_count disk) }
@@ -43,20 +39,6 @@ impl<D: Disk, N: Namer> Store<D, N> {
             Ok(parts) => Ok(Store { parts, namer }),
             Err(refused) => Err(refused),
         }
-    }
-
-    /// Opens the store again, whether it is at work or halted.
-    ///
-    /// After Ok it is at work in the next epoch, with the office that was durable, or of a halted one the one of its two that
-    /// the disk has; open dumps and restores are gone. After `Broken` and `Memory` it is as it was. After `DiskFault` it is
-    /// halted, and the disk has the office as it was or in its next epoch; so after `Damaged`, which never comes on a disk
-    /// that a store left.
-    pub fn reopen(&mut self, alloc: Global) -> Result<Answer, Refusal>
-        ensures serves { Serves self.old Reopen result self.new }
-        ensures damaged { (file : File) (found : Option (List ℕ)) → result ≡ Err (Refusal.Damaged file found)
-            → IsForeignTo (D.files self.old.parts.journal.disk) (D.files self.new.parts.journal.disk) file found }
-    {
-        store_opening::reopen(&mut self.parts, alloc, self.namer)
     }
 
     /// How many of the disk's calls failed.

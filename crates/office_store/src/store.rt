@@ -10,7 +10,7 @@ use store_parts::StoreParts;
 ///
 /// Each event is one step of `office_model`: after its answer what it did is durable, and a crash at any moment leaves the
 /// office as it was before the event or as it is after. A fault of the disk in a commit halts the store: the disk has one of
-/// two offices, and each event is answered `Halted` until a `reopen` finds which.
+/// two offices, and each event is answered `Halted` until a `Reopen` finds which.
 #[derive(Drop)]
 pub struct Store<D: Disk, N: Namer> {
     pub(crate) parts: StoreParts<D, N>,

@@ -13,7 +13,7 @@ use Rattle.journal_view.specs.View.{uncertain, Quiet, FindsOnly}
 use Rattle.journal_view.specs.ViewLaws.{FindsOnly-each, FindsOnly-then, FindsNow-each, working_finds, Quiet-then}
 use Rattle.pool_changes.specs.Kept.{slots_of}
 use Rattle.pool_store.specs.Opening.{AreFresh}
-use Rattle.office_model.specs.Office.{Office, Names, reopened, last_sequence}
+use Rattle.office_model.specs.Office.{Durable, Names, raised, last_sequence}
 use Rattle.office_model.specs.Step.{IsPicked}
 use Rattle.office_files.specs.Stands.{StandsFor}
 use Rattle.office_catalog.specs.Known.{Known}
@@ -26,14 +26,14 @@ use Rattle.store_opening.specs.Recovers.{Holds, IsHeld, Looks, Recovers}
 use Rattle.store_opening.specs.Begins.{MayLeave, IsPlain, IsSpent, Raised, Begins}
 
 -- what stands for one of two offices, of which one was picked, stands for one of the two
-pub either_of : (digest_of : List ℕ → List ℕ) (a b office : Office) → IsPicked a b office → (found : Files)
-    → IsEither digest_of office (reopened office) found → MayLeave digest_of a b found
+pub either_of : (digest_of : List ℕ → List ℕ) (a b office : Durable) → IsPicked a b office → (found : Files)
+    → IsEither digest_of office (raised office) found → MayLeave digest_of a b found
 either_of digest_of a b office (inl e) found (inl s) = inl (inl (subst (StandsFor digest_of found) e s))
-either_of digest_of a b office (inl e) found (inr s) = inr (inl (subst (λ (o : Office). StandsFor digest_of found (reopened o)) e s))
+either_of digest_of a b office (inl e) found (inr s) = inr (inl (subst (λ (o : Durable). StandsFor digest_of found (raised o)) e s))
 either_of digest_of a b office (inr e) found (inl s) = inl (inr (subst (StandsFor digest_of found) e s))
-either_of digest_of a b office (inr e) found (inr s) = inr (inr (subst (λ (o : Office). StandsFor digest_of found (reopened o)) e s))
+either_of digest_of a b office (inr e) found (inr s) = inr (inr (subst (λ (o : Durable). StandsFor digest_of found (raised o)) e s))
 
-module _ {D : Type 0} {d : DiskGhosts D} (digest_of : List ℕ → List ℕ) (old : Journal D d) (a b : Office)
+module _ {D : Type 0} {d : DiskGhosts D} (digest_of : List ℕ → List ℕ) (old : Journal D d) (a b : Durable)
     (holds : Holds digest_of old a b) where
   -- all is durable, so what is found stands for one of the two
   alike_either : (out : FileSet) → ((file : FileId) → out file ≡ false) → (found : Files) → IsAlikeBut holds.all out found
@@ -60,7 +60,7 @@ module _ {D : Type 0} {d : DiskGhosts D} (digest_of : List ℕ → List ℕ) (ol
       (λ found alike. inl (alike_either (uncertain old) certain_before found alike))
       (quiet.crash holds.all holds.told_is)
 
-module _ {D N S : Type 0} {d : DiskGhosts D} (n : NamerGhosts N S) (old : Journal D d) (a b : Office) (holds : Holds n.digest_of old a b)
+module _ {D N S : Type 0} {d : DiskGhosts D} (n : NamerGhosts N S) (old : Journal D d) (a b : Durable) (holds : Holds n.digest_of old a b)
     (ready : old.halted ≡ false) where
   -- nothing was found
   pub begins_not : (new : Journal D d) (refusal : OpenRefusal)
@@ -83,12 +83,12 @@ module _ {D N S : Type 0} {d : DiskGhosts D} (n : NamerGhosts N S) (old : Journa
       now = may_still n.digest_of old a b holds mid ready quiet;
     }
 
-    pub begins_raised : (new : Journal D d) (raised : Found N S n) (epoch : ℕ) → epoch ≡ found.catalog.epoch → epoch < last_sequence
-        → raised.pool ≡ found.pool
-        → ((office : Office) (names : Names) → IsHeld mid found.pool found.catalog found.counts office names
-        → IsHeld new raised.pool raised.catalog raised.counts (reopened office) names)
-        → Raised new raised a b
-    begins_raised new raised epoch read room same held = record {
+    pub begins_raised : (new : Journal D d) (next : Found N S n) (epoch : ℕ) → epoch ≡ found.catalog.epoch → epoch < last_sequence
+        → next.pool ≡ found.pool
+        → ((office : Durable) (names : Names) → IsHeld mid found.pool found.catalog found.counts office names
+        → IsHeld new next.pool next.catalog next.counts (raised office) names)
+        → Raised new next a b
+    begins_raised new next epoch read room same held = record {
       office = recovers.office;
       is_one = recovers.is_one;
       room = subst (λ (e : ℕ). e < last_sequence) (read ∙ epoch_is) room;
@@ -97,9 +97,9 @@ module _ {D N S : Type 0} {d : DiskGhosts D} (n : NamerGhosts N S) (old : Journa
       fresh = subst (λ p. AreFresh (slots_of p.names)) (sym same) recovers.fresh;
     }
 
-    module _ (new : Journal D d) (looks : (office : Office) (names : Names) → IsStored mid found.pool found.catalog office names
-        → Looks n.digest_of mid new office (reopened office)) where
-      abbrev ours : Looks n.digest_of mid new recovers.office (reopened recovers.office)
+    module _ (new : Journal D d) (looks : (office : Durable) (names : Names) → IsStored mid found.pool found.catalog office names
+        → Looks n.digest_of mid new office (raised office)) where
+      abbrev ours : Looks n.digest_of mid new recovers.office (raised recovers.office)
       ours = looks recovers.office recovers.names recovers.stored
 
       pub begins_between : (refusal : OpenRefusal) → (refusal ≡ DiskFault) ⊎ (refusal ≡ Memory) → (refusal ≡ Memory → Quiet mid new)
@@ -113,7 +113,7 @@ module _ {D N S : Type 0} {d : DiskGhosts D} (n : NamerGhosts N S) (old : Journa
       pub begins_crash : FindsOnly old new (MayLeave n.digest_of a b)
       begins_crash =
           FindsOnly-then (MayLeave n.digest_of a b) old mid new (crash_still n.digest_of old a b holds mid quiet)
-          (FindsOnly-each (IsEither n.digest_of recovers.office (reopened recovers.office)) (MayLeave n.digest_of a b) mid new
+          (FindsOnly-each (IsEither n.digest_of recovers.office (raised recovers.office)) (MayLeave n.digest_of a b) mid new
           (either_of n.digest_of a b recovers.office recovers.is_one) ours.crash)
 
 -- a fault of a commit that isn't plain, or that wrote nothing

@@ -7,7 +7,7 @@ use Rattle.disk_trait.specs.Images.{FileSet, nothing, IsWithin, MayLeave}
 use Rattle.intent_journal.specs.ChangesLaws.{either}
 use Rattle.journal_view.specs.Found.{seen, is_seen, Finds}
 use Rattle.journal_view.specs.FoundLaws.{seen_there, seen_none}
-use Rattle.office_model.specs.Office.{blank_office}
+use Rattle.office_model.specs.Office.{blank}
 use Rattle.office_files.specs.BlankLaws.{blank_stands_for}
 use Rattle.office_files.specs.Stands.{StandsFor}
 use Rattle.store_parts.specs.Held.{IsEither}
@@ -23,7 +23,7 @@ nothing_seen = λ i asked. at asked i
     ]
 
 -- nothing is found in an image without files
-nothing_found : (digest_of : List ℕ → List ℕ) → Finds (IsEither digest_of blank_office blank_office) no_files
+nothing_found : (digest_of : List ℕ → List ℕ) → Finds (IsEither digest_of blank blank) no_files
 nothing_found digest_of = record {
   found = seen no_files;
   in_image = record {
@@ -31,7 +31,7 @@ nothing_found digest_of = record {
     comes = record { closed = λ e asked kind. refl; opened = λ e. absurd (false≢true e); contents = λ asked kind out. refl };
     is = refl;
   };
-  has = inl (subst (λ (f : Files). StandsFor digest_of f blank_office) (sym nothing_seen) (blank_stands_for digest_of));
+  has = inl (subst (λ (f : Files). StandsFor digest_of f blank) (sym nothing_seen) (blank_stands_for digest_of));
 }
 
 left_nothing : (uncertain : FileSet) → IsWithin uncertain nothing → (image : Files) → MayLeave (Some no_files) uncertain image
@@ -45,10 +45,10 @@ left_nothing uncertain certain image left = λ i asked. at asked i
     at asked = left.image_of.each asked (certain.each asked refl) ∙ ap (λ (f : Files). f asked) all_is
 
 pub blank_of : (digest_of : List ℕ → List ℕ) (uncertain : FileSet) → IsWithin uncertain nothing
-    → IsOf digest_of (Some no_files) uncertain blank_office blank_office
+    → IsOf digest_of (Some no_files) uncertain blank blank
 blank_of digest_of uncertain certain = record {
   each = λ image left.
-      subst (Finds (IsEither digest_of blank_office blank_office)) (sym (left_nothing uncertain certain image left))
+      subst (Finds (IsEither digest_of blank blank)) (sym (left_nothing uncertain certain image left))
       (nothing_found digest_of);
   tells = refl;
 }

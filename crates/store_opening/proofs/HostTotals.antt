@@ -11,7 +11,7 @@ use Rattle.pool_index.specs.Index.{Index as PoolListing}
 use Rattle.backup_index.specs.Index.{Index}
 use Rattle.ref_counts.specs.Numbers.{Items, number}
 use Rattle.ref_counts.specs.Stored.{Backup as StoredBackup}
-use Rattle.office_model.specs.Office.{Office, Host}
+use Rattle.office_model.specs.Office.{Durable, Host}
 use Rattle.office_files.specs.Pairs.{other_at}
 use Rattle.office_files.specs.Stands.{Stands}
 use Rattle.office_catalog.specs.Known.{Known, IsCatalog, names_of}
@@ -45,7 +45,7 @@ there_at (x ∷ xs) (suc i) within = there_at xs i (omega (arith, within))
 
 -- ---- files that stand for an office
 
-module _ (digest_of : List ℕ → List ℕ) (listing : PoolListing) (backups : List (List StoredBackup)) (all : Files) (office : Office)
+module _ (digest_of : List ℕ → List ℕ) (listing : PoolListing) (backups : List (List StoredBackup)) (all : Files) (office : Durable)
     (stands : Stands digest_of listing backups all office) where
   hosts_known : (known : Known) → HoldsCatalog all known → length known.hosts ≡ length office.hosts
   hosts_known known holds =

@@ -24,8 +24,8 @@ use Rattle.pool_store.specs.declared.pool.Pool.{Pool}
 use Rattle.pool_store.specs.Fits.{fits_less}
 use Rattle.ref_counts.specs.Numbers.{Items}
 use Rattle.ref_counts.specs.Stored.{Backup as StoredBackup}
-use Rattle.office_model.specs.Office.{Office, Host, Names, reopened}
-use Rattle.office_model.specs.laws.SoundLaws.{IsSound-closed}
+use Rattle.office_model.specs.Office.{Durable, Host, Names, raised}
+use Rattle.office_model.specs.laws.ReopenLaws.{IsSoundDurable-raised}
 use Rattle.office_files.specs.Layouts.{IsHeadFile}
 use Rattle.office_files.specs.Stands.{names_of, Stands}
 use Rattle.office_changes.specs.ChangeLaws.{epoch_raised}
@@ -70,7 +70,7 @@ head_there epoch names None head = let e : epoch + 1 ≡ 0 = head.0 in absurd (o
 head_there epoch names (Some bytes) head = refl
 
 -- the changes lead to the next epoch
-module _ (digest_of : List ℕ → List ℕ) (index : Index) (backups : List (List StoredBackup)) (all : Files) (office : Office)
+module _ (digest_of : List ℕ → List ℕ) (index : Index) (backups : List (List StoredBackup)) (all : Files) (office : Durable)
     (changes : List Change)
     (leads : Leads (known_of_office office) (with_epoch (known_of_office office) (office.epoch + 1)) (F.Head ∷ []) changes)
     (stands : Stands digest_of index backups all office) where
@@ -80,20 +80,20 @@ module _ (digest_of : List ℕ → List ℕ) (index : Index) (backups : List (Li
       (head_of_catalog (applied changes all) (with_epoch (known_of_office office) (office.epoch + 1))
       (leads.leads all (stands_catalog digest_of index backups all office stands)))
 
-  pub raised_stands : Stands digest_of index backups (applied changes all) (reopened office)
+  pub raised_stands : Stands digest_of index backups (applied changes all) (raised office)
   raised_stands =
       epoch_raised digest_of index backups all (applied changes all) office
       (λ file metadata other. head_only changes all file leads.named other)
       (λ id listed. head_only changes all (F.Pool id) leads.named (content_apart id))
       (head_there office.epoch (names_of office.hosts) (applied changes all F.Head) head_raised) head_raised
-      (IsSound-closed office (office.epoch + 1) stands.sound) stands
+      (IsSoundDurable-raised office stands.sound) stands
 
 -- ---- parts that hold an office
 
 module _ {D N S : Type 0} {d : DiskGhosts D} {n : NamerGhosts N S} (journal : Journal D d) (pool : Pool N S n) (catalog : Known)
-    (office : Office) (names : Names) (at : IsStored journal pool catalog office names) where
+    (office : Durable) (names : Names) (at : IsStored journal pool catalog office names) where
   -- whatever a crash leaves now stands for the office
-  pub stored_may : (other : Office) → MayBe n.digest_of journal office other
+  pub stored_may : (other : Durable) → MayBe n.digest_of journal office other
   stored_may other = record {
     each = FindsNow-each (IsAlikeBut at.all (uncertain journal)) (IsEither n.digest_of office other) journal
         (λ found alike. inl (stored_found journal pool catalog office names at found alike))
@@ -102,7 +102,7 @@ module _ {D N S : Type 0} {d : DiskGhosts D} {n : NamerGhosts N S} (journal : Jo
   }
 
   -- nothing was written
-  pub looks_still : (other : Office) → Looks n.digest_of journal journal office other
+  pub looks_still : (other : Durable) → Looks n.digest_of journal journal office other
   looks_still other = record { now = stored_may other; crash = FindsOnly-still journal (IsEither n.digest_of office other) }
 
   module _ (change : CatalogChange) (changes : List Change) (new : Journal D d)
@@ -112,7 +112,7 @@ module _ {D N S : Type 0} {d : DiskGhosts D} {n : NamerGhosts N S} (journal : Jo
         (subst (λ (known : Known). Leads known (with_epoch known (known.epoch + 1))
         (F.Head ∷ []) change.changes) at.catalog_is proposes.leads)
 
-    next_stands : Stands n.digest_of (index_of (slots_of pool.names)) at.backups (applied changes at.all) (reopened office)
+    next_stands : Stands n.digest_of (index_of (slots_of pool.names)) at.backups (applied changes at.all) (raised office)
     next_stands = raised_stands n.digest_of (index_of (slots_of pool.names)) at.backups at.all office changes leads at.stands
 
     content_same : (id : PoolId) → applied changes at.all (F.Pool id) ≡ at.all (F.Pool id)
@@ -120,7 +120,7 @@ module _ {D N S : Type 0} {d : DiskGhosts D} {n : NamerGhosts N S} (journal : Jo
 
     stored_raised : (known : Known) → known ≡ after change catalog → new.halted ≡ false
         → told new ≡ option_map (applied changes) (told journal) → (is_some (told journal) ≡ true → IsWithin (uncertain new) nothing)
-        → IsStored new pool known (reopened office) names
+        → IsStored new pool known (raised office) names
     stored_raised known known_is ready done certain = record {
       journal_ready = ready;
       all = applied changes at.all;
@@ -142,7 +142,7 @@ module _ {D N S : Type 0} {d : DiskGhosts D} {n : NamerGhosts N S} (journal : Jo
 
     pub held_raised : (counts : List Items) → AreCountsOf counts at.backups → (known : Known) → known ≡ after change catalog
         → new.halted ≡ false → told new ≡ option_map (applied changes) (told journal)
-        → (is_some (told journal) ≡ true → IsWithin (uncertain new) nothing) → IsHeld new pool known counts (reopened office) names
+        → (is_some (told journal) ≡ true → IsWithin (uncertain new) nothing) → IsHeld new pool known counts (raised office) names
     unfolding stored_raised
     held_raised counts counted known known_is ready done certain = record {
       stored = stored_raised known known_is ready done certain;
@@ -150,21 +150,21 @@ module _ {D N S : Type 0} {d : DiskGhosts D} {n : NamerGhosts N S} (journal : Jo
     }
 
     either_raised : (found : Files) → IsOldOrNew at.all (uncertain journal) changes found
-        → IsEither n.digest_of office (reopened office) found
-    either_raised = either_left journal pool catalog office names at changes (reopened office)
+        → IsEither n.digest_of office (raised office) found
+    either_raised = either_left journal pool catalog office names at changes (raised office)
         (record { index = index_of (slots_of pool.names); backups = at.backups; stands = next_stands })
 
     -- whatever the commit answers
     pub looks_raised : (result : Result (Unit {0}) JournalFault) → Committed journal changes result new
-        → Looks n.digest_of journal new office (reopened office)
+        → Looks n.digest_of journal new office (raised office)
     looks_raised result committed = record {
       now = record {
         each = FindsNow-each (IsOldOrNew at.all (uncertain journal) changes) (IsEither n.digest_of office
-            (reopened office)) new either_raised
+            (raised office)) new either_raised
             (committed.now at.all at.told_is);
         tells = committed.tells (ap is_some at.told_is);
       };
       crash = FindsOnly-each (IsOldOrNew at.all (uncertain journal) changes) (IsEither n.digest_of office
-          (reopened office)) journal new either_raised
+          (raised office)) journal new either_raised
           (committed.crash at.all at.told_is);
     }

@@ -20,7 +20,7 @@ use Rattle.pool_changes.specs.Listed.{index_of}
 use Rattle.pool_store.specs.Opened.{IsFresh, Opens}
 use Rattle.pool_store.specs.Opening.{AreFresh}
 use Rattle.pool_store.specs.Complete.{HaveFiles}
-use Rattle.office_model.specs.Office.{Office}
+use Rattle.office_model.specs.Office.{Durable}
 use Rattle.office_files.specs.KeptLaws.{tells_kept, listed_held}
 use Rattle.office_files.specs.OneLaws.{one_listing}
 use Rattle.office_files.specs.Stands.{Stands, StandsFor}
@@ -43,7 +43,7 @@ at_file raw all same file = ap (λ (f : Files). f file) same
 
 -- ---- a pool of an office is opened
 
-pub pool_calm : (digest_of : List ℕ → List ℕ) (raw : Option Files) (all : Files) (office : Office) → option_map seen raw ≡ Some all
+pub pool_calm : (digest_of : List ℕ → List ℕ) (raw : Option Files) (all : Files) (office : Durable) → option_map seen raw ≡ Some all
     → StandsFor digest_of all office → ((files : Files) (index : Index) → raw ≡ Some files → TellsIndex index files
     → HaveFiles index files → ⊥) → ⊥
 pool_calm digest_of raw all office is stands never =
@@ -66,7 +66,7 @@ fresh_live (Some Doomed) fresh given = absurd (false≢true given)
 -- ---- what was read is one of the two offices
 
 module _ {D N S : Type 0} {d : DiskGhosts D} {n : NamerGhosts N S} where
-  read_one : (new : Journal D d) (found : Found N S n) (all raw : Files) (office : Office) → new.halted ≡ false → told new ≡ Some all
+  read_one : (new : Journal D d) (found : Found N S n) (all raw : Files) (office : Durable) → new.halted ≡ false → told new ≡ Some all
       → seen raw ≡ all → ((file : FileId) → uncertain new file ≡ false) → Opens found.pool.in_one_file (slots_of found.pool.names) raw
       → AreFresh (slots_of found.pool.names) → HoldsCatalog all found.catalog → StandsFor n.digest_of all office
       → IsStored new found.pool found.catalog office (record { digest_of = n.digest_of; used = used_of found.pool.names })
@@ -101,7 +101,7 @@ module _ {D N S : Type 0} {d : DiskGhosts D} {n : NamerGhosts N S} where
       stands : Stands n.digest_of (index_of slots) s.backups all office
       stands = subst (λ (index : Index). Stands n.digest_of index s.backups all office) index_is s.stands
 
-  held_one : (new : Journal D d) (found : Found N S n) (all raw : Files) (office : Office) → new.halted ≡ false → told new ≡ Some all
+  held_one : (new : Journal D d) (found : Found N S n) (all raw : Files) (office : Durable) → new.halted ≡ false → told new ≡ Some all
       → seen raw ≡ all → ((file : FileId) → uncertain new file ≡ false) → Opens found.pool.in_one_file (slots_of found.pool.names) raw
       → AreFresh (slots_of found.pool.names) → HoldsCatalog all found.catalog
       → AreTold all (length found.catalog.hosts) found.counts → StandsFor n.digest_of all office
@@ -112,7 +112,7 @@ module _ {D N S : Type 0} {d : DiskGhosts D} {n : NamerGhosts N S} where
     counted = counts_of_office n.digest_of s.index s.backups all office s.stands found.catalog found.counts holds told;
   }
 
-  pub recovered_by : (old new : Journal D d) (found : Found N S n) (a b : Office) → old.halted ≡ false → Quiet old new
+  pub recovered_by : (old new : Journal D d) (found : Found N S n) (a b : Durable) → old.halted ≡ false → Quiet old new
       → Holds n.digest_of old a b
       → ((all : Files) → d.files old.disk ≡ Some all → Opens found.pool.in_one_file (slots_of found.pool.names) all)
       → AreFresh (slots_of found.pool.names) → ((all : Files) → told old ≡ Some all → HoldsCatalog all found.catalog)
@@ -122,7 +122,7 @@ module _ {D N S : Type 0} {d : DiskGhosts D} {n : NamerGhosts N S} where
       raw : (files : Files) × (d.files old.disk ≡ Some files) × (seen files ≡ holds.all)
       raw = told_raw (d.files old.disk) holds.all holds.told_is
 
-      held : (office : Office) → StandsFor n.digest_of holds.all office
+      held : (office : Durable) → StandsFor n.digest_of holds.all office
           → IsHeld new found.pool found.catalog found.counts office (record { digest_of = n.digest_of; used = used_of found.pool.names })
       held office s =
           held_one new found holds.all raw.0 office (quiet.halted_same ∙ ready) (quiet.told_same ∙ holds.told_is) raw.2
@@ -154,15 +154,15 @@ foreign_hosts old now file found same (inr without) = inr (inr (inl (λ all is. 
 
 -- ---- files of one of the two are never foreign
 
-module _ {D : Type 0} {d : DiskGhosts D} (digest_of : List ℕ → List ℕ) (journal : Journal D d) (a b : Office)
+module _ {D : Type 0} {d : DiskGhosts D} (digest_of : List ℕ → List ℕ) (journal : Journal D d) (a b : Durable)
     (holds : Holds digest_of journal a b) where
-  abbrev of_either : {P : Type 0} → ((office : Office) → StandsFor digest_of holds.all office → P) → P
+  abbrev of_either : {P : Type 0} → ((office : Durable) → StandsFor digest_of holds.all office → P) → P
   of_either each = elim holds.either [ inl s ↦ each a s | inr s ↦ each b s ]
 
   pub pool_known : ((all : Files) (index : Index) → d.files journal.disk ≡ Some all → TellsIndex index all → HaveFiles index all → ⊥) → ⊥
   pool_known never = of_either (λ office s. pool_calm digest_of (d.files journal.disk) holds.all office holds.told_is s never)
 
-  pub hosts_known : ((all : Files) (office : Office) → told journal ≡ Some all → StandsFor digest_of all office → ⊥) → ⊥
+  pub hosts_known : ((all : Files) (office : Durable) → told journal ≡ Some all → StandsFor digest_of all office → ⊥) → ⊥
   hosts_known never = of_either (λ office s. never holds.all office holds.told_is s)
 
   pub stray_known : (file : FileId) (found : Option (List ℕ)) → ((all : Files) → told journal ≡ Some all → IsStray all file found) → ⊥

@@ -13,7 +13,7 @@ use Rattle.journal_view.specs.FoundLaws.{finds_each, finds_wider}
 use Rattle.journal_view.specs.OpeningLaws.{reopened_has, opens_of, still_has}
 use Rattle.journal_view.specs.View.{told, uncertain, Quiet}
 use Rattle.journal_view.specs.ViewLaws.{seen_some}
-use Rattle.office_model.specs.Office.{Office, reopened}
+use Rattle.office_model.specs.Office.{Durable, raised}
 use Rattle.store_parts.specs.Held.{IsEither, MayBe}
 use Rattle.store_opening.specs.declared.fault.OpenRefusal.{OpenRefusal}
 use Rattle.store_opening.specs.declared.fault.OpenRefusal.TheVariants.{Foreign, EpochsSpent, DiskFault, Memory}
@@ -37,7 +37,7 @@ left_has P told u old new start crash =
     leaves_wider crash (λ image finds. finds_wider (CanFind told u) P image
     (λ found may. finds_each P may.image found (start may.image may.left) may.in_image) finds)
 
-module _ {D : Type 0} (d : DiskGhosts D) (digest_of : List ℕ → List ℕ) (old : D) (a b : Office)
+module _ {D : Type 0} (d : DiskGhosts D) (digest_of : List ℕ → List ℕ) (old : D) (a b : Durable)
     (start : FindsAll (d.files old) (d.uncertain old) (IsEither digest_of a b)) (raw : (files : Files) × (d.files old ≡ Some files)) where
   openable : IsOpenable (d.files old) (d.uncertain old)
   openable = opens_of (IsEither digest_of a b) (d.files old) (d.uncertain old) start
@@ -70,7 +70,7 @@ module _ {D : Type 0} (d : DiskGhosts D) (digest_of : List ℕ → List ℕ) (ol
   unknown_never never = never raw.0 raw.1 openable
 
 -- the disk wasn't opened
-pub begins_unopened : {D N S : Type 0} {d : DiskGhosts D} (n : NamerGhosts N S) (new : Journal D d) (a b : Office) (refusal : OpenRefusal)
+pub begins_unopened : {D N S : Type 0} {d : DiskGhosts D} (n : NamerGhosts N S) (new : Journal D d) (a b : Durable) (refusal : OpenRefusal)
     → ((file : FileId) (found : Option (List ℕ)) → refusal ≡ Foreign file found → ⊥) → (refusal ≡ EpochsSpent → ⊥)
     → MayBe n.digest_of new a b → Begins {n = n} a b (Err refusal) new
 begins_unopened n new a b (Foreign file found) known spent may = absurd (known file found refl)
@@ -89,23 +89,23 @@ pub plain_not : (refusal : OpenRefusal) → IsPlain refusal → refusal ≡ Disk
 plain_not refusal plain e = subst IsPlain e plain
 
 -- what a journal leaves of two offices, its disk leaves
-may_disk : {D : Type 0} {d : DiskGhosts D} (digest_of : List ℕ → List ℕ) (journal : Journal D d) (a b : Office)
+may_disk : {D : Type 0} {d : DiskGhosts D} (digest_of : List ℕ → List ℕ) (journal : Journal D d) (a b : Durable)
     → MayBe digest_of journal a b
     → IsOf digest_of (d.files journal.disk) (d.uncertain journal.disk) a b
 may_disk {d = d} digest_of journal a b may = record { each = may.each; tells = seen_some (d.files journal.disk) may.tells }
 
-pub left_of : {D N S : Type 0} {d : DiskGhosts D} (n : NamerGhosts N S) (journal : Journal D d) (a b : Office) (refusal : OpenRefusal)
+pub left_of : {D N S : Type 0} {d : DiskGhosts D} (n : NamerGhosts N S) (journal : Journal D d) (a b : Durable) (refusal : OpenRefusal)
     → Begins {n = n} a b (Err refusal) journal
     → Left n.digest_of (d.files journal.disk) (d.uncertain journal.disk) a b refusal
 left_of n journal a b (Foreign file found) begins = begins
 left_of n journal a b EpochsSpent begins =
     (record { office = begins.office; is_one = begins.is_one; last = begins.last }, may_disk n.digest_of journal a b begins.now)
 left_of n journal a b DiskFault (inl may) = inl (may_disk n.digest_of journal a b may)
-left_of n journal a b DiskFault (inr w) = inr (w.0, w.1, may_disk n.digest_of journal w.0 (reopened w.0) w.2)
+left_of n journal a b DiskFault (inr w) = inr (w.0, w.1, may_disk n.digest_of journal w.0 (raised w.0) w.2)
 left_of n journal a b Memory begins = may_disk n.digest_of journal a b begins
 
 -- the journal wasn't opened
-pub left_unopened : (digest_of : List ℕ → List ℕ) (told : Option Files) (uncertain : FileSet) (a b : Office) (refusal : OpenRefusal)
+pub left_unopened : (digest_of : List ℕ → List ℕ) (told : Option Files) (uncertain : FileSet) (a b : Durable) (refusal : OpenRefusal)
     → ((file : FileId) (found : Option (List ℕ)) → refusal ≡ Foreign file found → ⊥) → (refusal ≡ EpochsSpent → ⊥)
     → IsOf digest_of told uncertain a b → Left digest_of told uncertain a b refusal
 left_unopened digest_of told uncertain a b (Foreign file found) known spent is = absurd (known file found refl)
@@ -123,7 +123,7 @@ pub crash_at : {D : Type 0} {moment : D → ℕ} {left_since : D → ℕ → Fil
 crash_at {moment = moment} {left_since = left_since} P old disk other same crash =
     subst (λ (x : _). Leaves moment left_since old x P) (sym same) crash
 
-pub left_at : {D : Type 0} (d : DiskGhosts D) (digest_of : List ℕ → List ℕ) (a b : Office) (refusal : OpenRefusal) (disk other : D)
+pub left_at : {D : Type 0} (d : DiskGhosts D) (digest_of : List ℕ → List ℕ) (a b : Durable) (refusal : OpenRefusal) (disk other : D)
     → other ≡ disk → Left digest_of (d.files disk) (d.uncertain disk) a b refusal
     → Left digest_of (d.files other) (d.uncertain other) a b refusal
 left_at d digest_of a b refusal disk other same left =

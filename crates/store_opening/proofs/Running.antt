@@ -31,8 +31,10 @@ use Rattle.office_model.specs.declared.refusal.BrokenRule.{BrokenRule}
 use Rattle.office_model.specs.declared.refusal.BrokenRule.TheVariants.{NumbersSpent}
 use Rattle.office_model.specs.declared.refusal.Refusal.{Refusal}
 use Rattle.office_model.specs.declared.refusal.Refusal.TheVariants.{Broken, Halted as HaltedReply, DiskFault, Damaged, Memory}
-use Rattle.office_model.specs.Office.{Office, Host, Names, reopened, last_sequence}
+use Rattle.office_model.specs.Office.{Office, Durable, Host, Names, IsSoundDurable, raised, reopened, last_sequence}
 use Rattle.office_model.specs.Meaning.{Reply}
+use Rattle.office_model.specs.UsedNames.{OnlyUsed}
+use Rattle.office_model.specs.laws.ReopenLaws.{IsSound-reopened}
 use Rattle.office_model.specs.Step.{State, Running, Halted, IsPicked}
 use Rattle.office_model.specs.events.Reopen.{carried}
 use Rattle.store_parts.specs.declared.parts.StoreParts.{StoreParts}
@@ -66,10 +68,14 @@ no_claims sessions id dumps restores = λ i. claims_in_dumps (dumps i) id + clai
 kept_none : (kept : Option KeptView) (hosts : List Host) (backups : List (List StoredBackup)) → kept ≡ None → IsKeptView kept hosts backups
 kept_none kept hosts backups e = subst (λ (k : Option KeptView). IsKeptView k hosts backups) (sym e) tt
 
+-- the epoch is no part of what is sound
+not_raised : (kept : Durable) → IsSoundDurable (raised kept) → IsSoundDurable kept
+not_raised kept sound = record { hosts = sound.hosts; pool_order = sound.pool_order; of_backups = sound.of_backups }
+
 module _ {D N S : Type 0} {d : DiskGhosts D} {n : NamerGhosts N S} where
   -- a store of these parts is at work
-  fresh_running : (parts : StoreParts D N S d n) (found : Found N S n) (office : Office) (names : Names) → IsOfFound parts found
-      → AreFresh (slots parts) → IsHeld parts.journal parts.pool parts.catalog parts.counts (reopened office) names
+  fresh_running : (parts : StoreParts D N S d n) (found : Found N S n) (office : Durable) (names : Names) → IsOfFound parts found
+      → AreFresh (slots parts) → IsHeld parts.journal parts.pool parts.catalog parts.counts (raised office) names
       → IsRunning parts (reopened office) names
   fresh_running parts found office names is fresh held = record {
     working = record {
@@ -83,41 +89,44 @@ module _ {D N S : Type 0} {d : DiskGhosts D} {n : NamerGhosts N S} where
         sequence = is.first;
       };
       view = kept_none parts.views.kept office.hosts held.stored.backups is.no_view;
-      sound = held.stored.stands.sound;
+      sound = record {
+        office = IsSound-reopened office (not_raised office held.stored.stands.sound);
+        names = record { distinct = held.stored.used.distinct };
+      };
     };
     claimed = λ id. fresh_claims (slots parts id) (fresh id) ∙ sym (no_claims parts.sessions id is.no_dumps is.no_restores);
   }
 
-  pub raised_running : (parts : StoreParts D N S d n) (journal : Journal D d) (found : Found N S n) (a b : Office) (epoch : ℕ)
+  pub raised_running : (parts : StoreParts D N S d n) (journal : Journal D d) (found : Found N S n) (a b : Durable) (epoch : ℕ)
       → Raised journal found a b → IsOfFound parts found → parts.journal ≡ journal → epoch ≡ found.catalog.epoch
       → Reopened a b (ReopenedAnswer epoch) parts
-  raised_running parts journal found a b epoch raised is same epoch_is = record {
-    office = raised.office;
-    is_one = raised.is_one;
-    room = raised.room;
-    answer_is = ap ReopenedAnswer (epoch_is ∙ ap (λ (k : Known). k.epoch) raised.stored.catalog_is);
-    names = raised.names;
-    running = fresh_running parts found raised.office raised.names is
-        (subst (λ (p : Pool N S n). AreFresh (slots_of p.names)) (sym is.pool_is) raised.fresh) held;
+  raised_running parts journal found a b epoch rose is same epoch_is = record {
+    office = rose.office;
+    is_one = rose.is_one;
+    room = rose.room;
+    answer_is = ap ReopenedAnswer (epoch_is ∙ ap (λ (k : Known). k.epoch) rose.stored.catalog_is);
+    names = rose.names;
+    running = fresh_running parts found rose.office rose.names is
+        (subst (λ (p : Pool N S n). AreFresh (slots_of p.names)) (sym is.pool_is) rose.fresh) held;
   }
     where
-      held : IsHeld parts.journal parts.pool parts.catalog parts.counts (reopened raised.office) raised.names
+      held : IsHeld parts.journal parts.pool parts.catalog parts.counts (raised rose.office) rose.names
       held =
-          subst (λ (j : Journal D d). IsHeld j parts.pool parts.catalog parts.counts (reopened raised.office) raised.names) (sym same)
-          (subst (λ (p : Pool N S n). IsHeld journal p parts.catalog parts.counts (reopened raised.office) raised.names) (sym is.pool_is)
-          (subst (λ (k : Known). IsHeld journal found.pool k parts.counts (reopened raised.office) raised.names) (sym is.catalog_is)
-          (subst (λ (c : List Items). IsHeld journal found.pool found.catalog c (reopened raised.office) raised.names) (sym is.counts_are)
-          raised.held)))
+          subst (λ (j : Journal D d). IsHeld j parts.pool parts.catalog parts.counts (raised rose.office) rose.names) (sym same)
+          (subst (λ (p : Pool N S n). IsHeld journal p parts.catalog parts.counts (raised rose.office) rose.names) (sym is.pool_is)
+          (subst (λ (k : Known). IsHeld journal found.pool k parts.counts (raised rose.office) rose.names) (sym is.catalog_is)
+          (subst (λ (c : List Items). IsHeld journal found.pool found.catalog c (raised rose.office) rose.names) (sym is.counts_are)
+          rose.held)))
 
-  pub opened_of : (parts : StoreParts D N S d n) (journal : Journal D d) (found : Found N S n) (a b : Office) → Raised journal found a b
+  pub opened_of : (parts : StoreParts D N S d n) (journal : Journal D d) (found : Found N S n) (a b : Durable) → Raised journal found a b
       → IsOfFound parts found → parts.journal ≡ journal → Opened a b parts
-  opened_of parts journal found a b raised is same =
-      let r = raised_running parts journal found a b found.catalog.epoch raised is same refl in
+  opened_of parts journal found a b rose is same =
+      let r = raised_running parts journal found a b found.catalog.epoch rose is same refl in
       record { office = r.office; is_one = r.is_one; room = r.room; names = r.names; running = r.running }
 
   -- ---- how it goes
 
-  pub goes_refused : (new : StoreParts D N S d n) (a b : Office) (refusal : OpenRefusal) → (halts refusal ≡ true → new.halted ≡ true)
+  pub goes_refused : (new : StoreParts D N S d n) (a b : Durable) (refusal : OpenRefusal) → (halts refusal ≡ true → new.halted ≡ true)
       → Begins {n = n} a b (Err refusal) new.journal → Goes a b (Err (reply_of refusal)) new
   goes_refused new a b (O.Foreign file found) halted begins = begins
   goes_refused new a b O.EpochsSpent halted begins = (refl, begins)
@@ -174,8 +183,8 @@ module _ {D N S : Type 0} {d : DiskGhosts D} {n : NamerGhosts N S} where
   -- ---- what a reopening promises
 
   pub reopens_raised : (old new : StoreParts D N S d n) (journal : Journal D d) (found : Found N S n) (epoch : ℕ)
-      → ((a b : Office) → MayBe n.digest_of old.journal a b → Begins a b (Ok found) journal)
-      → ((a b : Office) → MayBe n.digest_of old.journal a b → FindsOnly old.journal journal (MayLeave n.digest_of a b))
+      → ((a b : Durable) → MayBe n.digest_of old.journal a b → Begins a b (Ok found) journal)
+      → ((a b : Durable) → MayBe n.digest_of old.journal a b → FindsOnly old.journal journal (MayLeave n.digest_of a b))
       → Counted (d.fault_count old.journal.disk) (d.fault_count journal.disk) (IsErrOf (Ok found) O.DiskFault)
       → IsOfFound new found → new.journal ≡ journal → epoch ≡ found.catalog.epoch → Reopens old (Ok (ReopenedAnswer epoch)) new
   reopens_raised old new journal found epoch begins crash counted is same epoch_is = record {
@@ -194,8 +203,8 @@ module _ {D N S : Type 0} {d : DiskGhosts D} {n : NamerGhosts N S} where
 
   pub reopens_refused : (old new : StoreParts D N S d n) (refusal : OpenRefusal) (reply : Refusal) → reply ≡ reply_of refusal
       → new ≡ with_journal old new.journal new.halted → new.halted ≡ (old.halted || halts refusal)
-      → ((a b : Office) → MayBe n.digest_of old.journal a b → Begins {n = n} a b (Err refusal) new.journal)
-      → ((a b : Office) → MayBe n.digest_of old.journal a b → FindsOnly old.journal new.journal (MayLeave n.digest_of a b))
+      → ((a b : Durable) → MayBe n.digest_of old.journal a b → Begins {n = n} a b (Err refusal) new.journal)
+      → ((a b : Durable) → MayBe n.digest_of old.journal a b → FindsOnly old.journal new.journal (MayLeave n.digest_of a b))
       → (IsPlain refusal → old.journal.halted ≡ false → is_some (told old.journal) ≡ true → Quiet old.journal new.journal)
       → Counted (d.fault_count old.journal.disk) (d.fault_count new.journal.disk) (IsErrOf {T = Found N S n} (Err refusal) O.DiskFault)
       → SaysWhy (d.files old.journal.disk) (d.files new.journal.disk) refusal
@@ -221,14 +230,18 @@ room_is epoch room = grind (arith, nat_tests)
 last_is : (epoch : ℕ) → last_sequence ≤ epoch → nat_le last_sequence epoch ≡ true
 last_is epoch last = grind (arith, nat_tests)
 
-carried_at : (office : Office) → office.epoch < last_sequence
+carried_at : (office : Durable) → office.epoch < last_sequence
     → carried office ≡ Ok (record { answer = ReopenedAnswer (office.epoch + 1); after = reopened office })
 carried_at office room = rw (room_is office.epoch room) refl
 
-spent_at : (office : Office) → last_sequence ≤ office.epoch → carried office ≡ Err NumbersSpent
+spent_at : (office : Durable) → last_sequence ≤ office.epoch → carried office ≡ Err NumbersSpent
 spent_at office last = rw (last_is office.epoch last) refl
 
-one_of : (x office : Office) → IsPicked x x office → office ≡ x
+-- names of the same digest
+only_used : (names names' : Names) → names'.digest_of ≡ names.digest_of → OnlyUsed names names'
+only_used names names' same = λ i. record { digest_of = same i; used = names'.used }
+
+one_of : (x office : Durable) → IsPicked x x office → office ≡ x
 one_of x office (inl e) = e
 one_of x office (inr e) = e
 
@@ -267,7 +280,7 @@ module _ {D N S : Type 0} {d : DiskGhosts D} {n : NamerGhosts N S} where
   }
 
   -- a fault of the disk: the parts are halted
-  halted_in : (old new : StoreParts D N S d n) (state : State) (names : Names) (a b : Office) → InState old state
+  halted_in : (old new : StoreParts D N S d n) (state : State) (names : Names) (a b : Durable) → InState old state
       → AreUsed (slots old) names.used → names.digest_of ≡ n.digest_of → new ≡ with_journal old new.journal new.halted → new.halted ≡ true
       → MayBe n.digest_of new.journal a b → IsHalted new a b names
   halted_in old new state names a b at used digest stays stuck may = record {
@@ -282,13 +295,12 @@ module _ {D N S : Type 0} {d : DiskGhosts D} {n : NamerGhosts N S} where
       → IsRunning old office names → Goes office.durable office.durable reply new → Steps (Running office names) Reopen reply new
   steps_running old new (Ok answer) office names reopens at r =
       let one = one_of office.durable r.office r.is_one in
-      let room : office.epoch < last_sequence = subst (λ (o : Office). o.epoch < last_sequence) one r.room in
+      let room : office.epoch < last_sequence = subst (λ (o : Durable). o.epoch < last_sequence) one r.room in
       record {
         next = Running (reopened r.office) r.names;
         step = (
-          carried_at office room ∙ (λ i. Ok (record { answer = answer_at i; after = reopened (one_back i) })),
-          r.running.used.distinct,
-          r.running.digest ∙ sym at.digest,
+          carried_at office.durable room ∙ (λ i. Ok (record { answer = answer_at i; after = reopened (one_back i) })),
+          (only_used names r.names (r.running.digest ∙ sym at.digest), r.running.used.distinct),
         );
         undamaged = tt;
         in_state = r.running;
@@ -298,13 +310,13 @@ module _ {D N S : Type 0} {d : DiskGhosts D} {n : NamerGhosts N S} where
       one_back = sym (one_of office.durable r.office r.is_one)
 
       answer_at : ReopenedAnswer (office.epoch + 1) ≡ answer
-      answer_at = ap (λ (o : Office). ReopenedAnswer (o.epoch + 1)) one_back ∙ sym r.answer_is
+      answer_at = ap (λ (o : Durable). ReopenedAnswer (o.epoch + 1)) one_back ∙ sym r.answer_is
   steps_running old new (Err (Broken rule)) office names reopens at goes =
       let one = one_of office.durable goes.1.office goes.1.is_one in
-      let last : last_sequence ≤ office.epoch = subst (λ (o : Office). last_sequence ≤ o.epoch) one goes.1.last in
+      let last : last_sequence ≤ office.epoch = subst (λ (o : Durable). last_sequence ≤ o.epoch) one goes.1.last in
       record {
         next = Running office names;
-        step = ((spent_at office last ∙ ap (λ (r : BrokenRule). Err r) (sym goes.0), refl), refl, refl);
+        step = ((spent_at office.durable last ∙ ap (λ (r : BrokenRule). Err r) (sym goes.0), refl), refl);
         undamaged = tt;
         in_state = still_in old new (Running office names) at (reopens.stays (Broken rule) refl) (reopens.halted_same tt)
             (reopens.quiet tt) goes.1.now;
@@ -313,36 +325,35 @@ module _ {D N S : Type 0} {d : DiskGhosts D} {n : NamerGhosts N S} where
   steps_running old new (Err (Damaged file found)) office names reopens at goes = absurd goes
   steps_running old new (Err Memory) office names reopens at goes = record {
     next = Running office names;
-    step = (refl, refl, refl);
+    step = (refl, refl);
     undamaged = tt;
     in_state = still_in old new (Running office names) at (reopens.stays Memory refl) (reopens.halted_same tt) (reopens.quiet tt) goes;
   }
   steps_running old new (Err DiskFault) office names reopens at goes = elim goes.1 [
     | inl may ↦ record {
       next = Halted office.durable office.durable names;
-      step = ((refl, inl refl), refl, refl);
+      step = ((refl, inl refl), refl);
       undamaged = tt;
       in_state = halted_in old new (Running office names) names office.durable office.durable at at.used at.digest
           (reopens.stays DiskFault refl) goes.0 may;
     }
     | inr w ↦ record {
-      next = Halted w.0 (reopened w.0) names;
-      step = ((one_of office.durable w.0 w.1, inr (ap reopened (one_of office.durable w.0 w.1))), refl, refl);
+      next = Halted w.0 (raised w.0) names;
+      step = ((one_of office.durable w.0 w.1, inr (ap raised (one_of office.durable w.0 w.1))), refl);
       undamaged = tt;
-      in_state = halted_in old new (Running office names) names w.0 (reopened w.0) at at.used at.digest
+      in_state = halted_in old new (Running office names) names w.0 (raised w.0) at at.used at.digest
           (reopens.stays DiskFault refl) goes.0 w.2;
     }
   ]
 
   -- of a halted store
-  steps_halted : (old new : StoreParts D N S d n) (reply : Reply) (a b : Office) (names : Names) → Reopens old reply new
+  steps_halted : (old new : StoreParts D N S d n) (reply : Reply) (a b : Durable) (names : Names) → Reopens old reply new
       → IsHalted old a b names → Goes a b reply new → Steps (Halted a b names) Reopen reply new
   steps_halted old new (Ok answer) a b names reopens at r = record {
     next = Running (reopened r.office) r.names;
     step = (
       (r.office, r.is_one, carried_at r.office r.room ∙ (λ i. Ok (record { answer = sym r.answer_is i; after = reopened r.office }))),
-      r.running.used.distinct,
-      r.running.digest ∙ sym at.digest,
+      (only_used names r.names (r.running.digest ∙ sym at.digest), r.running.used.distinct),
     );
     undamaged = tt;
     in_state = r.running;
@@ -351,7 +362,6 @@ module _ {D N S : Type 0} {d : DiskGhosts D} {n : NamerGhosts N S} where
     next = Halted a b names;
     step = (
       ((goes.1.office, goes.1.is_one, spent_at goes.1.office goes.1.last ∙ ap (λ (r : BrokenRule). Err r) (sym goes.0)), refl, refl),
-      refl,
       refl,
     );
     undamaged = tt;
@@ -362,22 +372,22 @@ module _ {D N S : Type 0} {d : DiskGhosts D} {n : NamerGhosts N S} where
   steps_halted old new (Err (Damaged file found)) a b names reopens at goes = absurd goes
   steps_halted old new (Err Memory) a b names reopens at goes = record {
     next = Halted a b names;
-    step = ((refl, refl), refl, refl);
+    step = ((refl, refl), refl);
     undamaged = tt;
     in_state = still_in old new (Halted a b names) at (reopens.stays Memory refl) (reopens.halted_same tt) (reopens.quiet tt) goes;
   }
   steps_halted old new (Err DiskFault) a b names reopens at goes = elim goes.1 [
     | inl may ↦ record {
       next = Halted a b names;
-      step = (inl (refl, refl), refl, refl);
+      step = (inl (refl, refl), refl);
       undamaged = tt;
       in_state = halted_in old new (Halted a b names) names a b at at.used at.digest (reopens.stays DiskFault refl) goes.0 may;
     }
     | inr w ↦ record {
-      next = Halted w.0 (reopened w.0) names;
-      step = (inr (w.1, refl), refl, refl);
+      next = Halted w.0 (raised w.0) names;
+      step = (inr (w.1, refl), refl);
       undamaged = tt;
-      in_state = halted_in old new (Halted a b names) names w.0 (reopened w.0) at at.used at.digest
+      in_state = halted_in old new (Halted a b names) names w.0 (raised w.0) at at.used at.digest
           (reopens.stays DiskFault refl) goes.0 w.2;
     }
   ]

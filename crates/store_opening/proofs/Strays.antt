@@ -11,7 +11,7 @@ use Rattle.backup_index.specs.Index.{Index}
 use Rattle.backup_rules.specs.declared.lines.Line.{Line}
 use Rattle.intent_journal.specs.ChangesLaws.{either}
 use Rattle.journal_view.specs.Found.{ListsSeen, is_seen}
-use Rattle.office_model.specs.Office.{Office, Host, Backup}
+use Rattle.office_model.specs.Office.{Durable, Host, Backup}
 use Rattle.office_model.specs.Parts.{lines_of}
 use Rattle.office_files.specs.declared.owner.Owner.{Owner}
 use Rattle.office_files.specs.declared.owner.Owner.TheVariants as O
@@ -163,7 +163,7 @@ headless_calm all none (F.Pool id) named e = refl
 headless_calm all none (F.Stage number) named e = refl
 
 -- no stray is there among files that stand for an office
-pub never_stray : (digest_of : List ℕ → List ℕ) (all : Files) (office : Office) (file : FileId) (found : Option (List ℕ))
+pub never_stray : (digest_of : List ℕ → List ℕ) (all : Files) (office : Durable) (file : FileId) (found : Option (List ℕ))
     → StandsFor digest_of all office → IsStray all file found → ⊥
 never_stray digest_of all office file found is stray =
     false≢true (sym calm ∙ subst (λ (k : Known). is_stray k.hosts (is_some (all F.Head)) file ≡ true) known stray.stray)

@@ -8,7 +8,7 @@ use Rattle.pool_name.specs.declared.namer.Namer.{Ghosts as NamerGhosts}
 use Rattle.intent_journal.specs.declared.journal.Journal.{Journal}
 use Rattle.pool_changes.specs.Kept.{slots_of}
 use Rattle.pool_store.specs.Opening.{AreFresh}
-use Rattle.office_model.specs.Office.{Office, Names, reopened, last_sequence}
+use Rattle.office_model.specs.Office.{Durable, Names, raised, last_sequence}
 use Rattle.office_model.specs.Step.{IsPicked}
 use Rattle.store_parts.specs.Held.{IsEither, MayBe}
 use Rattle.store_opening.specs.declared.found.Found.{Found}
@@ -16,8 +16,8 @@ use Rattle.store_opening.specs.declared.fault.OpenRefusal.{OpenRefusal}
 use Rattle.store_opening.specs.declared.fault.OpenRefusal.TheVariants.{Foreign, EpochsSpent, DiskFault, Memory}
 use Rattle.store_opening.specs.Recovers.{IsHeld}
 
-abbrev pub MayLeave : (List ℕ → List ℕ) → Office → Office → Files → Type 0
-MayLeave digest_of a b found = IsEither digest_of a b found ⊎ IsEither digest_of (reopened a) (reopened b) found
+abbrev pub MayLeave : (List ℕ → List ℕ) → Durable → Durable → Files → Type 0
+MayLeave digest_of a b found = IsEither digest_of a b found ⊎ IsEither digest_of (raised a) (raised b) found
 
 -- refused by the rule or for want of memory
 abbrev pub IsPlain : OpenRefusal → Type 0
@@ -26,30 +26,30 @@ IsPlain EpochsSpent = Unit {0}
 IsPlain DiskFault = ⊥
 IsPlain Memory = Unit {0}
 
-module _ {D : Type 0} {d : DiskGhosts D} (digest_of : List ℕ → List ℕ) (a b : Office) where
+module _ {D : Type 0} {d : DiskGhosts D} (digest_of : List ℕ → List ℕ) (a b : Durable) where
   -- one of the two has the last epoch
   pub record IsSpent (new : Journal D d) : Type 0 where
-    pub office : Office
+    pub office : Durable
     pub is_one : IsPicked a b office
     pub last : last_sequence ≤ office.epoch
     pub now : MayBe digest_of new a b
 
   -- a crash now leaves one of the two, or one of them as it was or in its next epoch
   abbrev pub IsBetween : Journal D d → Type 0
-  IsBetween new = MayBe digest_of new a b ⊎ ((office : Office) × IsPicked a b office × MayBe digest_of new office (reopened office))
+  IsBetween new = MayBe digest_of new a b ⊎ ((office : Durable) × IsPicked a b office × MayBe digest_of new office (raised office))
 
 module _ {D N S : Type 0} {d : DiskGhosts D} {n : NamerGhosts N S} where
   -- one of the two is there, in its next epoch; nothing is staged or claimed
-  pub record Raised (new : Journal D d) (found : Found N S n) (a b : Office) : Type 0 where
-    pub office : Office
+  pub record Raised (new : Journal D d) (found : Found N S n) (a b : Durable) : Type 0 where
+    pub office : Durable
     pub is_one : IsPicked a b office
     pub room : office.epoch < last_sequence
     pub names : Names
-    pub held : IsHeld new found.pool found.catalog found.counts (reopened office) names
+    pub held : IsHeld new found.pool found.catalog found.counts (raised office) names
     pub open held use *
     pub fresh : AreFresh (slots_of found.pool.names)
 
-  abbrev pub Begins : Office → Office → Result (Found N S n) OpenRefusal → Journal D d → Type 0
+  abbrev pub Begins : Durable → Durable → Result (Found N S n) OpenRefusal → Journal D d → Type 0
   Begins a b (Ok found) new = Raised new found a b
   Begins a b (Err (Foreign file found)) new = ⊥
   Begins a b (Err EpochsSpent) new = IsSpent n.digest_of a b new

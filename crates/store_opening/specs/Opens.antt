@@ -7,7 +7,7 @@ use Rattle.disk_trait.specs.Files.{Files}
 use Rattle.disk_trait.specs.Images.{FileSet}
 use Rattle.pool_name.specs.declared.namer.Namer.{Ghosts as NamerGhosts}
 use Rattle.journal_view.specs.Found.{FindsAll}
-use Rattle.office_model.specs.Office.{Office, Names, reopened, last_sequence}
+use Rattle.office_model.specs.Office.{Durable, Names, raised, reopened, last_sequence}
 use Rattle.office_model.specs.Step.{IsPicked}
 use Rattle.store_parts.specs.declared.parts.StoreParts.{StoreParts}
 use Rattle.store_parts.specs.Held.{IsEither}
@@ -16,29 +16,29 @@ use Rattle.store_opening.specs.declared.fault.OpenRefusal.{OpenRefusal}
 use Rattle.store_opening.specs.declared.fault.OpenRefusal.TheVariants.{Foreign, EpochsSpent, DiskFault, Memory}
 
 -- a disk that tells its files, each image of which stands for one of two offices
-pub record IsOf (digest_of : List ℕ → List ℕ) (told : Option Files) (uncertain : FileSet) (a b : Office) : Type 0 where
+pub record IsOf (digest_of : List ℕ → List ℕ) (told : Option Files) (uncertain : FileSet) (a b : Durable) : Type 0 where
   pub each : FindsAll told uncertain (IsEither digest_of a b)
   pub tells : is_some told ≡ true
 
 -- one of the two has the last epoch
-pub record HasLast (a b : Office) : Type 0 where
-  pub office : Office
+pub record HasLast (a b : Durable) : Type 0 where
+  pub office : Durable
   pub is_one : IsPicked a b office
   pub last : last_sequence ≤ office.epoch
 
 -- what the disk is left with: the two offices, or after a fault one of them as it was or in its next epoch
-abbrev pub Left : (List ℕ → List ℕ) → Option Files → FileSet → Office → Office → OpenRefusal → Type 0
+abbrev pub Left : (List ℕ → List ℕ) → Option Files → FileSet → Durable → Durable → OpenRefusal → Type 0
 Left digest_of told uncertain a b (Foreign file found) = ⊥
 Left digest_of told uncertain a b EpochsSpent = HasLast a b × IsOf digest_of told uncertain a b
 Left digest_of told uncertain a b DiskFault =
     IsOf digest_of told uncertain a b
-    ⊎ ((office : Office) × IsPicked a b office × IsOf digest_of told uncertain office (reopened office))
+    ⊎ ((office : Durable) × IsPicked a b office × IsOf digest_of told uncertain office (raised office))
 Left digest_of told uncertain a b Memory = IsOf digest_of told uncertain a b
 
 module _ {D N S : Type 0} {d : DiskGhosts D} {n : NamerGhosts N S} where
   -- one of the two offices is at work in its next epoch
-  pub record Opened (a b : Office) (parts : StoreParts D N S d n) : Type 0 where
-    pub office : Office
+  pub record Opened (a b : Durable) (parts : StoreParts D N S d n) : Type 0 where
+    pub office : Durable
     pub is_one : IsPicked a b office
     pub room : office.epoch < last_sequence
     pub names : Names

@@ -23,7 +23,7 @@ use Rattle.ref_counts.specs.Numbers.{Items}
 use Rattle.office_catalog.specs.Known.{Known}
 use Rattle.office_catalog.specs.Held.{HoldsCatalog, IsForeign as IsForeignToCatalog}
 use Rattle.host_counts.specs.Held.{IsForeign as IsForeignToCounts}
-use Rattle.office_model.specs.Office.{Office, Names}
+use Rattle.office_model.specs.Office.{Durable, Names}
 use Rattle.office_model.specs.Step.{IsPicked}
 use Rattle.store_parts.specs.Held.{AreCountsOf, IsEither, IsStored, MayBe}
 use Rattle.store_opening.specs.declared.found.Found.{Found}
@@ -58,27 +58,27 @@ SaysWhy before now refusal =
 
 module _ {D : Type 0} {d : DiskGhosts D} where
   -- the journal tells files that stand for one of two offices, and all of them are durable
-  pub record Holds (digest_of : List ℕ → List ℕ) (journal : Journal D d) (a b : Office) : Type 0 where
+  pub record Holds (digest_of : List ℕ → List ℕ) (journal : Journal D d) (a b : Durable) : Type 0 where
     pub all : Files
     pub told_is : told journal ≡ Some all
     pub either : IsEither digest_of a b all
     pub certain : IsWithin (uncertain journal) nothing
 
   -- a crash now leaves one of two offices, and so did one meanwhile
-  pub record Looks (digest_of : List ℕ → List ℕ) (old new : Journal D d) (a b : Office) : Type 0 where
+  pub record Looks (digest_of : List ℕ → List ℕ) (old new : Journal D d) (a b : Durable) : Type 0 where
     pub now : MayBe digest_of new a b
     pub crash : FindsOnly old new (IsEither digest_of a b)
 
 module _ {D N S : Type 0} {d : DiskGhosts D} {n : NamerGhosts N S} where
   -- what is durable, and how often its backups name each content
-  pub record IsHeld (journal : Journal D d) (pool : Pool N S n) (catalog : Known) (counts : List Items) (office : Office) (names : Names)
+  pub record IsHeld (journal : Journal D d) (pool : Pool N S n) (catalog : Known) (counts : List Items) (office : Durable) (names : Names)
       : Type 0 where
     pub stored : IsStored journal pool catalog office names
     pub counted : AreCountsOf counts stored.backups
 
   -- one of the two offices was found; nothing is staged or claimed
-  pub record Recovers (journal : Journal D d) (found : Found N S n) (a b : Office) : Type 0 where
-    pub office : Office
+  pub record Recovers (journal : Journal D d) (found : Found N S n) (a b : Durable) : Type 0 where
+    pub office : Durable
     pub is_one : IsPicked a b office
     pub names : Names
     pub held : IsHeld journal found.pool found.catalog found.counts office names

@@ -16,7 +16,7 @@ use Rattle.office_model.specs.declared.refusal.BrokenRule.TheVariants.{NumbersSp
 use Rattle.office_model.specs.declared.refusal.Refusal.{Refusal}
 use Rattle.office_model.specs.declared.refusal.Refusal.TheVariants.{Broken, Halted as HaltedReply, DiskFault, Damaged, Memory}
 use Rattle.office_model.specs.Meaning.{Reply}
-use Rattle.office_model.specs.Office.{Office, Names, durable, reopened, last_sequence}
+use Rattle.office_model.specs.Office.{Durable, Names, reopened, last_sequence}
 use Rattle.office_model.specs.declared.event.Event.TheVariants.{Reopen}
 use Rattle.office_model.specs.Step.{State, Running, Halted, IsAnswerTo, IsPicked}
 use Rattle.store_parts.specs.declared.parts.StoreParts.{StoreParts}
@@ -52,12 +52,12 @@ IsPlainReply (Err (Damaged file found)) = ⊥
 IsPlainReply (Err Memory) = Unit {0}
 
 -- the two offices of which a crash now leaves one
-abbrev pub first_of : State → Office
-first_of (Running office names) = durable office
+abbrev pub first_of : State → Durable
+first_of (Running office names) = office.durable
 first_of (Halted a b names) = a
 
-abbrev pub second_of : State → Office
-second_of (Running office names) = durable office
+abbrev pub second_of : State → Durable
+second_of (Running office names) = office.durable
 second_of (Halted a b names) = b
 
 module _ {D N S : Type 0} {d : DiskGhosts D} {n : NamerGhosts N S} where
@@ -77,15 +77,15 @@ module _ {D N S : Type 0} {d : DiskGhosts D} {n : NamerGhosts N S} where
     pub no_view : parts.views.kept ≡ None
 
   -- one of the two offices is at work in its next epoch
-  pub record Reopened (a b : Office) (answer : Answer) (new : StoreParts D N S d n) : Type 0 where
-    pub office : Office
+  pub record Reopened (a b : Durable) (answer : Answer) (new : StoreParts D N S d n) : Type 0 where
+    pub office : Durable
     pub is_one : IsPicked a b office
     pub room : office.epoch < last_sequence
     pub answer_is : answer ≡ ReopenedAnswer (office.epoch + 1)
     pub names : Names
     pub running : IsRunning new (reopened office) names
 
-  abbrev pub Goes : Office → Office → Reply → StoreParts D N S d n → Type 0
+  abbrev pub Goes : Durable → Durable → Reply → StoreParts D N S d n → Type 0
   Goes a b (Ok answer) new = Reopened a b answer new
   Goes a b (Err (Broken rule)) new = (rule ≡ NumbersSpent) × IsSpent n.digest_of a b new.journal
   Goes a b (Err HaltedReply) new = ⊥
@@ -96,8 +96,8 @@ module _ {D N S : Type 0} {d : DiskGhosts D} {n : NamerGhosts N S} where
   -- The store reopened. It had one of two offices; a plain refusal leaves it as it was, and any refusal leaves all but the
   -- journal and whether it is halted.
   pub record Reopens (old : StoreParts D N S d n) (reply : Reply) (new : StoreParts D N S d n) : Type 0 where
-    pub goes : (a b : Office) → MayBe n.digest_of old.journal a b → Goes a b reply new
-    pub crash : (a b : Office) → MayBe n.digest_of old.journal a b → FindsOnly old.journal new.journal (MayLeave n.digest_of a b)
+    pub goes : (a b : Durable) → MayBe n.digest_of old.journal a b → Goes a b reply new
+    pub crash : (a b : Durable) → MayBe n.digest_of old.journal a b → FindsOnly old.journal new.journal (MayLeave n.digest_of a b)
     pub stays : (refusal : Refusal) → reply ≡ Err refusal → new ≡ with_journal old new.journal new.halted
     pub halted_same : IsPlainReply reply → new.halted ≡ old.halted
     pub quiet : IsPlainReply reply → old.journal.halted ≡ false → is_some (told old.journal) ≡ true → Quiet old.journal new.journal

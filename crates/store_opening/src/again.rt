@@ -10,7 +10,7 @@ ghost use Rattle.intent_journal.specs.Overlay.{IsForeign as IsForeignIntent};
 ghost use Rattle.journal_view.specs.Found.{Finds, FindsAll, CanFind, IsOpenable, Reopened};
 ghost use Rattle.journal_view.specs.View.{told, Quiet, FindsOnly};
 ghost use Rattle.office_model.specs.declared.event.Event.TheVariants.{Reopen};
-ghost use Rattle.office_model.specs.Office.{Office};
+ghost use Rattle.office_model.specs.Office.{Durable};
 ghost use Rattle.office_model.specs.Step.{State};
 ghost use Rattle.store_parts.specs.Held.{MayBe};
 ghost use Rattle.store_parts.specs.States.{InState};
@@ -65,8 +65,8 @@ fn begin_again<D: Disk, N: Namer>(
     journal: &mut Journal<D>,
     namer: N,
 ) -> Result<Found<N>, OpenRefusal>
-    ensures begins { (a b : Office) → MayBe N.digest_of journal.old a b → Begins a b result journal.new }
-    ensures crash { (a b : Office) → MayBe N.digest_of journal.old a b → FindsOnly journal.old journal.new (MayLeave N.digest_of a b) }
+    ensures begins { (a b : Durable) → MayBe N.digest_of journal.old a b → Begins a b result journal.new }
+    ensures crash { (a b : Durable) → MayBe N.digest_of journal.old a b → FindsOnly journal.old journal.new (MayLeave N.digest_of a b) }
     ensures quiet { IfErr result (λ refusal. IsPlain refusal → journal.old.halted ≡ false → is_some (told journal.old) ≡ true → Quiet journal.old journal.new) }
     ensures foreign { IfErr result (SaysWhy (D.files journal.old.disk) (D.files journal.new.disk)) }
     ensures counted { Counted (D.fault_count journal.old.disk) (D.fault_count journal.new.disk) (IsErrOf result OpenRefusal.DiskFault) }

@@ -3,7 +3,7 @@
 ghost use Rattle.std.specs.Prelude.{◌≡◌, ◌<◌, false, List, ℕ, Option, IfOk, IfErr, OnOk, Err, IsErrOf};
 ghost use Rattle.fault_counts.specs.Counts.{Counted};
 ghost use Rattle.journal_view.specs.View.{told, Quiet, FindsOnly};
-ghost use Rattle.office_model.specs.Office.{Office, Names, reopened};
+ghost use Rattle.office_model.specs.Office.{Durable, Names, raised};
 ghost use Rattle.store_parts.specs.Held.{IsStored};
 ghost use Rattle.store_opening.specs.Recovers.{Holds, IsHeld, Looks, SaysForeign};
 ghost use Rattle.store_opening.specs.Begins.{MayLeave, Begins};
@@ -27,11 +27,11 @@ fn raise<D: Disk, N: Namer>(
 ) -> Result<(), JournalFault>
     requires ready { journal.old.halted ≡ false }
     requires room { found.old.catalog.epoch < 18446744073709551615 }
-    ensures ok { OnOk result ((office : Office) (names : Names) → IsHeld journal.old found.old.pool found.old.catalog found.old.counts office names
-        → IsHeld journal.new found.new.pool found.new.catalog found.new.counts (reopened office) names) }
+    ensures ok { OnOk result ((office : Durable) (names : Names) → IsHeld journal.old found.old.pool found.old.catalog found.old.counts office names
+        → IsHeld journal.new found.new.pool found.new.catalog found.new.counts (raised office) names) }
     ensures pool { found.new.pool ≡ found.old.pool }
-    ensures looks { (office : Office) (names : Names) → IsStored journal.old found.old.pool found.old.catalog office names
-        → Looks N.digest_of journal.old journal.new office (reopened office) }
+    ensures looks { (office : Durable) (names : Names) → IsStored journal.old found.old.pool found.old.catalog office names
+        → Looks N.digest_of journal.old journal.new office (raised office) }
     ensures memory { result ≡ Err JournalFault.Memory → Quiet journal.old journal.new }
     ensures running { result ≡ Err JournalFault.Halted → ⊥ }
     ensures counted { Counted (D.fault_count journal.old.disk) (D.fault_count journal.new.disk) (result ≡ Err JournalFault.Disk) }
@@ -59,8 +59,8 @@ pub(crate) fn begin<D: Disk, N: Namer>(
     namer: N,
 ) -> Result<Found<N>, OpenRefusal>
     requires { journal.old.halted ≡ false }
-    ensures begins { (a b : Office) → Holds N.digest_of journal.old a b → Begins a b result journal.new }
-    ensures crash { (a b : Office) → Holds N.digest_of journal.old a b → FindsOnly journal.old journal.new (MayLeave N.digest_of a b) }
+    ensures begins { (a b : Durable) → Holds N.digest_of journal.old a b → Begins a b result journal.new }
+    ensures crash { (a b : Durable) → Holds N.digest_of journal.old a b → FindsOnly journal.old journal.new (MayLeave N.digest_of a b) }
     ensures quiet { IfErr result (λ refusal. (refusal ≡ OpenRefusal.DiskFault → ⊥) → Quiet journal.old journal.new) }
     ensures foreign { IfErr result (SaysForeign (told journal.old)) }
     ensures counted { Counted (D.fault_count journal.old.disk) (D.fault_count journal.new.disk) (IsErrOf result OpenRefusal.DiskFault) }

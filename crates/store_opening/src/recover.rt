@@ -12,7 +12,7 @@ ghost use Rattle.pool_store.specs.Opening.{AreFresh};
 ghost use Rattle.pool_store.specs.Complete.{HaveFiles};
 ghost use Rattle.office_catalog.specs.Held.{HoldsCatalog, IsForeign as IsForeignToCatalog};
 ghost use Rattle.office_catalog.specs.Known.{Known};
-ghost use Rattle.office_model.specs.Office.{Office};
+ghost use Rattle.office_model.specs.Office.{Durable};
 ghost use Rattle.office_files.specs.Stands.{StandsFor};
 ghost use Rattle.host_counts.specs.Held.{AreTold};
 ghost use Rattle.store_opening.specs.Strays.{HasNoStray};
@@ -103,7 +103,7 @@ fn read_hosts<D: Disk>(alloc: Global, journal: &mut Journal<D>) -> Result<HeldHo
     ensures counts { IfOk result (λ hosts. (all : Files) → told journal.old ≡ Some all → AreTold all (length hosts.catalog.hosts) hosts.counts) }
     ensures foreign { IfErr result (λ refusal. (file : File) (found : Option (List ℕ)) → refusal ≡ OpenRefusal.Foreign file found
         → IsForeignToCatalog (told journal.old) file found ⊎ ((all : Files) → told journal.old ≡ Some all → IsWithoutCounts all file found)) }
-    ensures complete { IfErr result (λ refusal. (digest_of : List ℕ → List ℕ) (all : Files) (office : Office) → told journal.old ≡ Some all
+    ensures complete { IfErr result (λ refusal. (digest_of : List ℕ → List ℕ) (all : Files) (office : Durable) → told journal.old ≡ Some all
         → StandsFor digest_of all office → (file : File) (found : Option (List ℕ)) → refusal ≡ OpenRefusal.Foreign file found → ⊥) }
     ensures kind { IfErr result (λ refusal. refusal ≡ OpenRefusal.EpochsSpent → ⊥) }
     ensures quiet { Quiet journal.old journal.new }
@@ -131,7 +131,7 @@ fn read_parts<D: Disk, N: Namer>(
     ensures catalog { IfOk result (λ found. (all : Files) → told journal.old ≡ Some all → HoldsCatalog all found.catalog) }
     ensures counts { IfOk result (λ found. (all : Files) → told journal.old ≡ Some all → AreTold all (length found.catalog.hosts) found.counts) }
     ensures foreign { IfErr result (SaysForeign (told journal.old)) }
-    ensures known { IfErr result (λ refusal. (a b : Office) → Holds N.digest_of journal.old a b
+    ensures known { IfErr result (λ refusal. (a b : Durable) → Holds N.digest_of journal.old a b
         → (file : File) (found : Option (List ℕ)) → refusal ≡ OpenRefusal.Foreign file found → ⊥) }
     ensures kind { IfErr result (λ refusal. refusal ≡ OpenRefusal.EpochsSpent → ⊥) }
     ensures quiet { Quiet journal.old journal.new }
@@ -161,10 +161,10 @@ pub(crate) fn recover<D: Disk, N: Namer>(
     namer: N,
 ) -> Result<Found<N>, OpenRefusal>
     requires { journal.old.halted ≡ false }
-    ensures recovers { IfOk result (λ found. (a b : Office) → Holds N.digest_of journal.old a b → Recovers journal.new found a b) }
+    ensures recovers { IfOk result (λ found. (a b : Durable) → Holds N.digest_of journal.old a b → Recovers journal.new found a b) }
     ensures whole { IfOk result (λ found. (all : Files) → told journal.old ≡ Some all → HoldsCatalog all found.catalog × HasNoStray found.catalog all) }
     ensures foreign { IfErr result (SaysForeign (told journal.old)) }
-    ensures known { IfErr result (λ refusal. (a b : Office) → Holds N.digest_of journal.old a b
+    ensures known { IfErr result (λ refusal. (a b : Durable) → Holds N.digest_of journal.old a b
         → (file : File) (found : Option (List ℕ)) → refusal ≡ OpenRefusal.Foreign file found → ⊥) }
     ensures kind { IfErr result (λ refusal. refusal ≡ OpenRefusal.EpochsSpent → ⊥) }
     ensures quiet { Quiet journal.old journal.new }

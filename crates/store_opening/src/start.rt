@@ -8,7 +8,7 @@ ghost use Rattle.disk_trait.specs.Files.{Files};
 ghost use Rattle.disk_trait.specs.Images.{Leaves};
 ghost use Rattle.intent_journal.specs.Overlay.{IsForeign as IsForeignIntent};
 ghost use Rattle.journal_view.specs.Found.{seen, Finds, FindsAll, CanFind, IsOpenable, Reopened};
-ghost use Rattle.office_model.specs.Office.{Office};
+ghost use Rattle.office_model.specs.Office.{Durable};
 ghost use Rattle.store_opening.specs.Recovers.{Holds, SaysForeign, SaysWhy};
 ghost use Rattle.store_opening.specs.Begins.{MayLeave, Begins};
 ghost use Rattle.store_opening.specs.Reopens.{IsOfFound};
@@ -74,12 +74,12 @@ fn start<D: Disk, N: Namer>(
     namer: N,
 ) -> Result<StoreParts<D, N>, (D, OpenRefusal)>
     requires { journal.halted ≡ false }
-    ensures opened { IfOk result (λ parts. (a b : Office) → Holds N.digest_of journal a b → Opened a b parts) }
-    ensures left { IfErr result (λ refused. (a b : Office) → Holds N.digest_of journal a b
+    ensures opened { IfOk result (λ parts. (a b : Durable) → Holds N.digest_of journal a b → Opened a b parts) }
+    ensures left { IfErr result (λ refused. (a b : Durable) → Holds N.digest_of journal a b
         → Left N.digest_of (D.files refused.0) (D.uncertain refused.0) a b refused.1) }
-    ensures crash { IfOk result (λ parts. (a b : Office) → Holds N.digest_of journal a b
+    ensures crash { IfOk result (λ parts. (a b : Durable) → Holds N.digest_of journal a b
         → Leaves D.moment D.left_since journal.disk parts.journal.disk (Finds (MayLeave N.digest_of a b))) }
-    ensures left_crash { IfErr result (λ refused. (a b : Office) → Holds N.digest_of journal a b
+    ensures left_crash { IfErr result (λ refused. (a b : Durable) → Holds N.digest_of journal a b
         → Leaves D.moment D.left_since journal.disk refused.0 (Finds (MayLeave N.digest_of a b))) }
     ensures foreign { IfErr result (λ refused. SaysForeign (option_map seen (D.files refused.0)) refused.1) }
     ensures counted { IfOk result (λ parts. D.fault_count parts.journal.disk ≡ D.fault_count journal.disk) }
@@ -102,12 +102,12 @@ pub fn open<D: Disk, N: Namer>(
     disk: D,
     namer: N,
 ) -> Result<StoreParts<D, N>, (D, OpenRefusal)>
-    ensures opened { IfOk result (λ parts. (a b : Office) → IsOf N.digest_of (D.files disk) (D.uncertain disk) a b → Opened a b parts) }
-    ensures left { IfErr result (λ refused. (a b : Office) → IsOf N.digest_of (D.files disk) (D.uncertain disk) a b
+    ensures opened { IfOk result (λ parts. (a b : Durable) → IsOf N.digest_of (D.files disk) (D.uncertain disk) a b → Opened a b parts) }
+    ensures left { IfErr result (λ refused. (a b : Durable) → IsOf N.digest_of (D.files disk) (D.uncertain disk) a b
         → Left N.digest_of (D.files refused.0) (D.uncertain refused.0) a b refused.1) }
-    ensures crash { IfOk result (λ parts. (a b : Office) → IsOf N.digest_of (D.files disk) (D.uncertain disk) a b
+    ensures crash { IfOk result (λ parts. (a b : Durable) → IsOf N.digest_of (D.files disk) (D.uncertain disk) a b
         → Leaves D.moment D.left_since disk parts.journal.disk (Finds (MayLeave N.digest_of a b))) }
-    ensures left_crash { IfErr result (λ refused. (a b : Office) → IsOf N.digest_of (D.files disk) (D.uncertain disk) a b
+    ensures left_crash { IfErr result (λ refused. (a b : Durable) → IsOf N.digest_of (D.files disk) (D.uncertain disk) a b
         → Leaves D.moment D.left_since disk refused.0 (Finds (MayLeave N.digest_of a b))) }
     ensures foreign { IfErr result (λ refused. SaysWhy (D.files disk) (D.files refused.0) refused.1) }
     ensures counted { IfOk result (λ parts. D.fault_count parts.journal.disk ≡ D.fault_count disk) }

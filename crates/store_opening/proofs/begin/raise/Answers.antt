@@ -1,9 +1,9 @@
 use Rattle.store_opening.proofs.Raising.{looks_still, held_raised, looks_raised}
-use Rattle.office_model.specs.Office.{reopened}
+use Rattle.office_model.specs.Office.{raised}
 use Rattle.store_opening.proofs.begin.raise.Goals as goal
 
 pub returns-in-Err-clause-looks : goal.returns-in-Err-clause-looks
-returns-in-Err-clause-looks g c = λ office names at. looks_still c.args.journal.now _ _ office names at (reopened office)
+returns-in-Err-clause-looks g c = λ office names at. looks_still c.args.journal.now _ _ office names at (raised office)
 
 pub returns-in-Ok-commit-clause-ok : goal.returns-in-Ok-commit-clause-ok
 returns-in-Ok-commit-clause-ok g c = λ office names held.
