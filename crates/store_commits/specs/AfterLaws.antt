@@ -27,12 +27,11 @@ use Rattle.open_sessions.specs.declared.sessions.OpenDump.{OpenDump}
 use Rattle.open_sessions.specs.SessionLaws.{pairs_set}
 use Rattle.office_catalog.specs.Held.{HoldsCatalog}
 use Rattle.office_catalog.specs.Known.{Known, with_line}
-use Rattle.office_model.specs.Office.{Office, Host, Names, IsSound, IsSoundHost, backup_index}
+use Rattle.office_model.specs.Office.{Office, Durable, Host, Names, IsSound, IsSoundDurable, IsSoundHost, backup_index}
 use Rattle.office_model.specs.Places.{slice_get-set_same}
 use Rattle.office_model.specs.Parts.{lines_of}
 use Rattle.office_model.specs.Pool.{Pool, with_tree}
 use Rattle.office_model.specs.events.Commit.{new_line, new_backup, with_commit}
-use Rattle.office_model.specs.laws.SoundLaws.{IsSound-closed}
 use Rattle.office_files.specs.Hosts.{index_of_host, IsShown, StandsHost}
 use Rattle.office_files.specs.Layouts.{IsHostFile}
 use Rattle.office_files.specs.Owners.{has_backup}
@@ -227,7 +226,7 @@ module _ {D N S : Type 0} {d : DiskGhosts D} {n : NamerGhosts N S} where
         was : TellsBuckets next (applied pooled at.all)
         was = subst (λ s. TellsBuckets (index_of s) (applied pooled at.all)) relisted (planned.built.leads.leads at.all at.tells)
 
-    abbrev with_pool : Pool → Office
+    abbrev with_pool : Pool → Durable
     with_pool pool = record office.durable { hosts = slice_set office.hosts number new; pool = pool }
 
     stands : Stands n.digest_of next (slice_set at.backups number host_then.after) image (with_pool (with_tree office.pool m.dump.tree))
@@ -235,8 +234,7 @@ module _ {D N S : Type 0} {d : DiskGhosts D} {n : NamerGhosts N S} where
         (sym m.is.tree)
         (office_committed n.digest_of (slots parts) (uncertain parts.journal) at.all at.fits rows m.is.tree_rows.told at.backups image
         office.durable number m.host new host_then.after contents_are m.here refl stays host_then.beyond host_then.stands tells
-        (subst (λ tree. IsSound (with_pool (with_tree office.pool tree))) m.is.tree
-        (IsSound-closed (office_after office place m.dump m.host now) office.epoch sound)) at.stands)
+        (subst (λ tree. IsSoundDurable (with_pool (with_tree office.pool tree))) m.is.tree sound.kept) at.stands)
 
     pub stored_after : IsStoredAfter parts at.all (ids_in rows) plan.changes (slice_set parts.counts number planned.counts)
         (office_after office place m.dump m.host now)

@@ -57,7 +57,7 @@ step_planned : (office : Office) (names : Names) (name : SessionName) (now : ℕ
     → (refusal ≡ DiskFault) ⊎ (refusal ≡ Memory) → IsStep (Running office names) (Commit name now) (Err refusal) (Running office names)
 step_planned office names name now refusal distinct (inl e) =
     subst (λ (r : Refusal). IsStep (Running office names) (Commit name now) (Err r) (Running office names)) (sym e)
-    ((may_fault ((meaning_of (Commit name now)).carried office names), tt, refl), refl, refl)
+    ((may_fault ((meaning_of (Commit name now)).carried office names), tt, refl), refl)
 step_planned office names name now refusal distinct (inr e) =
     subst (λ (r : Refusal). IsStep (Running office names) (Commit name now) (Err r) (Running office names)) (sym e)
     (step_memory office names (Commit name now) distinct)

@@ -29,10 +29,11 @@ use Rattle.office_model.specs.declared.answer.Answer.TheVariants.{Committed}
 use Rattle.office_model.specs.declared.event.Event.TheVariants.{Commit}
 use Rattle.office_model.specs.declared.refusal.BrokenRule.TheVariants.{NoSession}
 use Rattle.office_model.specs.declared.refusal.Refusal.{Refusal}
-use Rattle.office_model.specs.Office.{Office, Names, IsSound, dump_index, with_dumps}
+use Rattle.office_model.specs.Office.{Office, Names, dump_index}
+use Rattle.office_model.specs.UsedNames.{AreSound}
 use Rattle.office_model.specs.Parts.{dump_at}
 use Rattle.office_model.specs.laws.Judging.{at_found}
-use Rattle.office_model.specs.laws.StepLaws.{IsSound-carried}
+use Rattle.office_model.specs.laws.StateLaws.{AreSound-carried}
 use Rattle.office_model.specs.events.Commit as CommitEvent
 use Rattle.office_files.specs.Hosts.{index_of_host}
 use Rattle.office_files.specs.Pooled.{contents_of}
@@ -82,7 +83,7 @@ module _ {D N S : Type 0} {d : DiskGhosts D} {n : NamerGhosts N S} where
       pub m : IsMeant old place session office names at
       pub judged : CommitEvent.carried name now office
           ≡ Ok (record { answer = Committed m.host.next; after = office_after office place m.dump m.host now })
-      pub sound : IsSound (office_after office place m.dump m.host now)
+      pub sound : AreSound (office_after office place m.dump m.host now) names
       pub stored : IsStoredAfter old at.all (ids_in session.tree) plan.changes (slice_set old.counts m.dump.host planned.counts)
           (office_after office place m.dump m.host now)
 
@@ -94,14 +95,14 @@ module _ {D N S : Type 0} {d : DiskGhosts D} {n : NamerGhosts N S} where
         m.there in
         let judged : CommitEvent.carried name now office
         ≡ Ok (record { answer = Committed m.host.next; after = office_after office place m.dump m.host now }) = rw (is_at, m.here) refl in
-        let sound : IsSound (office_after office place m.dump m.host now) =
-        IsSound-carried office names (Commit name now)
-        (record { answer = Committed m.host.next; after = office_after office place m.dump m.host now }) at.sound judged in
+        let sound : AreSound (office_after office place m.dump m.host now) names =
+        AreSound-carried office names (Commit name now)
+        (record { answer = Committed m.host.next; after = office_after office place m.dump m.host now }) names at.sound judged refl in
         record {
           m = m;
           judged = judged;
           sound = sound;
-          stored = stored_after old place session now plan office names at planned m sound;
+          stored = stored_after old place session now plan office names at planned m sound.office;
         }
 
     leads_to : (office : Office) (names : Names) (at : IsRunning old office names) → IsStep office names at
@@ -186,10 +187,11 @@ module _ {D N S : Type 0} {d : DiskGhosts D} {n : NamerGhosts N S} where
       sequence_is = f.sequence ∙ ap (λ (s : Sessions S). s.sequence) w.sessions_same
 
       sessions_after : (office : Office) (names : Names) (at : IsRunning old office names)
-          → AreSessions n.holds (given (slots old)) (contents_of at.all) (with_dumps office (remove office.dumps place)) new.sessions
+          → AreSessions n.holds (given (slots old)) (contents_of at.all) (record office.volatile { dumps = remove office.dumps place })
+          new.sessions
       sessions_after office names at =
-          AreSessions-dump_taken old.sessions new.sessions restores_are n.holds (given (slots old)) (contents_of at.all) office at.sessions place
-          dumps_are sequence_is
+          AreSessions-dump_taken old.sessions new.sessions restores_are n.holds (given (slots old)) (contents_of at.all) office.volatile
+          at.sessions place dumps_are sequence_is
 
       counts_after : (office : Office) (names : Names) (at : IsRunning old office names) (m : IsMeant old place session office names at)
           → new.counts ≡ slice_set old.counts m.dump.host planned.counts
@@ -200,13 +202,12 @@ module _ {D N S : Type 0} {d : DiskGhosts D} {n : NamerGhosts N S} where
       running_after : (office : Office) (names : Names) (at : IsRunning old office names) (s : IsStep office names at)
           → IsRunning new (office_after office place s.m.dump s.m.host now) names
       running_after office names at s =
-          let taken = sessions_after office names at in
           running_committed old mid new office (office_after office place s.m.dump s.m.host now) names at plan.changes done w
           (planned_changes old session now plan planned) (ids_in session.tree) (claims_of_dump session) s.stored.backups
           (record { go = go office names at }) f.form
           (λ id. claims_in-dump_taken old.sessions new.sessions restores_are id place session there dumps_are)
           s.stored.stands s.stored.tells
-          (record { dumps = taken.dumps; restores = taken.restores; sequence = taken.sequence })
+          (sessions_after office names at)
           (subst (λ (v : Views). IsKeptView v.kept (office_after office place s.m.dump s.m.host now).hosts s.stored.backups)
           (sym (f.views ∙ w.views_same)) s.stored.view)
           (subst (λ (c : List Items). AreCountsOf c s.stored.backups) (sym (counts_after office names at s.m)) s.stored.counted)

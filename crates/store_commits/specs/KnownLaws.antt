@@ -6,7 +6,7 @@ use Rattle.std.proofs.Common.{ap, ◌∙◌, subst, arith}
 use Rattle.backup_rules.specs.declared.lines.Line.{Line}
 use Rattle.backup_index.specs.Index.{Index}
 use Rattle.office_catalog.specs.Known.{Known, known_of, changed_at, with_change, with_line}
-use Rattle.office_model.specs.Office.{Office, Host, Dump}
+use Rattle.office_model.specs.Office.{Durable, Host, Dump}
 use Rattle.office_model.specs.Parts.{lines_of}
 use Rattle.office_model.specs.events.Commit.{new_line, with_commit}
 use Rattle.office_files.specs.Hosts.{index_of_host}
@@ -51,7 +51,7 @@ module _ (f : Index → Index) (host new : Host) where
       let k : p ≡ 0 + p = omega arith in
       replaced_from 0 p hosts here (subst (λ (m : ℕ). f (index_of_host m host) ≡ index_of_host m new) k is)
 
-pub catalog_committed : (known : Known) (office : Office) (p : ℕ) (host : Host) (dump : Dump) (now : ℕ) (line : Line)
+pub catalog_committed : (known : Known) (office : Durable) (p : ℕ) (host : Host) (dump : Dump) (now : ℕ) (line : Line)
     (dropped : Option Line) → known ≡ known_of_office office → slice_get office.hosts p ≡ Some host → line ≡ new_line host dump now
     → dropped ≡ dropped_of host.rules (lines_of host.backups)
     → with_change known p (with_line line (not (is_some dropped)))

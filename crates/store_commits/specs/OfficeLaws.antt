@@ -18,7 +18,7 @@ use Rattle.merge_view.specs.Views.{Rows}
 use Rattle.stored_trees.specs.Resolved.{resolved, AreTold, IsOneToOne}
 use Rattle.ref_counts.specs.Stored.{Backup as StoredBackup}
 use Rattle.office_model.specs.Pool.{with_tree}
-use Rattle.office_model.specs.Office.{Office, Host, IsSound, backup_index, with_hosts, with_pool}
+use Rattle.office_model.specs.Office.{Durable, Host, IsSoundDurable, backup_index}
 use Rattle.office_files.specs.Pooled.{contents_of, IsListed}
 use Rattle.office_files.specs.Hosts.{StandsHost}
 use Rattle.office_files.specs.Stands.{Stands}
@@ -47,19 +47,19 @@ module _ (digest_of : List ℕ → List ℕ) (slots : Slots) (out : FileSet) (al
       (λ id named. given_size digest_of slots out all fits id
       (named_given (λ id. is_given (slots id) ≡ true) (contents_of all) id rows told named))
 
-  pub office_committed : (backups : List (List StoredBackup)) (image : Files) (office : Office) (number : ℕ) (host new : Host)
+  pub office_committed : (backups : List (List StoredBackup)) (image : Files) (office : Durable) (number : ℕ) (host new : Host)
       (shown : List StoredBackup) → contents_of image ≡ contents_of all → slice_get office.hosts number ≡ Some host → new.name ≡ host.name
       → ((file : FileId) → is_metadata file ≡ true → is_of_host number file ≡ false → is_of_index file ≡ false → image file ≡ all file)
       → ((n : ℕ) → is_some (backup_index new.backups n) ≡ false → image (F.Table number n) ≡ None)
       → StandsHost (IsListed (index_of (with_added (ids_in rows) slots))) (contents_of image) image number new shown
       → TellsBuckets (index_of (with_added (ids_in rows) slots)) image
-      → IsSound (with_pool (with_hosts office (slice_set office.hosts number new)) (with_tree office.pool (resolved (contents_of all) rows)))
+      → IsSoundDurable (record office { hosts = slice_set office.hosts number new; pool = with_tree office.pool (resolved (contents_of all) rows) })
       → Stands digest_of (index_of slots) backups all office
       → Stands digest_of (index_of (with_added (ids_in rows) slots)) (slice_set backups number shown) image
-      (with_pool (with_hosts office (slice_set office.hosts number new)) (with_tree office.pool (resolved (contents_of all) rows)))
+      (record office { hosts = slice_set office.hosts number new; pool = with_tree office.pool (resolved (contents_of all) rows) })
   office_committed backups image office number host new shown same here name stays none stands_new tells sound stands =
       subst (λ (c : PoolId → List ℕ). Stands digest_of (index_of (with_added (ids_in rows) slots)) (slice_set backups number shown) image
-      (with_pool (with_hosts office (slice_set office.hosts number new)) (with_tree office.pool (resolved c rows)))) same
+      (record office { hosts = slice_set office.hosts number new; pool = with_tree office.pool (resolved c rows) })) same
       (commit_stands digest_of (index_of slots) (index_of (with_added (ids_in rows) slots)) backups all image office number host new shown rows
       (λ id. is_given (slots id) ≡ true) here name stays
       (λ id listed. (live_given (slots id) (listed_live slots id listed), sym (ap (λ (c : PoolId → List ℕ). c id) same)))
@@ -68,5 +68,8 @@ module _ (digest_of : List ℕ → List ℕ) (slots : Slots) (out : FileSet) (al
       (subst (λ (c : PoolId → List ℕ). AreTold (λ id. is_given (slots id) ≡ true) c rows) (sym same) told)
       (subst (λ (c : PoolId → List ℕ). IsOneToOne (λ id. is_given (slots id) ≡ true) c) (sym same) (given_one digest_of slots out all fits))
       (λ id g. given_digest digest_of slots out all fits id g ∙ ap (λ (c : PoolId → List ℕ). digest_of (c id)) (sym same))
-      (subst (λ (c : PoolId → List ℕ). IsSound (with_pool (with_hosts office (slice_set office.hosts number new)) (with_tree office.pool (resolved c rows))))
+      (subst (λ (c : PoolId → List ℕ). IsSoundDurable (record office {
+        hosts = slice_set office.hosts number new;
+        pool = with_tree office.pool (resolved c rows);
+      }))
       (sym same) sound) stands)

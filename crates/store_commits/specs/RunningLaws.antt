@@ -22,7 +22,8 @@ use Rattle.pool_store.specs.Accepted.{fits_accepted}
 use Rattle.ref_counts.specs.Stored.{Backup as StoredBackup}
 use Rattle.open_sessions.specs.Opened.{AreSessions, claims_in}
 use Rattle.open_sessions.specs.SessionLaws.{AreSessions-claimed}
-use Rattle.office_model.specs.Office.{Office, Names, IsSound}
+use Rattle.office_model.specs.Office.{Office, Names}
+use Rattle.office_model.specs.UsedNames.{AreSound}
 use Rattle.office_files.specs.Pooled.{contents_of}
 use Rattle.office_files.specs.Stands.{Stands}
 use Rattle.office_known.specs.KnownLaws.{known_of_office}
@@ -74,8 +75,8 @@ module _ {D N S : Type 0} {d : DiskGhosts D} {n : NamerGhosts N S} where
         → ((id : PoolId) → claims_in new.sessions id + count id ≡ claims_in old.sessions id)
         → Stands n.digest_of (index_of (with_added ids (slots old))) backups (applied changes at.all) after.durable
         → TellsIn false (index_of (with_added ids (slots old))) (applied changes at.all)
-        → AreSessions n.holds (given (slots old)) (contents_of at.all) after new.sessions
-        → IsKeptView new.views.kept after.hosts backups → AreCountsOf new.counts backups → IsSound after
+        → AreSessions n.holds (given (slots old)) (contents_of at.all) after.volatile new.sessions
+        → IsKeptView new.views.kept after.hosts backups → AreCountsOf new.counts backups → AreSound after names
         → new.journal ≡ mid.journal → new.catalog ≡ known_of_office after.durable → new.halted ≡ mid.halted → IsRunning new after names
     running_committed accepted form claims stands tells sessions view counted sound journal catalog halted = record {
       working = record {
@@ -102,7 +103,7 @@ module _ {D N S : Type 0} {d : DiskGhosts D} {n : NamerGhosts N S} where
         };
         counted = counted;
         sessions = AreSessions-claimed n.holds (given (slots old)) (contents_of at.all) (given (slots new)) (contents_of (applied changes at.all))
-            after new.sessions
+            after.volatile new.sessions
             (λ id g some. (
               accepted_given ids count (slots old) (slots new) accepted id g (subst (λ (m : ℕ). 0 < m) (sym (claimed id)) some),
               sym (ap (λ (c : PoolId → List ℕ). c id) (contents_written changes at.all are)),
