@@ -54,7 +54,7 @@ use Rattle.office_model.specs.Step.{Running, IsStep, meaning_of}
 use Rattle.office_model.specs.events.Clean as CleanEvent
 use Rattle.office_model.specs.events.Clean.{is_protected, in_bucket}
 use Rattle.office_model.specs.laws.CleanLaws.{IsSound-cleaned}
-use Rattle.office_model.specs.laws.SoundLaws.{IsSound-closed}
+use Rattle.office_model.specs.laws.StateLaws.{AreSound-carried}
 use Rattle.office_files.specs.Pooled.{contents_of, IsListed, HasNoIndex}
 use Rattle.office_files.specs.Stands.{Stands}
 use Rattle.office_changes.specs.BridgeLaws.{protected_counted}
@@ -149,7 +149,7 @@ module _ {D N S : Type 0} {d : DiskGhosts D} {n : NamerGhosts N S} where
       let hosted = protected_counted n.digest_of (index_of (slots parts)) at.backups at.all office.durable at.stands id
       (ap is_some listed.0)
       ∙ sym (hosts_count id parts.counts at.backups at.counted) in
-      let opened = sessions_hold (given (slots parts)) (contents_of at.all) one id claimed.0 n.holds office parts.sessions at.sessions
+      let opened = sessions_hold (given (slots parts)) (contents_of at.all) one id claimed.0 n.holds office.volatile parts.sessions at.sessions
       ∙ ap (nat_lt 0) (sym (at.claimed id)) in
       (λ i. claimed.1 i || is_named parts.counts (listed.1 i))
       ∙ kept_by (in_hosts office.hosts content)
@@ -203,7 +203,6 @@ module _ {D N S : Type 0} {d : DiskGhosts D} {n : NamerGhosts N S} where
               after = with_pool office (pool i);
             })),
             refl,
-            refl,
           )
 
       -- ---- something does
@@ -251,7 +250,7 @@ module _ {D N S : Type 0} {d : DiskGhosts D} {n : NamerGhosts N S} where
               (applied cleaning.change.changes at.all) office.durable safe stays
               (λ id. applied_contents cleaning.change.changes at.all (F.Pool id) leads.are refl) headed index_cleaned
               (inr (leads.leads at.all at.tells))
-              (IsSound-closed (after_cleaning inside office) office.epoch (IsSound-cleaned office inside at.sound)) at.stands
+              (IsSound-cleaned office inside at.sound.office).kept at.stands
 
           leads_to : LeadsTo n.digest_of (Clean bucket) cleaning.change.changes office names at.all
           leads_to = record {
@@ -333,16 +332,16 @@ module _ {D N S : Type 0} {d : DiskGhosts D} {n : NamerGhosts N S} where
                   catalog_is = catalog ∙ at.catalog_is;
                 };
                 counted = subst (λ (cs : List Items). AreCountsOf cs at.backups) (sym counts) at.counted;
-                sessions = subst (λ (s : Sessions S). AreSessions n.holds (given (slots new)) (contents_of image) (after_cleaning inside office) s)
+                sessions = subst (λ (s : Sessions S). AreSessions n.holds (given (slots new)) (contents_of image) office.volatile s)
                     (sym sessions)
                     (AreSessions-claimed n.holds (given (slots old)) (contents_of at.all) (given (slots new)) (contents_of image)
-                    (after_cleaning inside office) old.sessions
+                    office.volatile old.sessions
                     (λ id g some. (
                       still_given id g (subst (λ (m : ℕ). 0 < m) (sym (at.claimed id)) some),
                       sym (ap (λ (c : PoolId → List ℕ). c id) (contents_written cleaning.change.changes at.all leads.are)),
-                    )) (record { dumps = at.sessions.dumps; restores = at.sessions.restores; sequence = at.sessions.sequence }));
+                    )) at.sessions);
                 view = subst (λ (v : Views). IsKeptView v.kept office.hosts at.backups) (sym views) at.view;
-                sound = IsSound-cleaned office inside at.sound;
+                sound = AreSound-carried office names (Clean bucket) (carried_by inside office) names at.sound judged refl;
               };
               claimed = claimed;
             }

@@ -262,11 +262,11 @@ module _ {D N S : Type 0} {d : DiskGhosts D} {n : NamerGhosts N S} where
         step = (
           refl,
           (
+            refl,
             (swept office names at).some,
             same_digest office names (names' office names at) (names' office names at).used refl
                 (all_swept new office (names' office names at) (running office names at) none),
           ),
-          refl,
         );
         undamaged = tt;
         in_state = running office names at;
@@ -281,7 +281,7 @@ module _ {D N S : Type 0} {d : DiskGhosts D} {n : NamerGhosts N S} where
     runs_unswept counted is = record {
       steps = λ office names at. record {
         next = Running office (names' office names at);
-        step = ((tt, tt, refl), (swept office names at).some, refl);
+        step = ((tt, tt, refl), (refl, (swept office names at).some));
         undamaged = tt;
         in_state = running office names at;
       };

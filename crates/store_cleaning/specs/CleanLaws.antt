@@ -44,7 +44,7 @@ use Rattle.open_sessions.specs.declared.sessions.Sessions.{Sessions}
 use Rattle.open_sessions.specs.Opened.{IsDump, IsRestore, AreSessions, base_of, claims_in, claims_in_dumps, claims_in_restores}
 use Rattle.pool_fate.specs.declared.fate.Fate.{Fate}
 use Rattle.pool_fate.specs.declared.fate.Fate.TheVariants.{Stays, Gains, Loses, Leaves}
-use Rattle.office_model.specs.Office.{Office, Dump, Restore, in_dumps, in_bases, in_restores}
+use Rattle.office_model.specs.Office.{Volatile, Dump, Restore, in_dumps, in_bases, in_restores}
 use Rattle.office_model.specs.Places.{Differ}
 use Rattle.office_model.specs.Pool.{Pool, byte_cmp, mark_of, holds, kept_as, fate, cleaned, fated}
 use Rattle.pool_fate.specs.Fates.{fate_of, mark_after, is_same_fate}
@@ -121,14 +121,14 @@ module _ (given : PoolId → Type 0) (contents : PoolId → List ℕ) (one : IsO
       (λ i. tree i || rest i) ∙ sym (above_sum (occurrences id s.rows) (claims_in_restores sessions id))
 
   -- an open dump's tree or base, or an open restore's tree
-  pub sessions_hold : {S : Type 0} (took_in : S → List ℕ → Type 0) (office : Office) (sessions : Sessions S)
-      → AreSessions took_in given contents office sessions
-      → (in_dumps office.dumps (contents id) || (in_bases office.dumps (contents id) || in_restores office.restores (contents id)))
+  pub sessions_hold : {S : Type 0} (took_in : S → List ℕ → Type 0) (now : Volatile) (sessions : Sessions S)
+      → AreSessions took_in given contents now sessions
+      → (in_dumps now.dumps (contents id) || (in_bases now.dumps (contents id) || in_restores now.restores (contents id)))
       ≡ nat_lt 0 (claims_in sessions id)
-  sessions_hold took_in office sessions are =
-      let dumps = dumps_hold office.dumps sessions.dumps.items are.dumps in
-      let restores = restores_hold took_in office.restores sessions.restores.items are.restores in
-      assoc (in_dumps office.dumps (contents id)) (in_bases office.dumps (contents id)) (in_restores office.restores (contents id))
+  sessions_hold took_in now sessions are =
+      let dumps = dumps_hold now.dumps sessions.dumps.items are.dumps in
+      let restores = restores_hold took_in now.restores sessions.restores.items are.restores in
+      assoc (in_dumps now.dumps (contents id)) (in_bases now.dumps (contents id)) (in_restores now.restores (contents id))
       ∙ (λ i. dumps i || restores i)
       ∙ sym (above_sum (claims_in_dumps sessions.dumps.items id) (claims_in_restores sessions.restores.items id))
 

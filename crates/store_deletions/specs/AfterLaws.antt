@@ -2,7 +2,7 @@
 --     host_at_work      the host that it is of, as the parts hold it
 --     IsShortened, shortened      the files after it stand for the office after it; so do the catalog and the counts
 --     not_damaged, counts_of      none of the host's tables is damaged, and there are counts of it
-use Rattle.std.specs.Prelude.{◌≡◌, ◌≢◌, ◌⊎◌, ◌<◌, ℕ, zero, suc, List, [], ◌∷◌, length, Option, Some, slice_get, slice_set}
+use Rattle.std.specs.Prelude.{◌≡◌, ◌≢◌, ◌⊎◌, ◌<◌, ℕ, zero, suc, List, [], ◌∷◌, length, Option, Some, Ok, slice_get, slice_set}
 use Rattle.std.proofs.Common.{refl, sym, ap, ◌∙◌, subst, inl, inr, arith}
 use Rattle.std.proofs.lemmas.Option.{slice_get_within}
 use Rattle.disk_trait.specs.declared.ids.FileId.{FileId}
@@ -24,10 +24,13 @@ use Rattle.office_catalog.specs.Held.{HoldsCatalog}
 use Rattle.office_catalog.specs.Changed.{after}
 use Rattle.office_model.specs.declared.answer.Answer.{Answer}
 use Rattle.office_model.specs.declared.event.Event.{Event}
-use Rattle.office_model.specs.Office.{Office, Host, Backup, Names, IsSound, with_hosts}
+use Rattle.office_model.specs.Office.{Office, Host, Backup, Names, with_hosts}
 use Rattle.office_model.specs.Parts.{lines_of}
 use Rattle.office_model.specs.Places.{in_set}
-use Rattle.office_model.specs.laws.SoundLaws.{IsSound-closed, IsSound-carried}
+use Rattle.office_model.specs.Step.{meaning_of}
+use Rattle.office_model.specs.UsedNames.{AreSound, AreNamesAfter}
+use Rattle.office_model.specs.laws.StepLaws.{IsSound-carried}
+use Rattle.office_model.specs.laws.StateLaws.{AreSound-carried}
 use Rattle.office_files.specs.Pairs.{AtEachPair, other_at, pair_at}
 use Rattle.office_files.specs.Hosts.{index_of_host, StandsHost}
 use Rattle.office_files.specs.Pooled.{contents_of, IsListed}
@@ -134,7 +137,7 @@ module _ {D N S : Type 0} {d : DiskGhosts D} {n : NamerGhosts N S} where
     pub backups : List (List StoredBackup)
     pub stands : Stands n.digest_of (index_of (slots old)) backups (applied plan.changes all) after_it.durable
     pub counted : AreCountsOf (slice_set old.counts p plan.counts) backups
-    pub known : after plan.catalog old.catalog ≡ known_of_office after_it
+    pub known : after plan.catalog old.catalog ≡ known_of_office after_it.durable
 
   module _ (old : StoreParts D N S d n) (p : ℕ) (numbers : List ℕ) (items : Items) (plan : DeletionPlan)
       (has_items : slice_get old.counts p ≡ Some items) (planned : IsPlanned old.catalog (told old.journal) items p numbers plan)
@@ -154,8 +157,8 @@ module _ {D N S : Type 0} {d : DiskGhosts D} {n : NamerGhosts N S} where
         planned.deletes (index_of (slots old)) at.all host shown at.told_is
         (host_at_work old p office names at s.host s.is_host items has_items)
 
-    pub sound_then : IsSound office_then
-    sound_then = IsSound-carried office names event (record { answer = answer; after = office_then }) at.sound s.judged
+    pub sound_then : AreNamesAfter office names (meaning_of event) (Ok answer) names → AreSound office_then names
+    sound_then stay = AreSound-carried office names event (record { answer = answer; after = office_then }) names at.sound s.judged stay
 
     index_then : left_index numbers (index_of_host p host) ≡ index_of_host p (left_host numbers host)
     index_then =
@@ -168,7 +171,7 @@ module _ {D N S : Type 0} {d : DiskGhosts D} {n : NamerGhosts N S} where
       stands = deletion_stands n.digest_of (index_of (slots old)) at.backups at.all (applied plan.changes at.all) office.durable p host
           (left_host numbers host) numbers shown s.is_host refl (found old p office names at s.host s.is_host).1
           (λ file metadata other. planned.others at.all file other) (λ id listed. planned.others at.all (F.Pool id) refl) deletion
-          (IsSound-closed office_then office.epoch sound_then) at.stands;
+          (IsSound-carried office names event (record { answer = answer; after = office_then }) at.sound s.judged).kept at.stands;
       counted = pairs_set AreCounts old.counts at.backups p plan.counts (left_shown numbers host shown)
           (planned.counted (index_of (slots old)) at.all host shown at.told_is
           (host_at_work old p office names at s.host s.is_host items has_items)) at.counted;

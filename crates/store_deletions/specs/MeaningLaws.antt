@@ -16,11 +16,12 @@ use Rattle.office_model.specs.declared.answer.Answer.TheVariants.{Done, Expired}
 use Rattle.office_model.specs.declared.event.Event.TheVariants.{Delete, Expire}
 use Rattle.office_model.specs.declared.refusal.BrokenRule.{BrokenRule}
 use Rattle.office_model.specs.declared.refusal.BrokenRule.TheVariants.{NoHost, NoBackup, Kept}
-use Rattle.office_model.specs.Office.{Office, Host, Backup, Names, IsSound, IsSoundHost, backup_index, with_hosts}
+use Rattle.office_model.specs.Office.{Office, Host, Backup, Names, IsSoundHost, backup_index, with_hosts}
 use Rattle.office_model.specs.Meaning.{ReadsAndCommits, Reads, breaks}
 use Rattle.office_model.specs.Parts.{host_at, lines_of}
 use Rattle.office_model.specs.Places.{position-found}
 use Rattle.office_model.specs.Step.{meaning_of}
+use Rattle.office_model.specs.UsedNames.{AreSound}
 use Rattle.office_model.specs.laws.Judging.{at_found}
 use Rattle.office_model.specs.laws.ExpireLaws.{flags_fit}
 use Rattle.office_model.specs.events.Delete.{deletable}
@@ -192,7 +193,7 @@ module _ (known : Known) (name : List ℕ) (p : ℕ) (index : Index) (named : So
     pub judged : host_at office.hosts name ≡ Ok (record { index = p; value = host })
     pub index_is : index ≡ index_of_host p host
 
-  host_of : (office : Office) → known ≡ known_of_office office → IsOf office
+  host_of : (office : Office) → known ≡ known_of_office office.durable → IsOf office
   host_of office is =
       let w = named_host office.durable known name p is named in
       record {
@@ -203,7 +204,7 @@ module _ (known : Known) (name : List ℕ) (p : ℕ) (index : Index) (named : So
       }
 
   pub deleting_broken : (number : ℕ) (rule : BrokenRule) → Some rule ≡ broken_rule index.lines number
-      → (office : Office) (names : Names) → known ≡ known_of_office office
+      → (office : Office) (names : Names) → known ≡ known_of_office office.durable
       → (meaning_of (Delete name number)).carried office names ≡ Err rule
   deleting_broken number rule broken office names is =
       let h = host_of office is in
@@ -226,7 +227,7 @@ module _ (known : Known) (name : List ℕ) (p : ℕ) (index : Index) (named : So
   named_is office h now = ap (λ (i : Index). named_numbers i.rules now i.lines) h.index_is
 
   pub expiring_none : (now : ℕ) → named_numbers index.rules now index.lines ≡ []
-      → (office : Office) (names : Names) → known ≡ known_of_office office → IsSound office
+      → (office : Office) (names : Names) → known ≡ known_of_office office.durable → AreSound office names
       → (meaning_of (Expire name now)).carried office names ≡ Ok (record { answer = Expired 0; after = office })
   expiring_none now none office names is sound =
       let h = host_of office is in

@@ -27,11 +27,11 @@ use Rattle.office_model.specs.declared.event.Event.{Event}
 use Rattle.office_model.specs.declared.refusal.Refusal.{Refusal}
 use Rattle.office_model.specs.declared.refusal.Refusal.TheVariants as R
 use Rattle.office_model.specs.declared.refusal.BrokenRule.{BrokenRule}
-use Rattle.office_model.specs.Office.{Office, Names, IsSound, with_hosts}
+use Rattle.office_model.specs.Office.{Office, Names, with_hosts}
 use Rattle.office_model.specs.Meaning.{Carried, Judged, Touch, ReadsAndCommits}
 use Rattle.office_model.specs.Step.{Running, IsStep, MayFault, MayStay, IsAnswerTo, meaning_of}
 use Rattle.office_model.specs.History.{IsUndamaged}
-use Rattle.office_model.specs.UsedNames.{AreNamesAfter}
+use Rattle.office_model.specs.UsedNames.{AreSound, AreNamesAfter}
 use Rattle.office_known.specs.KnownLaws.{known_of_office}
 use Rattle.store_parts.specs.declared.parts.StoreParts.{StoreParts}
 use Rattle.store_parts.specs.Held.{IsKeptView, AreCountsOf}
@@ -87,11 +87,11 @@ early judged touch e = subst (λ (t : Touch). MayFault t judged × MayStay t) (s
     step (Err rule) = (refl, tt)
 
 step_faulted : (event : Event) (office : Office) (names : Names) → (meaning_of event).touches office names ≡ ReadsAndCommits
-    → AreNamesAfter office names event (Err R.DiskFault) names.used
+    → AreNamesAfter office names (meaning_of event) (Err R.DiskFault) names
     → IsStep (Running office names) event (Err R.DiskFault) (Running office names)
 step_faulted event office names touches stay =
     let may = early ((meaning_of event).carried office names) ((meaning_of event).touches office names) touches in
-    ((may.0, may.1, refl), stay, refl)
+    ((may.0, may.1, refl), stay)
 
 -- ---- a plan
 
@@ -245,7 +245,8 @@ module _ {D N S : Type 0} {d : DiskGhosts D} {n : NamerGhosts N S} where
             (subst (λ (k : Option KeptView). IsKeptView k (slice_set office.hosts p (left_host numbers s.host)) t.backups) (sym f.views) tt)
             (subst (λ (c : List Items). AreCountsOf c t.backups)
             (sym (f.counts ∙ ap (λ (c : List Items). slice_set c p plan.counts) w.counts_same)) t.counted)
-            (sound_then old p numbers items plan has_items planned office names at event answer s)
+            (sound_then old p numbers items plan has_items planned office names at event answer s
+            (shortening.stay office names (Ok answer)))
             f.journal f.pool (f.catalog ∙ ap (after plan.catalog) w.catalog_same ∙ t.known) f.sessions refl f.halted
 
         holds_then : (office : Office) (names : Names) (at : IsRunning old office names)
@@ -300,7 +301,7 @@ module _ {D N S : Type 0} {d : DiskGhosts D} {n : NamerGhosts N S} where
 
   -- a rule is broken, as the catalog tells
   pub runs_broken : (old : StoreParts D N S d n) (event : Event) (rule : BrokenRule)
-      → ((office : Office) (names : Names) → old.catalog ≡ known_of_office office → (meaning_of event).carried office names ≡ Err rule)
+      → ((office : Office) (names : Names) → old.catalog ≡ known_of_office office.durable → (meaning_of event).carried office names ≡ Err rule)
       → Runs old event (Err (R.Broken rule)) old
   runs_broken old event rule broken =
       runs_refused old old event rule (reads_still old) (λ office names at. broken office names at.catalog_is)
@@ -312,11 +313,11 @@ module _ {D N S : Type 0} {d : DiskGhosts D} {n : NamerGhosts N S} where
 
   -- nothing is to be done
   pub runs_still : (old : StoreParts D N S d n) (event : Event) (answer : Answer)
-      → ((office : Office) (names : Names) → old.catalog ≡ known_of_office office → IsSound office
+      → ((office : Office) (names : Names) → old.catalog ≡ known_of_office office.durable → AreSound office names
       → (meaning_of event).carried office names ≡ Ok (record { answer = answer; after = office }))
-      → ((office : Office) (names : Names) → AreNamesAfter office names event (Ok answer) names.used) → IsAnswerTo event answer
+      → ((office : Office) (names : Names) → AreNamesAfter office names (meaning_of event) (Ok answer) names) → IsAnswerTo event answer
       → Runs old event (Ok answer) old
   runs_still old event answer carried stay in_kind =
       runs_reads old old event (Ok answer) (reads_still old)
-      (λ office names at. (carried office names at.catalog_is at.sound, stay office names, refl)) (λ office names at. tt) in_kind
+      (λ office names at. (carried office names at.catalog_is at.sound, stay office names)) (λ office names at. tt) in_kind
       (counted_still (d.fault_count old.journal.disk) _ (λ e. absurd cc))

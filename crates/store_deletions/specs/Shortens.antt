@@ -16,10 +16,10 @@ use Rattle.office_model.specs.declared.event.Event.{Event}
 use Rattle.office_model.specs.declared.refusal.BrokenRule.{BrokenRule}
 use Rattle.office_model.specs.declared.refusal.BrokenRule.TheVariants.{NoBackup, Kept}
 use Rattle.office_model.specs.declared.refusal.Refusal.{Refusal}
-use Rattle.office_model.specs.Office.{Office, Host, Names, IsSound, with_hosts}
+use Rattle.office_model.specs.Office.{Office, Host, Names, with_hosts}
 use Rattle.office_model.specs.Meaning.{Reply, ReadsAndCommits, breaks}
 use Rattle.office_model.specs.Step.{IsAnswerTo, meaning_of}
-use Rattle.office_model.specs.UsedNames.{AreNamesAfter}
+use Rattle.office_model.specs.UsedNames.{AreSound, AreNamesAfter}
 use Rattle.office_known.specs.KnownLaws.{known_of_office}
 use Rattle.office_deletion.specs.ExpiryLaws.{flagged_numbers}
 use Rattle.store_deletions.specs.Planned.{left_host}
@@ -43,11 +43,11 @@ pub record Shortens (event : Event) (answer : Answer) (office : Office) (names :
       ≡ Ok (record { answer = answer; after = with_hosts office (slice_set office.hosts p (left_host numbers host)) })
   pub touches : (meaning_of event).touches office names ≡ ReadsAndCommits
 
--- it does so with any sound office of this catalog; the names that are in use stay
+-- it does so with any sound office of this catalog; the names stay
 pub record Shortening (known : Known) (event : Event) (answer : Answer) (p : ℕ) (numbers : List ℕ) : Type 0 where
-  pub each : (office : Office) (names : Names) → known ≡ known_of_office office → IsSound office
+  pub each : (office : Office) (names : Names) → known ≡ known_of_office office.durable → AreSound office names
       → Shortens event answer office names p numbers
-  pub stay : (office : Office) (names : Names) (reply : Reply) → AreNamesAfter office names event reply names.used
+  pub stay : (office : Office) (names : Names) (reply : Reply) → AreNamesAfter office names (meaning_of event) reply names
   pub in_kind : IsAnswerTo event answer
 
 -- the reply, if nothing is refused
