@@ -1,7 +1,7 @@
 -- Laws of the cleaning of a bucket.
 --     cleaning_after      the names behind the change of the wanted ones are the cleaned ones
 --     live_wanted, unclaimed_wanted      what a change asks of its names
-use Rattle.std.specs.Prelude.{◌≡◌, ℕ, ◌/◌, ◌==◌, nat_lt, Bool, true, false, not, ◌&&◌, ◌||◌, List, [], ◌∷◌, map, Option, Some, None, if◌then◌else◌}
+use Rattle.std.specs.Prelude.{◌≡◌, ℕ, ◌/◌, ◌==◌, nat_lt, Bool, true, false, ◌||◌, List, [], ◌∷◌, map, Option, Some, None, if◌then◌else◌}
 use Rattle.std.specs.declared.cmp.Ordering.TheVariants.{Less, Equal}
 use Rattle.std.specs.List.{AllByRecursion}
 use Rattle.std.specs.List.Sorted.{IsStrictlySortedBy}
@@ -200,8 +200,9 @@ module _ (slots : Slots) (hosts : List Items) where
   unclaimed_items [] are = tt
   unclaimed_items (item ∷ items) are = step (is_wanted Leaves (is_protected hosts item) item.mark) refl (unclaimed_items items are.1)
     where
-      free : (claimed named mark : Bool) → (not (claimed || named) && mark) ≡ true → claimed ≡ false
-      free true named mark e = absurd (false≢true e)
+      free : (claimed named mark : Bool) → is_wanted Leaves (claimed || named) mark ≡ true → claimed ≡ false
+      free true named true e = absurd (false≢true e)
+      free true named false e = absurd (false≢true e)
       free false named mark e = refl
 
       step : (w : Bool) → is_wanted Leaves (is_protected hosts item) item.mark ≡ w → AreUnclaimed slots (wanted_ids Leaves (is_protected hosts) items)

@@ -4,7 +4,7 @@
 --     is_wanted fate protected marked      whether a content has this fate
 --     wanted_ids fate protected items      the names of the contents that have it
 --     cleaned bucket hosts slots      the names of the pool afterwards
-use Rattle.std.specs.Prelude.{◌≡◌, ℕ, ◌/◌, ◌==◌, nat_lt, Bool, ◌||◌, List, [], ◌∷◌, length, Option, Some, None, if◌then◌else◌}
+use Rattle.std.specs.Prelude.{◌≡◌, ℕ, ◌/◌, ◌==◌, nat_lt, Bool, true, ◌||◌, List, [], ◌∷◌, length, Option, Some, None, if◌then◌else◌}
 use Rattle.std.specs.List.{list_any}
 use Rattle.disk_trait.specs.declared.ids.PoolId.{PoolId}
 use Rattle.pool_index.specs.Items.{byte_of}
