@@ -13,11 +13,11 @@ use Rattle.std.specs.Cmp.Lexicographic.{bytes_decides}
 use Rattle.intent_journal.specs.ChangesLaws.{either}
 use Rattle.std.specs.Cmp.Lexicographic.{slice_cmp}
 use Rattle.disk_trait.specs.declared.ids.PoolId.{PoolId}
-use Rattle.disk_trait.specs.declared.ids.FileId.{FileId}
 use Rattle.disk_trait.specs.declared.ids.FileId.TheVariants.{Head, Intent, Gate, Host, Table, Counts, PoolIndex, PoolBucket, Partial, Pool, Stage}
-use Rattle.disk_trait.specs.Names.{same_file, is_same_file-itself}
+use Rattle.disk_trait.specs.Names.{is_same_file-itself}
 use Rattle.disk_trait.specs.Images.{FileSet}
 use Rattle.pool_index.specs.Items.{id_cmp, is_same_id}
+pub use Rattle.pool_index.specs.ItemLaws.{one_id}
 use Rattle.pool_changes.specs.declared.slot.Slot.{Slot}
 use Rattle.pool_changes.specs.declared.slot.Slot.TheVariants.{Live, Staged, Doomed}
 
@@ -135,23 +135,6 @@ pub equal_of : (r : Ordering) → is_eq r ≡ true → r ≡ Equal
 equal_of Less e = absurd (cc)
 equal_of Greater e = absurd (cc)
 equal_of Equal e = refl
-
-id_in : FileId → PoolId → PoolId
-id_in Head id = id
-id_in Intent id = id
-id_in Gate id = id
-id_in (Host host) id = id
-id_in (Table host number) id = id
-id_in (Counts host) id = id
-id_in PoolIndex id = id
-id_in (PoolBucket byte) id = id
-id_in (Partial host) id = id
-id_in (Pool other) id = other
-id_in (Stage number) id = id
-
-pub one_id : (a b : PoolId) → is_same_id a b ≡ true → a ≡ b
-unfolding id_in
-one_id a b e = ap (λ f. id_in f a) (same_file (Pool a) (Pool b) e)
 
 pub same_names : (a b : PoolId) → is_eq (id_cmp a b) ≡ is_same_id b a
 same_names a b = elim (either (is_eq (id_cmp a b))) [

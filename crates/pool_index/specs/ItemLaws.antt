@@ -1,7 +1,7 @@
 -- Laws of the order of items.
 --     id_total      the order of names is total
 --     rising_from_items, items_from_rising      items that each come behind the one before them strictly rise, and back
---     one_id      names that are the same are one
+--     pool_id, one_id      a file is of one content;  names that are the same are one
 --     item_at-below, item_at-id, item_at-has      the item of a name
 use Rattle.std.specs.Prelude.{◌≡◌, ℕ, Bool, true, false, ◌&&◌, List, [], ◌∷◌, ◌++◌, length, Option, Some, None, cond, if◌then◌else◌}
 use Rattle.std.specs.declared.cmp.Ordering.{Ordering}
@@ -16,8 +16,7 @@ use Rattle.std.proofs.lemmas.Cmp.{then_total, tied_itself}
 use Rattle.std.proofs.lemmas.Bool.{false≢true}
 use Rattle.wire_bytes.specs.Breaks.{AreItems}
 use Rattle.disk_trait.specs.declared.ids.PoolId.{PoolId}
-use Rattle.disk_trait.specs.declared.ids.FileId.{FileId}
-use Rattle.disk_trait.specs.declared.ids.FileId.TheVariants.{Head, Intent, Gate, Host, Table, Counts, PoolIndex, PoolBucket, Partial, Pool, Stage}
+use Rattle.disk_trait.specs.declared.ids.FileId.TheVariants.{Pool}
 use Rattle.disk_trait.specs.Names.{same_file}
 use Rattle.pool_index.specs.declared.item.IndexItem.{IndexItem}
 use Rattle.pool_index.specs.Items.{id_cmp, is_same_id, item_at, ids_of, AreRising, is_behind, is_under, is_next, IsItem, IsNextItem}
@@ -107,23 +106,13 @@ module _ (byte : Option ℕ) where
 id_itself : (id : PoolId) → id_cmp id id ≡ Equal
 id_itself id = tied_itself id_total id
 
-id_in : FileId → PoolId → PoolId
-id_in Head id = id
-id_in Intent id = id
-id_in Gate id = id
-id_in (Host host) id = id
-id_in (Table host number) id = id
-id_in (Counts host) id = id
-id_in PoolIndex id = id
-id_in (PoolBucket byte) id = id
-id_in (Partial host) id = id
-id_in (Pool other) id = other
-id_in (Stage number) id = id
+-- a file is of one content
+pub pool_id : (a b : PoolId) → Pool a ≡ Pool b → a ≡ b
+pool_id a b e = cc
 
 -- one name
 pub one_id : (a b : PoolId) → is_same_id a b ≡ true → a ≡ b
-unfolding id_in
-one_id a b e = ap (λ f. id_in f a) (same_file (Pool a) (Pool b) e)
+one_id a b e = pool_id a b (same_file (Pool a) (Pool b) e)
 
 either_id : (a b : PoolId) → (is_same_id a b ≡ true) ⊎ (is_same_id a b ≡ false)
 either_id a b = step (is_same_id a b) refl

@@ -4,7 +4,7 @@ use Rattle.std.proofs.Common.{◌≡◌, ℕ, ◌<◌, true, false, List, [], �
 use Rattle.std.proofs.lemmas.Bool.{false≢true}
 use Rattle.disk_trait.specs.declared.ids.PoolId.{PoolId}
 use Rattle.disk_trait.specs.declared.ids.FileId.{FileId}
-use Rattle.disk_trait.specs.declared.ids.FileId.TheVariants.{Head, Intent, Gate, Host, Table, Counts, PoolIndex, PoolBucket, Partial, Pool, Stage}
+use Rattle.disk_trait.specs.declared.ids.FileId.TheVariants.{Pool}
 use Rattle.disk_trait.specs.Names.{is_same_file}
 use Rattle.disk_trait.specs.Files.{Files, with_bytes}
 use Rattle.disk_trait.specs.Images.{FileSet}
@@ -12,6 +12,7 @@ use Rattle.intent_journal.specs.ChangesLaws.{either, with_bytes_there, with_byte
 use Rattle.pool_changes.specs.declared.slot.Slot.{Slot}
 use Rattle.pool_changes.specs.declared.slot.Slot.TheVariants.{Live, Staged, Doomed}
 use Rattle.pool_index.specs.Items.{is_same_id}
+use Rattle.pool_index.specs.ItemLaws.{pool_id}
 use Rattle.pool_changes.specs.Slots.{Slots, is_live, is_given, size_of, claimed, let_go, one_id, with_slot, id_of}
 use Rattle.pool_changes.specs.Kept.{IsSet}
 use Rattle.pool_store.specs.Chains.{IsDamaged}
@@ -126,23 +127,6 @@ less_doomed old new all all' id set same_files = record {
 
     elsewhere : (asked : PoolId) → is_given (new asked) ≡ true → new asked ≡ old asked
     elsewhere asked given = set_other old new id _ set asked (apart asked given)
-
-id_in : FileId → PoolId → PoolId
-id_in Head id = id
-id_in Intent id = id
-id_in Gate id = id
-id_in (Host host) id = id
-id_in (Table host number) id = id
-id_in (Counts host) id = id
-id_in PoolIndex id = id
-id_in (PoolBucket byte) id = id
-id_in (Partial host) id = id
-id_in (Pool other) id = other
-id_in (Stage number) id = id
-
-pool_id : (a b : PoolId) → Pool a ≡ Pool b → a ≡ b
-unfolding id_in
-pool_id a b same = ap (λ (f : FileId). id_in f a) same
 
 -- a sweep
 pub less_swept : (old new : Slots) (told : Option Files) (all : Files) (sweeps : Sweeps old new told all) → IsPruned old new → IsLess old new all sweeps.now
