@@ -1,6 +1,9 @@
 -- The one view that is kept: which backup it is of, and that its rows are those of the backup's tree.
-use Rattle.std.specs.Prelude.{◌≡◌, ℕ, [], Option, Some, None}
+use Rattle.std.specs.Prelude.{◌≡◌, ◌⊎◌, ℕ, List, [], Option, Some, None, slice_get}
+use Rattle.disk_trait.specs.Files.{Files}
+use Rattle.backup_rules.specs.declared.lines.Line.{Line}
 use Rattle.merge_view.specs.Views.{Rows}
+use Rattle.backup_views.specs.Stored.{TellsTree}
 use Rattle.backup_views.specs.declared.kept.KeptView.{KeptView}
 use Rattle.backup_views.specs.declared.kept.Views.{Views}
 
@@ -24,3 +27,8 @@ pub record HasView (views : Views) (host number : ℕ) : Type 0 where
 abbrev pub rows_of : Option KeptView → Rows
 rows_of None = []
 rows_of (Some kept) = kept.rows
+
+-- rows of the first of these backups: those of its view if that was kept, else the tree that the files tell
+abbrev pub AreRowsRead : Views → Files → ℕ → List Line → Rows → Type 0
+AreRowsRead views all host lines rows = (line : Line) → slice_get lines 0 ≡ Some line
+    → (HasView views host line.number × (rows ≡ rows_of views.kept)) ⊎ TellsTree all host lines rows

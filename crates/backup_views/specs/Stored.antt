@@ -3,7 +3,8 @@
 --     AreTableFiles all host lines tables      each line's table is its file
 --     AreTables all host lines tables      and that of a filled backup is a whole tree
 --     tree_from lines tables      the tree of the first of these backups, the oldest, through the tables
-use Rattle.std.specs.Prelude.{◌≡◌, ℕ, ◌+◌, true, List, [], ◌∷◌, length, Option, Some, if◌then◌else◌}
+--     TellsTree all host lines tree      the files tell this tree of the first of these backups
+use Rattle.std.specs.Prelude.{◌≡◌, ℕ, ◌+◌, true, List, [], ◌∷◌, length, reverse, take, Option, Some, if◌then◌else◌}
 use Rattle.disk_trait.specs.declared.ids.FileId.TheVariants.{Table}
 use Rattle.disk_trait.specs.Files.{Files}
 use Rattle.backup_rules.specs.declared.lines.Line.{Line}
@@ -11,6 +12,7 @@ use Rattle.attr_tables.specs.declared.layouts.TableLayout.{TableLayout}
 use Rattle.attr_tables.specs.Layout.{IsTable}
 use Rattle.attr_tables.specs.Tables.{table_file}
 use Rattle.merge_view.specs.Views.{Rows, IsWhole, view}
+use Rattle.merge_view.specs.Tables.{whole}
 
 pub record IsTableFile (rows : Rows) (found : Option (List ℕ)) : Type 0 where
   pub layout : TableLayout
@@ -45,3 +47,9 @@ tree_from (line ∷ lines) (rows ∷ tables) = if line.filled then rows else vie
 abbrev pub depth_of : List Line → ℕ
 depth_of [] = 0
 depth_of (line ∷ lines) = if line.filled then 1 else depth_of lines + 1
+
+-- each table that the first of these backups calls for is there and in its grammar, and the tree is what they show
+pub record TellsTree (all : Files) (host : ℕ) (lines : List Line) (tree : Rows) : Type 0 where
+  pub tables : List Rows
+  pub files : AreTableFiles all host (take (depth_of lines) lines) tables
+  pub shown : tree ≡ whole (reverse tables)

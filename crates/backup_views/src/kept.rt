@@ -1,6 +1,6 @@
 //! The view that is kept for the next read.
 
-ghost use Rattle.std.specs.Prelude.{◌≡◌, ℕ, List, Option, Some, None, true, false, IfErr, OnOk, OnErr, IsErrOf, slice_get};
+ghost use Rattle.std.specs.Prelude.{◌≡◌, ℕ, List, Option, Some, None, true, false, take, IfErr, OnOk, OnErr, IsErrOf, slice_get};
 ghost use Rattle.std.specs.Option.{option_copied};
 ghost use Rattle.fault_counts.specs.Counts.{Counted};
 ghost use Rattle.disk_trait.specs.Files.{Files};
@@ -35,9 +35,9 @@ pub struct Views {
 }
 
 impl Views {
-    ghost use Rattle.backup_views.specs.Stored.{AreTables, tree_from};
+    ghost use Rattle.backup_views.specs.Stored.{AreTables, tree_from, depth_of};
     ghost use Rattle.backup_views.specs.Faults.{SaysOneDamaged};
-    ghost use Rattle.backup_views.specs.Kept.{Trees, IsKept, HasView, rows_of};
+    ghost use Rattle.backup_views.specs.Kept.{Trees, IsKept, HasView, AreRowsRead, rows_of};
 
     /// Keeps none. It takes no memory.
     pub fn new() -> Views
@@ -77,8 +77,9 @@ impl Views {
         ensures kept { (all : Files) (stored : List Rows) (trees : Trees) → told journal.old ≡ Some all → AreTables all host lines.now stored
             → ((line : LineValue) → slice_get lines.now 0 ≡ Some line → trees host line.number ≡ tree_from lines.now stored)
             → IsKept self.old.kept trees → IsKept self.new.kept trees }
+        ensures read { OnOk result ((all : Files) → told journal.old ≡ Some all → AreRowsRead self.old all host lines.now (rows_of self.new.kept)) }
         ensures err { OnErr result (self.new.kept ≡ self.old.kept) }
-        ensures damaged { IfErr result (SaysOneDamaged (told journal.old) host lines.now) }
+        ensures damaged { IfErr result (SaysOneDamaged (told journal.old) host (take (depth_of lines.now) lines.now)) }
         ensures quiet { Quiet journal.old journal.new }
         ensures counted { Counted (D.fault_count journal.old.disk) (D.fault_count journal.new.disk) (IsErrOf result ViewFault.Disk) }
     {

@@ -1,12 +1,12 @@
 //! Tables read through the journal, and the trees that they show.
 
-ghost use Rattle.std.specs.Prelude.{◌≡◌, ◌⊎◌, ◌≤◌, ℕ, List, Option, Some, None, true, false, length, IfOk, IfErr, IsErrOf};
+ghost use Rattle.std.specs.Prelude.{◌≡◌, ◌⊎◌, ◌≤◌, ℕ, List, Option, Some, None, true, false, length, take, IfOk, IfErr, IsErrOf};
 ghost use Rattle.fault_counts.specs.Counts.{Counted};
 ghost use Rattle.disk_trait.specs.declared.ids.FileId.TheVariants.{Table as TableOf};
 ghost use Rattle.disk_trait.specs.Files.{Files};
 ghost use Rattle.merge_view.specs.Views.{Rows, IsWhole};
 ghost use Rattle.journal_view.specs.View.{told, Quiet};
-ghost use Rattle.backup_views.specs.Stored.{IsTableFile, AreTableFiles, AreTables, tree_from, depth_of};
+ghost use Rattle.backup_views.specs.Stored.{IsTableFile, AreTableFiles, AreTables, TellsTree, tree_from, depth_of};
 ghost use Rattle.backup_views.specs.Faults.{IsNoTable, SaysDamaged, SaysOneDamaged};
 
 use crate::fault::{ViewFault, fault_of};
@@ -127,8 +127,8 @@ pub fn read_tables<D: Disk>(
 }
 
 /// The tree of the first of these backups of a host, which are given from the one asked for up to the newest: out of the
-/// tables from the nearest filled one downwards, and no others. A refusal changes nothing: `Damaged` comes only if one of
-/// these files is absent or no table's.
+/// tables from the nearest filled one downwards, and no others, each of which is there. A refusal changes nothing: `Damaged`
+/// names one of these files, which is absent or no table's, with what was found of it.
 pub fn read_tree<D: Disk>(
     alloc: Global,
     journal: &mut Journal<D>,
@@ -138,8 +138,9 @@ pub fn read_tree<D: Disk>(
     requires { journal.old.halted ≡ false }
     ensures tree { IfOk result (λ tree. (all : Files) (stored : List Rows) → told journal.old ≡ Some all → AreTables all host lines.now stored
         → tree ≡ tree_from lines.now stored) }
+    ensures tells { IfOk result (λ tree. (all : Files) → told journal.old ≡ Some all → TellsTree all host lines.now tree) }
     ensures is_whole { IfOk result (λ tree. IsWhole tree) }
-    ensures damaged { IfErr result (SaysOneDamaged (told journal.old) host lines.now) }
+    ensures damaged { IfErr result (SaysOneDamaged (told journal.old) host (take (depth_of lines.now) lines.now)) }
     ensures quiet { Quiet journal.old journal.new }
     ensures counted { Counted (D.fault_count journal.old.disk) (D.fault_count journal.new.disk) (IsErrOf result ViewFault.Disk) }
 {
