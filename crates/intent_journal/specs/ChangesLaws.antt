@@ -2,7 +2,7 @@
 use Rattle.std.proofs.Common.{◌≡◌, Bool, true, false, List, [], ◌∷◌, ◌++◌, ◌⊎◌, inl, inr, refl, sym, ap, ◌∙◌}
 use Rattle.std.proofs.lemmas.Bool.{false≢true}
 use Rattle.disk_trait.specs.declared.ids.FileId.{FileId}
-use Rattle.disk_trait.specs.declared.ids.FileId.TheVariants.{Head, Intent, Gate, Host, Table, Counts, PoolIndex, PoolBucket, Partial, Pool, Stage}
+use Rattle.disk_trait.specs.declared.ids.FileId.TheVariants.{Intent, Gate, Pool, Stage}
 use Rattle.disk_trait.specs.Names.{is_same_file, same_file, is_same_file-itself, is_metadata, is_data}
 use Rattle.disk_trait.specs.Files.{Files, with_bytes}
 use Rattle.intent_journal.specs.declared.changes.Change.{Change}
@@ -26,85 +26,33 @@ with_bytes_other files file bytes asked other = rw other refl
 
 pub metadata-not-Intent : (asked : FileId) → is_metadata asked ≡ true → is_same_file asked Intent ≡ false
 unfolding is_same_file
-metadata-not-Intent Head is = refl
 metadata-not-Intent Intent is = absurd (false≢true is)
-metadata-not-Intent Gate is = refl
-metadata-not-Intent (Host host) is = refl
-metadata-not-Intent (Table host number) is = refl
-metadata-not-Intent (Counts host) is = refl
-metadata-not-Intent PoolIndex is = refl
-metadata-not-Intent (PoolBucket byte) is = refl
-metadata-not-Intent (Partial host) is = refl
-metadata-not-Intent (Pool id) is = refl
-metadata-not-Intent (Stage number) is = refl
+metadata-not-Intent file is = refl
 
 pub metadata-not-Gate : (asked : FileId) → is_metadata asked ≡ true → is_same_file asked Gate ≡ false
 unfolding is_same_file
-metadata-not-Gate Head is = refl
-metadata-not-Gate Intent is = refl
 metadata-not-Gate Gate is = absurd (false≢true is)
-metadata-not-Gate (Host host) is = refl
-metadata-not-Gate (Table host number) is = refl
-metadata-not-Gate (Counts host) is = refl
-metadata-not-Gate PoolIndex is = refl
-metadata-not-Gate (PoolBucket byte) is = refl
-metadata-not-Gate (Partial host) is = refl
-metadata-not-Gate (Pool id) is = refl
-metadata-not-Gate (Stage number) is = refl
+metadata-not-Gate file is = refl
 
 pub data-not-Intent : (asked : FileId) → is_data asked ≡ true → is_same_file asked Intent ≡ false
 unfolding is_same_file
-data-not-Intent Head is = refl
 data-not-Intent Intent is = absurd (false≢true is)
-data-not-Intent Gate is = refl
-data-not-Intent (Host host) is = refl
-data-not-Intent (Table host number) is = refl
-data-not-Intent (Counts host) is = refl
-data-not-Intent PoolIndex is = refl
-data-not-Intent (PoolBucket byte) is = refl
-data-not-Intent (Partial host) is = refl
-data-not-Intent (Pool id) is = refl
-data-not-Intent (Stage number) is = refl
+data-not-Intent file is = refl
 
 pub data-not-Gate : (asked : FileId) → is_data asked ≡ true → is_same_file asked Gate ≡ false
 unfolding is_same_file
-data-not-Gate Head is = refl
-data-not-Gate Intent is = refl
 data-not-Gate Gate is = absurd (false≢true is)
-data-not-Gate (Host host) is = refl
-data-not-Gate (Table host number) is = refl
-data-not-Gate (Counts host) is = refl
-data-not-Gate PoolIndex is = refl
-data-not-Gate (PoolBucket byte) is = refl
-data-not-Gate (Partial host) is = refl
-data-not-Gate (Pool id) is = refl
-data-not-Gate (Stage number) is = refl
+data-not-Gate file is = refl
 
 pub metadata-not-data : (asked : FileId) → is_metadata asked ≡ true → is_data asked ≡ false
-metadata-not-data Head is = refl
-metadata-not-data Intent is = refl
-metadata-not-data Gate is = refl
-metadata-not-data (Host host) is = refl
-metadata-not-data (Table host number) is = refl
-metadata-not-data (Counts host) is = refl
-metadata-not-data PoolIndex is = refl
-metadata-not-data (PoolBucket byte) is = refl
-metadata-not-data (Partial host) is = refl
 metadata-not-data (Pool id) is = absurd (false≢true is)
 metadata-not-data (Stage number) is = absurd (false≢true is)
+metadata-not-data file is = refl
 
 pub data-not-metadata : (asked : FileId) → is_data asked ≡ true → is_metadata asked ≡ false
-data-not-metadata Head is = absurd (false≢true is)
-data-not-metadata Intent is = absurd (false≢true is)
-data-not-metadata Gate is = absurd (false≢true is)
-data-not-metadata (Host host) is = absurd (false≢true is)
-data-not-metadata (Table host number) is = absurd (false≢true is)
-data-not-metadata (Counts host) is = absurd (false≢true is)
-data-not-metadata PoolIndex is = absurd (false≢true is)
-data-not-metadata (PoolBucket byte) is = absurd (false≢true is)
-data-not-metadata (Partial host) is = absurd (false≢true is)
 data-not-metadata (Pool id) is = refl
 data-not-metadata (Stage number) is = refl
+data-not-metadata file is = absurd (false≢true is)
 
 pub Gate-not-Intent : is_same_file Gate Intent ≡ false
 unfolding is_same_file
