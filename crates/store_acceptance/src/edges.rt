@@ -41,7 +41,7 @@ const OPEN_TWICE: &[Step] = &[
         Says::Json(CONFLICT, "{\"refused\":\"SessionOpen\"}"),
     )),
     Ask(Row("DELETE /dumps/1-0", "", DONE)),
-    Dump(1, "full", &[Put("a", "hello")]),
+    Open(1, "full"),
 ];
 
 #[test]
