@@ -4,3 +4,4 @@ pub mod Nights
 pub mod Run
 pub mod Servers
 pub mod Statuses
+pub mod Notes

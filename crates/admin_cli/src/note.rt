@@ -52,7 +52,12 @@ impl Note {
     }
 }
 
+/// The line that standard error gets; of the usage and of settings that are refused the texts are theirs.
 impl fmt::Display for Note {
+    ghost use Rattle.admin_cli.specs.Notes.{text_of};
+
+    ghost output = { text_of };
+
     fn fmt<W: fmt::Write>(&self, f: &mut fmt::Formatter<W>) -> fmt::Result {
         match self {
             Note::Nothing => write!(f, ""),

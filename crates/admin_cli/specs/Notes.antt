@@ -1,0 +1,19 @@
+-- What standard error gets as the program ends.
+--     text_of note      the line, but of the usage and of settings that are refused
+use Rattle.std.specs.Prelude.{ℕ, List, [], ◌++◌, codes, Option, Some, None}
+use Rattle.disk_trait.specs.Names.{real_name}
+use Rattle.admin_cli.specs.declared.note.Note.{Note}
+use Rattle.admin_cli.specs.declared.note.Note.TheVariants.{Nothing, InputEnded, NotUnderstood, Usage, LinkFailed, DoorFailed, DiskFailed, Foreign, EpochsSpent, NoMemory, BadSettings}
+
+abbrev pub text_of : Note → Option (List ℕ)
+text_of Nothing = Some []
+text_of InputEnded = Some (codes "input ended inside a request")
+text_of NotUnderstood = Some (codes "request not understood")
+text_of Usage = None
+text_of LinkFailed = Some (codes "link failed")
+text_of DoorFailed = Some (codes "door failed")
+text_of DiskFailed = Some (codes "disk failed")
+text_of (Foreign file) = Some (codes "foreign " ++ real_name file)
+text_of EpochsSpent = Some (codes "epochs spent")
+text_of NoMemory = Some (codes "no memory")
+text_of (BadSettings fault) = None
