@@ -7,7 +7,7 @@ use borrow.Author.Tests.{eqb-true}
 use Rattle.wire_bytes.specs.Layout.{IsNumber}
 use Rattle.disk_trait.specs.declared.ids.PoolId.{PoolId}
 use Rattle.disk_trait.specs.declared.ids.FileId.{FileId}
-use Rattle.disk_trait.specs.declared.ids.FileId.TheVariants.{Head, Intent, Gate, Host, Table, Counts, PoolIndex, PoolBucket, Partial, Pool, Stage}
+use Rattle.disk_trait.specs.declared.ids.FileId.TheVariants.{PoolIndex, PoolBucket, Pool}
 use Rattle.disk_trait.specs.Names.{is_same_file, same_file, is_same_file-itself, is_metadata}
 use Rattle.disk_trait.specs.Files.{Files, with_bytes}
 use Rattle.intent_journal.specs.declared.changes.Change.{Change}
@@ -43,16 +43,7 @@ bucket_byte a b e = ap (λ (f : FileId). byte_in f a) e
   where
     byte_in : FileId → ℕ → ℕ
     byte_in (PoolBucket byte) d = byte
-    byte_in Head d = d
-    byte_in Intent d = d
-    byte_in Gate d = d
-    byte_in (Host host) d = d
-    byte_in (Table host number) d = d
-    byte_in (Counts host) d = d
-    byte_in PoolIndex d = d
-    byte_in (Partial host) d = d
-    byte_in (Pool id) d = d
-    byte_in (Stage number) d = d
+    byte_in file d = d
 
 other_bucket : (a b : ℕ) → (a ≡ b → ⊥) → is_same_file (PoolBucket a) (PoolBucket b) ≡ false
 other_bucket a b apart = elim (either (is_same_file (PoolBucket a) (PoolBucket b))) [

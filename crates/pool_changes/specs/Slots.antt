@@ -13,7 +13,7 @@ use Rattle.std.specs.Cmp.Lexicographic.{bytes_decides}
 use Rattle.intent_journal.specs.ChangesLaws.{either}
 use Rattle.std.specs.Cmp.Lexicographic.{slice_cmp}
 use Rattle.disk_trait.specs.declared.ids.PoolId.{PoolId}
-use Rattle.disk_trait.specs.declared.ids.FileId.TheVariants.{Head, Intent, Gate, Host, Table, Counts, PoolIndex, PoolBucket, Partial, Pool, Stage}
+use Rattle.disk_trait.specs.declared.ids.FileId.TheVariants.{Pool, Stage}
 use Rattle.disk_trait.specs.Names.{is_same_file-itself}
 use Rattle.disk_trait.specs.Images.{FileSet}
 use Rattle.pool_index.specs.Items.{id_cmp, is_same_id}
@@ -97,17 +97,9 @@ let_go (Some Doomed) = Some Doomed
 
 -- the contents and stages that the index doesn't list
 abbrev pub unlisted : Slots → FileSet
-unlisted slots Head = false
-unlisted slots Intent = false
-unlisted slots Gate = false
-unlisted slots (Host host) = false
-unlisted slots (Table host number) = false
-unlisted slots (Counts host) = false
-unlisted slots PoolIndex = false
-unlisted slots (PoolBucket byte) = false
-unlisted slots (Partial host) = false
 unlisted slots (Pool id) = not (is_live (slots id))
 unlisted slots (Stage number) = true
+unlisted slots file = false
 
 -- ---- laws
 

@@ -7,7 +7,7 @@ use Rattle.intent_journal.specs.declared.journal.Journal.{Journal}
 use Rattle.intent_journal.specs.Overlay.{ComesTo}
 use Rattle.disk_trait.specs.declared.ids.PoolId.{PoolId}
 use Rattle.disk_trait.specs.declared.ids.FileId.{FileId}
-use Rattle.disk_trait.specs.declared.ids.FileId.TheVariants.{Head, Intent, Gate, Host, Table, Counts, PoolIndex, PoolBucket, Partial, Pool, Stage}
+use Rattle.disk_trait.specs.declared.ids.FileId.TheVariants.{Pool, Stage}
 use Rattle.disk_trait.specs.Names.{is_same_file, is_data}
 use Rattle.disk_trait.specs.Images.{also, only_wider}
 use Rattle.std.specs.Prelude.{Bool, not, Result}
@@ -53,17 +53,9 @@ not_false true e = refl
 not_false false e = absurd (cc)
 
 listed_file : (slots : Slots) (uncertain : FileSet) → IsCertain slots uncertain → (asked : FileId) → is_data asked ≡ true → unlisted slots asked ≡ false → uncertain asked ≡ false
-listed_file slots uncertain certain Head kind out = absurd (false≢true kind)
-listed_file slots uncertain certain Intent kind out = absurd (false≢true kind)
-listed_file slots uncertain certain Gate kind out = absurd (false≢true kind)
-listed_file slots uncertain certain (Host host) kind out = absurd (false≢true kind)
-listed_file slots uncertain certain (Table host number) kind out = absurd (false≢true kind)
-listed_file slots uncertain certain (Counts host) kind out = absurd (false≢true kind)
-listed_file slots uncertain certain PoolIndex kind out = absurd (false≢true kind)
-listed_file slots uncertain certain (PoolBucket byte) kind out = absurd (false≢true kind)
-listed_file slots uncertain certain (Partial host) kind out = absurd (false≢true kind)
 listed_file slots uncertain certain (Pool id) kind out = certain id (not_false _ out)
 listed_file slots uncertain certain (Stage number) kind out = absurd (false≢true (sym out))
+listed_file slots uncertain certain file kind out = absurd (false≢true kind)
 
 pub comes_unlisted : (slots : Slots) (all : Files) (uncertain : FileSet) (image : Files) → IsCertain slots uncertain → ComesTo all uncertain image → ComesTo all (unlisted slots) image
 comes_unlisted slots all uncertain image certain comes = record {
