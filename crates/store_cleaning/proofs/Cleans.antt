@@ -68,7 +68,8 @@ use Rattle.store_parts.specs.Runs.{Runs}
 use Rattle.store_parts.specs.Writes.{Writes}
 use Rattle.store_parts.specs.StoredLaws.{contents_written}
 use Rattle.store_parts.specs.StepLaws.{IsCommitting}
-use Rattle.store_parts.specs.RunLaws.{runs_reads, runs_refused, reads_still, counted_still}
+use Rattle.store_parts.specs.RunLaws.{runs_reads, reads_still, counted_still}
+use Rattle.store_parts.specs.RefusedLaws.{runs_broken}
 use Rattle.store_parts.specs.WriteLaws.{LeadsTo, Holds, runs_write_refused, runs_written}
 use Rattle.store_parts.specs.ListLaws.{entry_found}
 use Rattle.store_parts.specs.HoldingLaws.{any_found}
@@ -367,9 +368,7 @@ module _ {D N S : Type 0} {d : DiskGhosts D} {n : NamerGhosts N S} where
 
   pub cleans_bad : (old : StoreParts D N S d n) (bucket : ℕ) → nat_le 16 bucket ≡ true
       → Runs old (Clean bucket) (Err (Broken BadBucket)) old
-  cleans_bad old bucket beyond =
-      runs_refused old old (Clean bucket) BadBucket (reads_still old) (λ office names at. rw beyond refl)
-      (counted_still (d.fault_count old.journal.disk) ⊥ (λ e. e))
+  cleans_bad old bucket beyond = runs_broken old (Clean bucket) BadBucket (λ office names at. rw beyond refl)
 
   module _ (old : StoreParts D N S d n) (bucket : ℕ) (within : nat_le 16 bucket ≡ false) (cleaning : Cleaning)
       (is : IsCleaning (slots old) bucket old.counts cleaning) where

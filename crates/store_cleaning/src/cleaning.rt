@@ -35,10 +35,7 @@ pub fn clean<D: Disk, N: Namer>(
     if bucket >= BUCKETS {
         return Err(Refusal::Broken(BrokenRule::BadBucket));
     }
-    let cleaning = match nightly_clean::clean(alloc, &parts.pool, parts.counts.as_slice(), bucket) {
-        Ok(cleaning) => cleaning,
-        Err(_) => return Err(Refusal::Memory),
-    };
+    let cleaning = nightly_clean::clean(alloc, &parts.pool, parts.counts.as_slice(), bucket)?;
     if changes_nothing(&cleaning) {
         return Ok(Answer::Cleaned {
             marked: 0,

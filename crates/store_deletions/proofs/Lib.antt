@@ -1,2 +1,3 @@
 pub mod Flagging
-pub mod Lookups
+pub mod Calling
+mod Lookups

@@ -24,8 +24,7 @@ use Rattle.office_catalog.specs.Held.{HoldsCatalog}
 use Rattle.office_catalog.specs.Changed.{after}
 use Rattle.office_model.specs.declared.answer.Answer.{Answer}
 use Rattle.office_model.specs.declared.event.Event.{Event}
-use Rattle.office_model.specs.Office.{Office, Host, Backup, Names, with_hosts}
-use Rattle.office_model.specs.Parts.{lines_of}
+use Rattle.office_model.specs.Office.{Office, Host, Names, with_hosts}
 use Rattle.office_model.specs.Places.{in_set}
 use Rattle.office_model.specs.Step.{meaning_of}
 use Rattle.office_model.specs.UsedNames.{AreSound, AreNamesAfter}
@@ -43,6 +42,7 @@ use Rattle.store_parts.specs.declared.parts.StoreParts.{StoreParts}
 use Rattle.store_parts.specs.Held.{AreCounts, AreCountsOf}
 use Rattle.store_parts.specs.States.{slots, IsRunning}
 use Rattle.store_deletions.specs.declared.plan.DeletionPlan.{DeletionPlan}
+use Rattle.store_deletions.specs.PartLaws.{backup_there}
 use Rattle.store_deletions.specs.Planned.{left_index, left_host, left_shown, IsHostAtWork, IsPlanned}
 use Rattle.store_deletions.specs.Shortens.{Shortens}
 
@@ -74,13 +74,6 @@ pub within_there : {A : Type 0} (xs : List A) (i : ℕ) → i < length xs → (x
 within_there [] i within = absurd (omega (arith, within))
 within_there (x ∷ xs) zero within = (x, refl)
 within_there (x ∷ xs) (suc i) within = within_there xs i (omega (arith, within))
-
--- the line of a backup that is there
-backup_there : (backups : List Backup) (i : ℕ) (line : Line) → slice_get (lines_of backups) i ≡ Some line
-    → (backup : Backup) × (slice_get backups i ≡ Some backup) × (backup.line ≡ line)
-backup_there [] i line e = absurd cc
-backup_there (b ∷ backups) zero line e = (b, refl, cc)
-backup_there (b ∷ backups) (suc i) line e = backup_there backups i line e
 
 -- ---- parts at work
 

@@ -1,10 +1,9 @@
 pub mod Planned
-pub mod Tables
+pub mod Called
 pub mod Written
 pub mod Built
 pub mod WrittenLaws
 pub mod LeftLaws
-pub mod BoundLaws
 pub mod BuildLaws
 pub mod PartLaws
 pub mod PlanLaws

@@ -3,10 +3,10 @@
 --     expire_none, expire_shortens      those that the keeping rules name
 --     no_host_delete, no_host_expire      there is no host of the name
 --     deleting_broken, deleting, expiring_none, expiring      the same by what the catalog has at the host's place
-use Rattle.std.specs.Prelude.{◌≡◌, ℕ, zero, suc, ◌+◌, ◌<◌, ◌==◌, Bool, cond, List, [], ◌∷◌, length, count_by, Option, Some, None, Ok, Err, slice_get, slice_set, if◌then◌else◌}
+use Rattle.std.specs.Prelude.{◌≡◌, ℕ, zero, suc, ◌+◌, ◌==◌, Bool, cond, List, [], ◌∷◌, length, count_by, Option, Some, None, Ok, Err, slice_get, slice_set, if◌then◌else◌}
 use Rattle.std.specs.Option.{option_map_or}
 use Rattle.std.specs.List.{position_from}
-use Rattle.std.proofs.Common.{refl, sym, ap, ◌∙◌, subst, arith}
+use Rattle.std.proofs.Common.{refl, sym, ap, ◌∙◌, subst}
 use Rattle.std.proofs.lemmas.Bool.{eqb-true}
 use Rattle.std.proofs.lemmas.List.{length-map}
 use Rattle.backup_rules.specs.declared.lines.Line.{Line}
@@ -169,12 +169,6 @@ module _ (office : Office) (names : Names) (name : List ℕ) (p : ℕ) (host : H
             (flags_fit host.rules now host.next host.backups sound.backups.numbered)
 
 -- ---- by the catalog
-
--- there is an index at each place within
-pub index_within : (hosts : List Index) (i : ℕ) → i < length hosts → (index : Index) × (slice_get hosts i ≡ Some index)
-index_within [] i within = absurd (omega (arith, within))
-index_within (index ∷ hosts) zero within = (index, refl)
-index_within (index ∷ hosts) (suc i) within = index_within hosts i (omega (arith, within))
 
 pub no_host_delete : (name : List ℕ) (number : ℕ) (office : Office) (names : Names) → host_at office.hosts name ≡ Err NoHost
     → (meaning_of (Delete name number)).carried office names ≡ Err NoHost

@@ -1,17 +1,25 @@
 -- The part of a host's lines and tables that a deletion reads.
 --     slice_get-part      an item of the part is one of the whole
 --     part_tables      the tables of the part are part of the tables
+--     backup_there, tables_of_host      the tables of a host that files stand for
 --     rise_sound, rise_part      the numbers of the part's lines rise
-use Rattle.std.specs.Prelude.{◌≡◌, ℕ, zero, suc, ◌+◌, ◌-◌, ◌≤◌, min, List, [], ◌∷◌, length, take, drop, Some, slice_get}
-use Rattle.std.proofs.Common.{refl, sym, ap, ◌∙◌, arith}
-use Rattle.std.proofs.lemmas.List.{length-take, length-drop}
+use Rattle.std.specs.Prelude.{◌≡◌, ℕ, zero, suc, ◌+◌, ◌-◌, ◌≤◌, List, [], ◌∷◌, take, drop, Some, slice_get}
+use Rattle.std.proofs.Common.{refl, sym, ap, ◌∙◌, subst, arith}
+use Rattle.disk_trait.specs.declared.ids.PoolId.{PoolId}
+use Rattle.disk_trait.specs.declared.ids.FileId.TheVariants.{Table}
 use Rattle.disk_trait.specs.Files.{Files}
 use Rattle.backup_rules.specs.declared.lines.Line.{Line}
 use Rattle.backup_index.specs.Lines.{LinesFrom, IsSound}
 use Rattle.keep_rules.specs.Named.{Rise, RiseFrom}
 use Rattle.merge_view.specs.Views.{Rows}
 use Rattle.backup_delete.specs.Windows.{part}
-use Rattle.store_deletions.specs.Tables.{AreTables}
+use Rattle.backup_views.specs.Stored.{IsTableFile, AreTableFiles}
+use Rattle.backup_views.specs.StoredLaws.{files_by_index}
+use Rattle.ref_counts.specs.Stored.{Backup as StoredBackup, stored}
+use Rattle.office_model.specs.Office.{Host, Backup}
+use Rattle.office_model.specs.Parts.{lines_of}
+use Rattle.office_files.specs.Hosts.{StandsHost}
+use Rattle.office_deletion.specs.DeletionLaws.{length_lines}
 
 slice_get-take : {A : Type 0} (n : ℕ) (xs : List A) (i : ℕ) (x : A) → slice_get (take n xs) i ≡ Some x → slice_get xs i ≡ Some x
 slice_get-take zero xs i x e = absurd cc
@@ -31,21 +39,48 @@ pub slice_get-part : {A : Type 0} (first end : ℕ) (xs : List A) (i : ℕ) (x :
 slice_get-part first end xs i x e =
     slice_get-drop first xs i (first + i) x refl (slice_get-take (end - first) (drop first xs) i x e)
 
--- parts of lists of one length are of one length
-length-part : {A B : Type 0} (first end : ℕ) (xs : List A) (ys : List B) → length ys ≡ length xs
-    → length (part first end ys) ≡ length (part first end xs)
-length-part first end xs ys same =
-    length-take (end - first) (drop first ys)
-    ∙ ap (λ n. min (end - first) n) (length-drop first ys ∙ ap (λ n. n - first) same ∙ sym (length-drop first xs))
-    ∙ sym (length-take (end - first) (drop first xs))
+module _ (all : Files) (host : ℕ) where
+  files_drop : (n : ℕ) (lines : List Line) (tables : List Rows) → AreTableFiles all host lines tables
+      → AreTableFiles all host (drop n lines) (drop n tables)
+  files_drop zero lines tables are = are
+  files_drop (suc n) [] [] are = tt
+  files_drop (suc n) [] (rows ∷ tables) are = absurd are
+  files_drop (suc n) (line ∷ lines) [] are = absurd are
+  files_drop (suc n) (line ∷ lines) (rows ∷ tables) are = files_drop n lines tables are.1
 
-pub part_tables : (all : Files) (host first end : ℕ) (lines : List Line) (tables : List Rows) → AreTables all host lines tables
-    → AreTables all host (part first end lines) (part first end tables)
-part_tables all host first end lines tables are = record {
-  counted = length-part first end lines tables are.counted;
-  each = λ i line rows e f.
-      are.each (first + i) line rows (slice_get-part first end lines i line e) (slice_get-part first end tables i rows f);
-}
+  files_take : (n : ℕ) (lines : List Line) (tables : List Rows) → AreTableFiles all host lines tables
+      → AreTableFiles all host (take n lines) (take n tables)
+  files_take zero lines tables are = tt
+  files_take (suc n) [] [] are = tt
+  files_take (suc n) [] (rows ∷ tables) are = absurd are
+  files_take (suc n) (line ∷ lines) [] are = absurd are
+  files_take (suc n) (line ∷ lines) (rows ∷ tables) are = (are.0, files_take n lines tables are.1)
+
+  pub part_tables : (first end : ℕ) (lines : List Line) (tables : List Rows) → AreTableFiles all host lines tables
+      → AreTableFiles all host (part first end lines) (part first end tables)
+  part_tables first end lines tables are = files_take (end - first) (drop first lines) (drop first tables) (files_drop first lines tables are)
+
+-- ---- of a host
+
+-- the backup of a line that is there
+pub backup_there : (backups : List Backup) (i : ℕ) (line : Line) → slice_get (lines_of backups) i ≡ Some line
+    → (backup : Backup) × (slice_get backups i ≡ Some backup) × (backup.line ≡ line)
+backup_there [] i line e = absurd cc
+backup_there (b ∷ backups) zero line e = (b, refl, cc)
+backup_there (b ∷ backups) (suc i) line e = backup_there backups i line e
+
+-- files that stand for a host tell what is stored of its backups
+pub tables_of_host : (given : PoolId → Type 0) (contents : PoolId → List ℕ) (all : Files) (number : ℕ) (host : Host)
+    (shown : List StoredBackup) → StandsHost given contents all number host shown
+    → AreTableFiles all number (lines_of host.backups) (stored shown)
+tables_of_host given contents all number host shown stands =
+    files_by_index all number (lines_of host.backups) (stored shown)
+    (stands.tables.counted ∙ sym (length_lines host.backups))
+    (λ i line rows e f.
+    let w = backup_there host.backups i line e in
+    let file = stands.tables.each i w.0 rows w.1 f in
+    subst (λ (l : Line). IsTableFile rows (all (Table number l.number))) w.2
+    (record { layout = file.layout; fits = file.fits; is = file.is }))
 
 -- ---- numbers that rise
 

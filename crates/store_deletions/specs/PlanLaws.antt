@@ -13,6 +13,7 @@ use Rattle.intent_journal.specs.Changes.{applied, AreChanges}
 use Rattle.backup_rules.specs.declared.lines.Line.{Line}
 use Rattle.backup_index.specs.Index.{Index as HostIndex}
 use Rattle.merge_view.specs.Views.{Rows}
+use Rattle.backup_views.specs.Stored.{AreTableFiles}
 use Rattle.pool_index.specs.Index.{Index}
 use Rattle.ref_counts.specs.Numbers.{Items, total, capped}
 use Rattle.ref_counts.specs.Numbers as N
@@ -28,18 +29,17 @@ use Rattle.office_catalog.specs.Known.{Known, IsCatalog, with_change, changed_at
 use Rattle.office_files.specs.Hosts.{index_of_host}
 use Rattle.office_files.specs.KeptLaws.{IsHostFile-same}
 use Rattle.office_files.specs.Pooled.{contents_of, IsListed}
+use Rattle.office_changes.specs.BoundLaws.{few_counted}
 use Rattle.office_known.specs.KnownLaws.{host_of_catalog}
 use Rattle.office_deletion.specs.DeletionLaws.{length_lines, length_rows, rows_of, left_backups, lines_left, as_backups, are_whole, IsChangedTo, IsDeletion}
 use Rattle.office_deletion.specs.DeletionLaws as D
 use Rattle.store_deletions.specs.declared.plan.DeletionPlan.{DeletionPlan}
 use Rattle.store_deletions.specs.Planned.{left_index, left_host, left_shown, IsHostAtWork, IsPlanned}
 use Rattle.store_deletions.specs.Built.{IsBuilt}
-use Rattle.store_deletions.specs.Tables.{AreTables, tables_of_host}
 use Rattle.store_deletions.specs.Written.{table_part, written}
 use Rattle.store_deletions.specs.WrittenLaws.{IsOne, one_change, are_tables, are_written, at_index, at_table, at_counts, at_other}
 use Rattle.store_deletions.specs.LeftLaws.{left_numbered}
-use Rattle.store_deletions.specs.PartLaws.{part_tables, rise_sound, rise_part}
-use Rattle.store_deletions.specs.BoundLaws.{few_counted}
+use Rattle.store_deletions.specs.PartLaws.{part_tables, tables_of_host, rise_sound, rise_part}
 
 some_same : {A : Type 0} (x y : A) → Some x ≡ Some y → x ≡ y
 some_same x y e = cc
@@ -97,7 +97,7 @@ module _ (pool : Index) (catalog : Known) (counts : Items) (all : Files) (number
 
 module _ (catalog : Known) (told : Option Files) (old : Items) (number first end : ℕ) (numbers : List ℕ) (tables : List Rows) (plan : DeletionPlan)
     (b : IsBuilt catalog number first end tables old numbers plan)
-    (read : (all : Files) (others : List Rows) → told ≡ Some all → AreTables all number (part first end b.index.lines) others → tables ≡ others) where
+    (read : (all : Files) (others : List Rows) → told ≡ Some all → AreTableFiles all number (part first end b.index.lines) others → tables ≡ others) where
   abbrev made : List TableChange
   made = changes numbers (part first end b.index.lines) tables
 
@@ -120,7 +120,7 @@ module _ (catalog : Known) (told : Option Files) (old : Items) (number first end
     tables_are : tables ≡ part first end (stored shown)
     tables_are = read all (part first end (stored shown)) is
         (part_tables all number first end b.index.lines (stored shown)
-        (subst (λ (ls : List Line). AreTables all number ls (stored shown)) (sym lines_are)
+        (subst (λ (ls : List Line). AreTableFiles all number ls (stored shown)) (sym lines_are)
         (tables_of_host (IsListed pool) (contents_of all) all number host shown at.stands)))
 
     window : IsWindow numbers (lines_of host.backups) first end
@@ -193,13 +193,13 @@ module _ (catalog : Known) (told : Option Files) (old : Items) (number first end
 pub planned_by : (catalog : Known) (told : Option Files) (old : Items) (number file first end : ℕ) (numbers : List ℕ) (tables given : List Rows)
     (index : HostIndex) (all_lines : List Line) (plan : DeletionPlan) → IsCatalog catalog.hosts → slice_get catalog.hosts number ≡ Some index
     → file ≡ index.host → all_lines ≡ index.lines → given ≡ tables
-    → ((all : Files) (others : List Rows) → told ≡ Some all → AreTables all file (part first end all_lines) others → tables ≡ others)
+    → ((all : Files) (others : List Rows) → told ≡ Some all → AreTableFiles all file (part first end all_lines) others → tables ≡ others)
     → IsBuilt catalog number first end given old numbers plan → IsPlanned catalog told old number numbers plan
 planned_by catalog told old number file first end numbers tables given index all_lines plan are here file_is are_lines same reads b =
     planned_of catalog told old number first end numbers given plan b
     (λ all others is told_are. same ∙ reads all others is
-    (subst (λ (f : ℕ). AreTables all f (part first end all_lines) others) (sym (file_is ∙ (are.each number index here).number))
-    (subst (λ (ls : List Line). AreTables all number (part first end ls) others)
+    (subst (λ (f : ℕ). AreTableFiles all f (part first end all_lines) others) (sym (file_is ∙ (are.each number index here).number))
+    (subst (λ (ls : List Line). AreTableFiles all number (part first end ls) others)
     (ap (λ (i : HostIndex). i.lines) (some_same b.index index (sym b.here ∙ here)) ∙ sym are_lines) told_are)))
 
 -- what is a window of the lines that are read is one of the host's

@@ -1,10 +1,10 @@
 -- A deletion of backups as an event of a store at work.
 --     changes_planned, fits_planned      what a plan changes may be written, and made
---     IsRead      the parts behind a plan;  IsFinished      those behind accept
---     runs_not_planned, runs_not_written, runs_shortened      the event's answer at each step
---     runs_broken, runs_no_memory, runs_still      what memory answers
-use Rattle.std.specs.Prelude.{◌≡◌, ◌<◌, ℕ, Bool, true, false, List, [], ◌∷◌, length, Option, Some, None, Ok, Err, IsErrOf, slice_get, slice_set, if◌then◌else◌}
-use Rattle.std.proofs.Common.{refl, sym, ap, ◌∙◌, subst, inr}
+--     IsFinished      the parts behind accept
+--     runs_unplanned, runs_not_written, runs_shortened      the event's answer at each step
+--     runs_still      nothing is to be done
+use Rattle.std.specs.Prelude.{◌≡◌, ◌⊎◌, ◌<◌, ℕ, Bool, true, false, List, [], ◌∷◌, length, Option, Some, None, Ok, Err, IsErrOf, slice_get, slice_set, if◌then◌else◌}
+use Rattle.std.proofs.Common.{refl, sym, ap, ◌∙◌, subst, inl, inr}
 use Rattle.std.proofs.lemmas.Bool.{true≢false}
 use Rattle.fault_counts.specs.Counts.{Counted}
 use Rattle.disk_trait.specs.declared.ids.FileId.{FileId}
@@ -16,7 +16,7 @@ use Rattle.pool_name.specs.declared.namer.Namer.{Ghosts as NamerGhosts}
 use Rattle.intent_journal.specs.declared.changes.Change.{Change}
 use Rattle.intent_journal.specs.Changes.{applied, names as named_by, AreChanges}
 use Rattle.intent_journal.specs.ChangesLaws.{with_bytes_there, applied_other}
-use Rattle.journal_view.specs.View.{told, Quiet}
+use Rattle.journal_view.specs.View.{told}
 use Rattle.backup_views.specs.declared.kept.KeptView.{KeptView}
 use Rattle.pool_changes.specs.Listed.{index_of}
 use Rattle.ref_counts.specs.Numbers.{Items}
@@ -26,11 +26,8 @@ use Rattle.office_model.specs.declared.answer.Answer.{Answer}
 use Rattle.office_model.specs.declared.event.Event.{Event}
 use Rattle.office_model.specs.declared.refusal.Refusal.{Refusal}
 use Rattle.office_model.specs.declared.refusal.Refusal.TheVariants as R
-use Rattle.office_model.specs.declared.refusal.BrokenRule.{BrokenRule}
 use Rattle.office_model.specs.Office.{Office, Names, with_hosts}
-use Rattle.office_model.specs.Meaning.{Carried, Judged, Touch, ReadsAndCommits}
-use Rattle.office_model.specs.Step.{Running, IsStep, MayFault, MayStay, IsAnswerTo, meaning_of}
-use Rattle.office_model.specs.History.{IsUndamaged}
+use Rattle.office_model.specs.Step.{IsAnswerTo, meaning_of}
 use Rattle.office_model.specs.UsedNames.{AreSound, AreNamesAfter}
 use Rattle.office_known.specs.KnownLaws.{known_of_office}
 use Rattle.store_parts.specs.declared.parts.StoreParts.{StoreParts}
@@ -38,11 +35,12 @@ use Rattle.store_parts.specs.Held.{IsKeptView, AreCountsOf}
 use Rattle.store_parts.specs.States.{slots, IsRunning}
 use Rattle.store_parts.specs.Runs.{Runs, Reads}
 use Rattle.store_parts.specs.Writes.{Writes}
-use Rattle.store_parts.specs.StepLaws.{step_memory}
-use Rattle.store_parts.specs.RunLaws.{runs_reads, runs_refused, runs_memory, reads_still, reads_behind, runs_behind, counted_still}
+use Rattle.store_parts.specs.RunLaws.{runs_reads, reads_still, reads_behind, runs_behind, counted_still}
+use Rattle.store_parts.specs.RefusedLaws.{runs_not_planned}
 use Rattle.store_parts.specs.WriteLaws.{LeadsTo, LeavesIndex, Holds, runs_write_refused, runs_written, running_hosts}
 use Rattle.store_deletions.specs.declared.plan.DeletionPlan.{DeletionPlan}
 use Rattle.store_deletions.specs.Planned.{left_host, IsPlanned, IsPlanFault}
+use Rattle.store_deletions.specs.Called.{IsRead}
 use Rattle.store_deletions.specs.Shortens.{Shortens, Shortening}
 use Rattle.store_deletions.specs.AfterLaws.{IsShortened, shortened, sound_then, within_there, not_damaged, counts_of}
 
@@ -77,22 +75,6 @@ not_named changes file stays = step (named_by changes file) refl
         sym (stays (λ f. None)) ∙ applied_named changes file (λ f. None) (λ f. Some []) e ∙ stays (λ f. Some []) in
         absurd cc
 
--- ---- faults of reading
-
-early : (judged : Judged Carried) (touch : Touch) → touch ≡ ReadsAndCommits → MayFault touch judged × MayStay touch
-early judged touch e = subst (λ (t : Touch). MayFault t judged × MayStay t) (sym e) (step judged)
-  where
-    step : (judged : Judged Carried) → MayFault ReadsAndCommits judged × MayStay ReadsAndCommits
-    step (Ok carried) = (tt, tt)
-    step (Err rule) = (refl, tt)
-
-step_faulted : (event : Event) (office : Office) (names : Names) → (meaning_of event).touches office names ≡ ReadsAndCommits
-    → AreNamesAfter office names (meaning_of event) (Err R.DiskFault) names
-    → IsStep (Running office names) event (Err R.DiskFault) (Running office names)
-step_faulted event office names touches stay =
-    let may = early ((meaning_of event).carried office names) ((meaning_of event).touches office names) touches in
-    ((may.0, may.1, refl), stay)
-
 -- ---- a plan
 
 module _ (catalog : Known) (told : Option Files) (counts : List Items) (p : ℕ) (numbers : List ℕ) (plan : DeletionPlan)
@@ -108,11 +90,6 @@ module _ (catalog : Known) (told : Option Files) (counts : List Items) (p : ℕ)
   fits_planned known is = subst (λ (k : Known). IsFor k plan.catalog) (sym is) (planned has_counts.0 has_counts.1).fits
 
 module _ {D N S : Type 0} {d : DiskGhosts D} {n : NamerGhosts N S} where
-  -- the parts are as before, but for the journal, which is quiet
-  pub record IsRead (old mid : StoreParts D N S d n) : Type 0 where
-    pub quiet : Quiet old.journal mid.journal
-    pub others : mid ≡ record old { journal = mid.journal }
-
   reads_of : (old mid : StoreParts D N S d n) → IsRead old mid → Reads old mid
   reads_of old mid read = reads_behind old mid read.quiet read.others
 
@@ -132,18 +109,14 @@ module _ {D N S : Type 0} {d : DiskGhosts D} {n : NamerGhosts N S} where
     shortens office names at = shortening.each office names at.catalog_is at.sound
 
     -- the plan was refused
-    pub runs_not_planned : (mid : StoreParts D N S d n) → IsRead old mid → (refusal : Refusal)
+    pub runs_unplanned : (mid : StoreParts D N S d n) → IsRead old mid → (refusal : Refusal)
         → ((items : Items) → slice_get old.counts p ≡ Some items → IsPlanFault (told old.journal) old.catalog p refusal)
         → Counted (d.fault_count old.journal.disk) (d.fault_count mid.journal.disk) (IsErrOf {T = DeletionPlan} (Err refusal) R.DiskFault)
         → Runs old event (Err refusal) mid
-    runs_not_planned mid read refusal fault counted =
-        runs_reads old mid event (Err refusal) (reads_of old mid read)
-        (λ office names at. step office names at refusal (fault_of office names at))
-        (λ office names at. undamaged office names at refusal (fault_of office names at)) tt (record {
-          later = counted.later;
-          rose = λ e. counted.rose (let same : refusal ≡ R.DiskFault = cc in ap (λ (r : Refusal). Err r) same);
-          stays = λ not. counted.stays (λ e. not (let same : refusal ≡ R.DiskFault = cc in ap (λ (r : Refusal). Err r) same));
-        })
+    runs_unplanned mid read refusal fault counted =
+        runs_not_planned {Plan = DeletionPlan} old mid event refusal (reads_of old mid read)
+        (λ office names at. (shortens office names at).touches) (λ office names at. kind office names at refusal (fault_of office names at))
+        counted
       where
         fault_of : (office : Office) (names : Names) → IsRunning old office names → IsPlanFault (told old.journal) old.catalog p refusal
         fault_of office names at =
@@ -151,28 +124,14 @@ module _ {D N S : Type 0} {d : DiskGhosts D} {n : NamerGhosts N S} where
             let items = counts_of old p office names at s.host s.is_host in
             fault items.0 items.1
 
-        damaged : (office : Office) (names : Names) → IsRunning old office names → (file : FileId) (found : Option (List ℕ))
-            → IsPlanFault (told old.journal) old.catalog p (R.Damaged file found) → ⊥
-        damaged office names at file found fault =
-            let s = shortens office names at in not_damaged old p office names at s.host s.is_host file found fault
-
-        step : (office : Office) (names : Names) → IsRunning old office names → (refusal : Refusal)
-            → IsPlanFault (told old.journal) old.catalog p refusal
-            → IsStep (Running office names) event (Err refusal) (Running office names)
-        step office names at R.DiskFault fault =
-            step_faulted event office names (shortens office names at).touches (shortening.stay office names (Err R.DiskFault))
-        step office names at R.Memory fault = step_memory office names event at.used.distinct
-        step office names at (R.Damaged file found) fault = absurd (damaged office names at file found fault)
-        step office names at (R.Broken rule) fault = absurd fault
-        step office names at R.Halted fault = absurd fault
-
-        undamaged : (office : Office) (names : Names) → IsRunning old office names → (refusal : Refusal)
-            → IsPlanFault (told old.journal) old.catalog p refusal → IsUndamaged (Err refusal)
-        undamaged office names at R.DiskFault fault = tt
-        undamaged office names at R.Memory fault = tt
-        undamaged office names at (R.Damaged file found) fault = absurd (damaged office names at file found fault)
-        undamaged office names at (R.Broken rule) fault = tt
-        undamaged office names at R.Halted fault = tt
+        kind : (office : Office) (names : Names) → IsRunning old office names → (refusal : Refusal)
+            → IsPlanFault (told old.journal) old.catalog p refusal → (refusal ≡ R.DiskFault) ⊎ (refusal ≡ R.Memory)
+        kind office names at R.DiskFault fault = inl refl
+        kind office names at R.Memory fault = inr refl
+        kind office names at (R.Damaged file found) fault =
+            let s = shortens office names at in absurd (not_damaged old p office names at s.host s.is_host file found fault)
+        kind office names at (R.Broken rule) fault = absurd fault
+        kind office names at R.Halted fault = absurd fault
 
     module _ (items : Items) (plan : DeletionPlan) (has_items : slice_get old.counts p ≡ Some items)
         (planned : IsPlanned old.catalog (told old.journal) items p numbers plan) where
@@ -296,20 +255,6 @@ module _ {D N S : Type 0} {d : DiskGhosts D} {n : NamerGhosts N S} where
     runs_shortened mid new done w f =
         runs_behind old start new event (Ok answer) (reads_of old start read) same
         (runs_finished start event answer p numbers shortening_still has.0 plan items_still planned_still mid new done w f)
-
-  -- ---- what memory answers
-
-  -- a rule is broken, as the catalog tells
-  pub runs_broken : (old : StoreParts D N S d n) (event : Event) (rule : BrokenRule)
-      → ((office : Office) (names : Names) → old.catalog ≡ known_of_office office.durable → (meaning_of event).carried office names ≡ Err rule)
-      → Runs old event (Err (R.Broken rule)) old
-  runs_broken old event rule broken =
-      runs_refused old old event rule (reads_still old) (λ office names at. broken office names at.catalog_is)
-      (counted_still (d.fault_count old.journal.disk) ⊥ (λ e. e))
-
-  pub runs_no_memory : (old : StoreParts D N S d n) (event : Event) → Runs old event (Err R.Memory) old
-  runs_no_memory old event =
-      runs_memory old old event (reads_still old) (counted_still (d.fault_count old.journal.disk) ⊥ (λ e. e))
 
   -- nothing is to be done
   pub runs_still : (old : StoreParts D N S d n) (event : Event) (answer : Answer)

@@ -1,22 +1,26 @@
 //! The event Expire.
 
-ghost use Rattle.std.specs.Prelude.{◌≡◌, false};
+ghost use Rattle.std.specs.Prelude.{◌≡◌, ℕ, Some, slice_get, false};
+ghost use Rattle.backup_index.specs.Index.{Index};
+ghost use Rattle.office_catalog.specs.Known.{host_named, names_of};
 ghost use Rattle.office_model.specs.declared.event.Event.TheVariants.{Expire};
 ghost use Rattle.store_parts.specs.Runs.{Runs};
+ghost use Rattle.store_deletions.specs.Called.{SaysOfTables};
+ghost use Rattle.store_deletions.specs.Shortens.{named_numbers};
 
 use crate::judge::named_numbers;
 use crate::shorten::shorten;
 use attr_records::HostName;
 use disk_trait::Disk;
-use office_model::{Answer, BrokenRule, Refusal};
+use office_model::{Answer, Refusal};
 use pool_name::Namer;
 use std::alloc::Global;
 use store_parts::StoreParts;
 use stream_traits::Moment;
 
 /// Takes the backups out of a host that its keeping rules name at a moment, and answers how many. After Ok this is durable; if
-/// none is named, no file is read or written. If there is no such host, or no memory, or a read fails, nothing was done; after a
-/// `DiskFault` of the write the store is halted.
+/// none is named, no file is read or written. After Ok each table that it called for was there, too. If there is no such host, or
+/// no memory, or a read fails, or a table is `Damaged`, nothing was done; after a `DiskFault` of the write the store is halted.
 pub fn expire<D: Disk, N: Namer>(
     parts: &mut StoreParts<D, N>,
     alloc: Global,
@@ -24,12 +28,12 @@ pub fn expire<D: Disk, N: Namer>(
     now: Moment,
 ) -> Result<Answer, Refusal>
     requires { parts.old.journal.halted ≡ false }
-    ensures { Runs parts.old (Expire host.now now) result parts.new }
+    ensures runs { Runs parts.old (Expire host.now now) result parts.new }
+    ensures tables { (place : ℕ) (index : Index) → Some place ≡ host_named (names_of parts.old.catalog.hosts) host.now
+        → slice_get parts.old.catalog.hosts place ≡ Some index
+        → SaysOfTables parts.old parts.new place (named_numbers index.rules now index.lines) result }
 {
-    let at = match parts.catalog.host_at(host) {
-        Some(at) => at,
-        None => return Err(Refusal::Broken(BrokenRule::NoHost)),
-    };
+    let at = parts.host(host)?;
     let numbers = match named_numbers(alloc, &parts.catalog.hosts()[at], now) {
         Ok(numbers) => numbers,
         Err(_) => return Err(Refusal::Memory),

@@ -11,9 +11,9 @@
 //! | [`delete`] | a backup leaves its host |
 //! | [`expire`] | the backups leave a host that its keeping rules name |
 //!
-//! Each promises `Runs` of store_parts. They judge by what is in memory, then plan, write, and make in memory what was written.
-//! `specs/MeaningLaws` says what they are to the model, `specs/AfterLaws` what then stands in the files, `specs/RunLaws` that
-//! the parts hold the office after it.
+//! Each promises `Runs` of store_parts, and says which tables were there, whatever the files stand for (`specs/Called`). They judge
+//! by what is in memory, then plan, write, and make in memory what was written. `specs/MeaningLaws` says what they are to the model,
+//! `specs/AfterLaws` what then stands in the files, `specs/RunLaws` that the parts hold the office after it.
 #![tactic(auto)]
 
 mod build;
@@ -25,7 +25,6 @@ mod judge;
 mod plan;
 mod planning;
 mod shorten;
-mod tables;
 
 pub use deleting::delete;
 pub use expiring::expire;

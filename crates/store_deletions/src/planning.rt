@@ -3,15 +3,15 @@
 ghost use Rattle.std.specs.Prelude.{◌≡◌, ◌<◌, false, length, Some, IfOk, IfErr, IsErrOf, slice_get};
 ghost use Rattle.fault_counts.specs.Counts.{Counted};
 ghost use Rattle.journal_view.specs.View.{told, Quiet};
+ghost use Rattle.backup_index.specs.Index.{Index};
 ghost use Rattle.ref_counts.specs.Numbers.{Items};
 ghost use Rattle.store_deletions.specs.Planned.{IsPlanned, IsPlanFault};
-ghost use Rattle.store_deletions.specs.Faults.{IsReadRefusal};
+ghost use Rattle.store_deletions.specs.Called.{HasCalled, SaysOfTables};
 
 use crate::build::build;
 use crate::plan::DeletionPlan;
-use crate::tables::read_tables;
 use backup_delete::window_of;
-use backup_views::ViewFault;
+use backup_views::read_tables;
 use disk_trait::Disk;
 use intent_journal::Journal;
 use office_catalog::Catalog;
@@ -19,20 +19,7 @@ use office_model::{BrokenRule, Refusal};
 use pool_name::Namer;
 use ref_counts::Counts;
 use std::alloc::Global;
-use store_parts::StoreParts;
-
-/// What a fault of reading a table is to a caller.
-fn refusal_of(fault: ViewFault) -> Refusal
-    ensures disk { fault ≡ ViewFault.Disk → result ≡ Refusal.DiskFault }
-    ensures no_other { result ≡ Refusal.DiskFault → fault ≡ ViewFault.Disk }
-    ensures kind { IsReadRefusal fault result }
-{
-    match fault {
-        ViewFault::Disk => Refusal::DiskFault,
-        ViewFault::Memory => Refusal::Memory,
-        ViewFault::Damaged { file, found } => Refusal::Damaged { file, found },
-    }
-}
+use store_parts::{StoreParts, refusal_of_view};
 
 /// The plan of the deletion of the backups of these numbers from a host of a catalog, by its counts and by the tables of those of
 /// its backups that the deletion touches, which are read.
@@ -48,6 +35,8 @@ fn plan_of<D: Disk>(
     requires within { host < length catalog.now.hosts }
     ensures planned { IfOk result (IsPlanned catalog.now (told journal.old) counts.now host numbers.now) }
     ensures refused { IfErr result (IsPlanFault (told journal.old) catalog.now host) }
+    ensures called { IfOk result (λ plan. (index : Index) → slice_get catalog.now.hosts host ≡ Some index
+        → HasCalled (told journal.old) host index.lines numbers.now) }
     ensures quiet { Quiet journal.old journal.new }
     ensures counted { Counted (D.fault_count journal.old.disk) (D.fault_count journal.new.disk) (IsErrOf result Refusal.DiskFault) }
 {
@@ -60,7 +49,7 @@ fn plan_of<D: Disk>(
     let touched = &lines[window.first..window.end];
     let tables = match read_tables(alloc, journal, index.host(), touched) {
         Ok(tables) => tables,
-        Err(fault) => return Err(refusal_of(fault)),
+        Err(fault) => return Err(refusal_of_view(fault)),
     };
     match build(
         alloc,
@@ -91,6 +80,7 @@ pub fn plan_deletion<D: Disk, N: Namer>(
         → IsPlanned parts.old.catalog (told parts.old.journal) counts host numbers.now plan) }
     ensures refused { IfErr result (λ refusal. (counts : Items) → slice_get parts.old.counts host ≡ Some counts
         → IsPlanFault (told parts.old.journal) parts.old.catalog host refusal) }
+    ensures tables { SaysOfTables parts.old parts.new host numbers.now result }
     ensures within { IfOk result (λ plan. host < length parts.old.counts) }
     ensures quiet { Quiet parts.old.journal parts.new.journal }
     ensures others { parts.new ≡ record parts.old { journal = parts.new.journal } }

@@ -5,6 +5,7 @@ ghost use Rattle.office_catalog.specs.Changed.{IsFor, after};
 ghost use Rattle.office_model.specs.declared.answer.Answer.{Answer as AnswerValue};
 ghost use Rattle.office_model.specs.declared.event.Event.{Event};
 ghost use Rattle.store_parts.specs.Runs.{Runs};
+ghost use Rattle.store_deletions.specs.Called.{SaysOfTables};
 ghost use Rattle.store_deletions.specs.Shortens.{Shortening, answered};
 
 use crate::plan::DeletionPlan;
@@ -46,8 +47,9 @@ pub(crate) fn shorten<D: Disk, N: Namer>(
 ) -> Result<(), Refusal>
     requires ready { parts.old.journal.halted ≡ false }
     requires within { host < length parts.old.catalog.hosts }
-    ensures { (event : Event) (answer : AnswerValue) → Shortening parts.old.catalog event answer host numbers.now
+    ensures runs { (event : Event) (answer : AnswerValue) → Shortening parts.old.catalog event answer host numbers.now
         → Runs parts.old event (answered answer result) parts.new }
+    ensures tables { SaysOfTables parts.old parts.new host numbers.now result }
 {
     let plan = match plan_deletion(parts, alloc, host, numbers) {
         Ok(plan) => plan,
