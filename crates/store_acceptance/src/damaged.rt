@@ -1,13 +1,13 @@
 //! Files that were altered behind the store's back: whatever calls for one is refused with its name, and nothing is written.
 
-use crate::scripts::Step::{Ask, Dump};
-use crate::scripts::{Put, Step, expect_steps};
-use crate::talks::{
-    DONE, HOST, MADE, Machine, NOW, OK, Row, Says, blank_disk, expect_files, expect_talk,
-};
 use disk_trait::{Disk, FileId, PoolId};
 use pool_name::Md5Namer;
 use std::test::Fail;
+use store_talks::scripts::Step::{Ask, Dump};
+use store_talks::scripts::{Put, Step, expect_steps};
+use store_talks::talks::{
+    DONE, HOST, MADE, Machine, NOW, OK, Row, Says, blank_disk, expect_files, expect_talk,
+};
 
 /// Two backups, the newer of which is stored whole.
 const TWO: &[Step] = &[

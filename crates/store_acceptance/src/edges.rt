@@ -1,10 +1,10 @@
 //! Dumps at the edge of what is usual: an empty file alone, one content at two paths, two puts at one path, a second dump of a host.
 
-use crate::scripts::Step::{Ask, Clean, Commit, Dump, File, Open, Read};
-use crate::scripts::{Put, Step, expect_steps};
-use crate::talks::{CONFLICT, DONE, HOST, Row, Says, blank_disk, expect_files};
 use disk_trait::FileId;
 use std::test::Fail;
+use store_talks::scripts::Step::{Ask, Clean, Commit, Dump, File, Open, Read};
+use store_talks::scripts::{Put, Step, expect_steps};
+use store_talks::talks::{CONFLICT, DONE, HOST, Row, Says, blank_disk, expect_files};
 
 /// A dump whose one file is empty: the pool has no content of it.
 const EMPTY_FILE: &[Step] = &[

@@ -1,9 +1,9 @@
 //! What goes by the clock: the rules of keeping, blackout, and what is due.
 
-use crate::scripts::Step::{Ask, Contact, Due, Dump, Expire, Gone, Held};
-use crate::scripts::{At, Script, expect_script};
-use crate::talks::{DONE, HOST, Machine, Row, START, blank_disk};
 use std::test::Fail;
+use store_talks::scripts::Step::{Ask, Contact, Due, Dump, Expire, Gone, Held};
+use store_talks::scripts::{At, Script, expect_script};
+use store_talks::talks::{DONE, HOST, Machine, Row, START, blank_disk};
 
 const WEEK: u64 = 604_800;
 

@@ -1,6 +1,5 @@
 //! A host that has given all but the last of its numbers.
 
-use crate::talks::{DONE, HOST, MADE, NOW, OK, Row, Says, blank_disk, expect_talk};
 use attr_records::HostName;
 use backup_index::{HostIndex, LineList, write_host_index};
 use backup_rules::Rules;
@@ -8,6 +7,7 @@ use disk_trait::{Bytes, Disk, FileId};
 use pool_name::Md5Namer;
 use std::alloc::Global;
 use std::test::Fail;
+use store_talks::talks::{DONE, HOST, MADE, NOW, OK, Row, Says, blank_disk, expect_talk};
 
 /// The index of the host `pc1`, without backups, whose next number is the last one.
 fn spent_index(alloc: Global) -> Result<Bytes, Fail> {

@@ -17,11 +17,7 @@ mod night_stops;
 #[cfg(test)]
 mod nights;
 #[cfg(test)]
-mod scripts;
-#[cfg(test)]
 mod stops;
-#[cfg(test)]
-mod talks;
 #[cfg(test)]
 mod trees;
 #[cfg(test)]

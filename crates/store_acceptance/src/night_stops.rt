@@ -1,11 +1,5 @@
 //! Stops in a night, whose leavings are compared with what the office in memory answers.
 
-use crate::scripts::Step::{Ask, Clean, Dump, Expire};
-use crate::scripts::{At, Put, Script, expect_script};
-use crate::talks::{
-    CHOICES, DONE, HOST, Machine, NOW, Row, START, blank_disk, clock_of, expect, image_of, pipe,
-    put_request,
-};
 use admin_cli::Note;
 use backup_rules::Rules;
 use browse_http::{End, Served, serve_connection};
@@ -14,6 +8,12 @@ use pool_name::Md5Namer;
 use request_events::Defaults;
 use std::alloc::{AllocError, Global};
 use std::test::Fail;
+use store_talks::scripts::Step::{Ask, Clean, Dump, Expire};
+use store_talks::scripts::{At, Put, Script, expect_script};
+use store_talks::talks::{
+    CHOICES, DONE, HOST, Machine, NOW, Row, START, blank_disk, clock_of, expect, image_of, pipe,
+    put_request,
+};
 use stream_traits::{MemoryLink, OpenGate};
 use tree_office::TreeOffice;
 use wake_schedule::Zone;

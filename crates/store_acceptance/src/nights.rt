@@ -1,13 +1,13 @@
 //! The night: what deletion, cleaning and sweeping leave.
 
-use crate::scripts::Step::{Ask, Clean, Dump, File, NoFile, Open, Read};
-use crate::scripts::{Put, Step, expect_steps};
-use crate::talks::{
-    ABSENT, CONFLICT, DONE, HOST, MADE, Row, Says, WEEKLY, blank_disk, expect, expect_files,
-};
 use disk_trait::{Disk, FileId, MemoryDisk};
 use std::alloc::Global;
 use std::test::Fail;
+use store_talks::scripts::Step::{Ask, Clean, Dump, File, NoFile, Open, Read};
+use store_talks::scripts::{Put, Step, expect_steps};
+use store_talks::talks::{
+    ABSENT, CONFLICT, DONE, HOST, MADE, Row, Says, WEEKLY, blank_disk, expect, expect_files,
+};
 
 /// A content of two hosts, one of which loses its backup: nothing is marked.
 const TWO_HOSTS: &[Step] = &[

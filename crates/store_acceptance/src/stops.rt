@@ -1,12 +1,12 @@
 //! Stops and faults in a commit, around the write of Gate.
 
-use crate::talks::{
-    ABSENT, CHOICES, DONE, HOST, MADE, Machine, NOW, OK, Row, Says, blank_disk, expect,
-    expect_talk, image_of, is_answered, place_answered, talk,
-};
 use disk_trait::{Choice, Disk, FileId, MemoryDisk};
 use pool_name::Md5Namer;
 use std::test::Fail;
+use store_talks::talks::{
+    ABSENT, CHOICES, DONE, HOST, MADE, Machine, NOW, OK, Row, Says, blank_disk, expect,
+    expect_talk, image_of, is_answered, place_answered, talk,
+};
 
 const FULL: Row = Row(
     "POST /hosts/pc1/dumps?kind=full",

@@ -1,10 +1,12 @@
 //! Trees that change from backup to backup, and the tables that are kept of them.
 
-use crate::scripts::Step::{Ask, Commit, Dump, File, Open, Read};
-use crate::scripts::{Put, Step, expect_steps};
-use crate::talks::{ABSENT, CONFLICT, DONE, HOST, Row, Says, WEEKLY, blank_disk, expect_files};
 use disk_trait::FileId;
 use std::test::Fail;
+use store_talks::scripts::Step::{Ask, Commit, Dump, File, Open, Read};
+use store_talks::scripts::{Put, Step, expect_steps};
+use store_talks::talks::{
+    ABSENT, CONFLICT, DONE, HOST, Row, Says, WEEKLY, blank_disk, expect_files,
+};
 
 /// A directory that isn't there, is there with three files, isn't there, and is there without files.
 const DIRECTORY: &[Step] = &[

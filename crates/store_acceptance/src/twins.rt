@@ -1,12 +1,12 @@
 //! Two contents of one digest.
 
-use crate::talks::{
-    ABSENT, CHOICES, DONE, HOST, MADE, Machine, NOW, Row, Says, blank_disk, expect, expect_files,
-    expect_talk, image_of, place_answered,
-};
 use disk_trait::{Choice, FileId, MemoryDisk, PoolId};
 use pool_name::FirstByteNamer;
 use std::test::Fail;
+use store_talks::talks::{
+    ABSENT, CHOICES, DONE, HOST, MADE, Machine, NOW, Row, Says, blank_disk, expect, expect_files,
+    expect_talk, image_of, place_answered,
+};
 
 /// Both contents begin with the byte that is their digest.
 const KEPT: &[Row] = &[
