@@ -1,7 +1,8 @@
 -- Laws of what a deletion says of the tables that it calls for.
 --     called_by      the tables that were read are those of a window of the host's backups
 --     none_called      if no backup goes, none is called for
---     said_unwritten, said_again, said_broken      of a refusal of a commit, of the same one as before, and of a broken rule
+--     said_unwritten, said_again      of a refusal of a commit, and of the same one as before
+--     said_broken, said_memory      of a broken rule, and of want of memory
 --     said_none      of an event that calls for none
 --     said_at, said_of_host      of the host of a name
 use Rattle.std.specs.Prelude.{◌≡◌, ℕ, false, List, [], ◌∷◌, Option, Some, Result, Ok, Err, slice_get}
@@ -92,6 +93,11 @@ module _ {D N S : Type 0} {d : DiskGhosts D} {n : NamerGhosts N S} where
   said_broken old new p numbers (Ok answer) rule is = absurd is
   said_broken {A} old new p numbers (Err refusal) rule is =
       subst (λ (r : Refusal). SaysOfTables {A = A} old new p numbers (Err r)) (sym is) tt
+
+  pub said_memory : {A : Type 0} (old new : StoreParts D N S d n) (p : ℕ) (numbers : List ℕ) (reply : Result A Refusal)
+      → IsErrAnd reply (λ refusal. refusal ≡ R.Memory) → SaysOfTables old new p numbers reply
+  said_memory old new p numbers (Ok answer) is = absurd is
+  said_memory {A} old new p numbers (Err refusal) is = subst (λ (r : Refusal). SaysOfTables {A = A} old new p numbers (Err r)) (sym is) tt
 
   -- of the host at the place that was found
   pub said_at : {A : Type 0} (old new : StoreParts D N S d n) (found : Option ℕ) (at : ℕ) (numbers : List ℕ) (result : Result A Refusal)

@@ -36,6 +36,7 @@ module _ {D N S : Type 0} {d : DiskGhosts D} {n : NamerGhosts N S} where
   abbrev pub SaysOfTables : {A : Type 0} → (old new : StoreParts D N S d n) → ℕ → List ℕ → Result A Refusal → Type 0
   SaysOfTables old new p numbers (Ok done) = (index : HostIndex) → slice_get old.catalog.hosts p ≡ Some index
       → HasCalled (told old.journal) p index.lines numbers
-  SaysOfTables old new p numbers (Err (R.Damaged file found)) = IsRead old new × ((index : HostIndex) → slice_get old.catalog.hosts p ≡ Some index
-      → IsDamaged (told old.journal) p index.lines file found)
+  SaysOfTables old new p numbers (Err (R.Damaged file found)) =
+      IsRead old new
+      × ((index : HostIndex) → slice_get old.catalog.hosts p ≡ Some index → IsDamaged (told old.journal) p index.lines file found)
   SaysOfTables old new p numbers (Err refusal) = ⊤

@@ -58,7 +58,8 @@ module _ (all : Files) (host : ℕ) where
 
   pub part_tables : (first end : ℕ) (lines : List Line) (tables : List Rows) → AreTableFiles all host lines tables
       → AreTableFiles all host (part first end lines) (part first end tables)
-  part_tables first end lines tables are = files_take (end - first) (drop first lines) (drop first tables) (files_drop first lines tables are)
+  part_tables first end lines tables are =
+      files_take (end - first) (drop first lines) (drop first tables) (files_drop first lines tables are)
 
 -- ---- of a host
 

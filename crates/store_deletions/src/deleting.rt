@@ -6,7 +6,7 @@ ghost use Rattle.office_model.specs.declared.event.Event.TheVariants.{Delete};
 ghost use Rattle.store_parts.specs.Runs.{Runs};
 ghost use Rattle.store_deletions.specs.Called.{SaysOfTables};
 
-use crate::judge::broken_rule;
+use crate::judge::deletable;
 use crate::shorten::shorten;
 use attr_records::HostName;
 use disk_trait::Disk;
@@ -30,10 +30,7 @@ pub fn delete<D: Disk, N: Namer>(
         → SaysOfTables parts.old parts.new place (number ∷ []) result }
 {
     let at = parts.host(host)?;
-    match broken_rule(&parts.catalog, at, number) {
-        Some(rule) => return Err(Refusal::Broken(rule)),
-        None => {}
-    }
+    deletable(parts, at, number)?;
     match shorten(parts, alloc, at, &[number]) {
         Ok(()) => Ok(Answer::Done),
         Err(refusal) => Err(refusal),

@@ -34,10 +34,7 @@ pub fn expire<D: Disk, N: Namer>(
         → SaysOfTables parts.old parts.new place (named_numbers index.rules now index.lines) result }
 {
     let at = parts.host(host)?;
-    let numbers = match named_numbers(alloc, &parts.catalog.hosts()[at], now) {
-        Ok(numbers) => numbers,
-        Err(_) => return Err(Refusal::Memory),
-    };
+    let numbers = named_numbers(alloc, &parts.catalog.hosts()[at], now)?;
     let named = numbers.as_slice();
     if named.is_empty() {
         return Ok(Answer::Expired(0));

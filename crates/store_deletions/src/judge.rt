@@ -1,32 +1,38 @@
 //! Which rules a deletion breaks, and which backups the keeping rules name, by what is in memory.
 
-ghost use Rattle.std.specs.Prelude.{◌≡◌, ◌<◌, ◌++◌, ◌∷◌, [], length, IfOk, OnOk, Some, slice_get};
+ghost use Rattle.std.specs.Prelude.{◌≡◌, ◌<◌, ◌++◌, ◌∷◌, [], length, IfOk, IfErr, OnOk, Some, None, slice_get};
 ghost use Rattle.backup_index.specs.Index.{Index};
 ghost use Rattle.office_deletion.specs.ExpiryLaws.{flagged_numbers};
 ghost use Rattle.store_deletions.specs.Shortens.{broken_rule, named_numbers};
 
 use backup_index::HostIndex;
 use backup_rules::Line;
+use disk_trait::Disk;
 use keep_rules::named;
-use office_catalog::Catalog;
 use office_model::BrokenRule;
+use pool_name::Namer;
 use std::alloc::{AllocError, Global};
+use store_parts::StoreParts;
 use stream_traits::Moment;
 
-/// The first rule that the deletion of a backup of a host breaks, if any: there is no such backup, or it is kept.
-pub(crate) fn broken_rule(catalog: &Catalog, host: usize, number: u32) -> Option<BrokenRule>
-    requires { host < length catalog.now.hosts }
-    ensures { (index : Index) → slice_get catalog.now.hosts host ≡ Some index → result ≡ broken_rule index.lines number }
+/// Refuses the deletion of a backup that a host doesn't have, or that is kept.
+pub(crate) fn deletable<D: Disk, N: Namer>(
+    parts: &StoreParts<D, N>,
+    host: usize,
+    number: u32,
+) -> Result<(), BrokenRule>
+    requires { host < length parts.now.catalog.hosts }
+    ensures fine { IfOk result (λ done. (index : Index) → slice_get parts.now.catalog.hosts host ≡ Some index
+        → None ≡ broken_rule index.lines number) }
+    ensures broken { IfErr result (λ rule. (index : Index) → slice_get parts.now.catalog.hosts host ≡ Some index
+        → Some rule ≡ broken_rule index.lines number) }
 {
-    let line = match catalog.line_at(host, number) {
-        Some(line) => line,
-        None => return Some(BrokenRule::NoBackup),
-    };
-    let index = &catalog.hosts()[host];
+    let line = parts.line(host, number)?;
+    let index = &parts.catalog.hosts()[host];
     match index.lines().lines().get(line) {
-        Some(line) if line.keep => Some(BrokenRule::Kept),
-        Some(_) => None,
-        None => Some(BrokenRule::NoBackup),
+        Some(line) if line.keep => Err(BrokenRule::Kept),
+        Some(_) => Ok(()),
+        None => Err(BrokenRule::NoBackup),
     }
 }
 

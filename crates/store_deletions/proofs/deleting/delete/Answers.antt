@@ -1,5 +1,6 @@
 -- The event is judged by the catalog; a deletion behind that.
 use Rattle.std.specs.Prelude.{[], ◌∷◌, Ok, Err}
+use Rattle.std.proofs.Common.{refl}
 use Rattle.office_model.specs.declared.answer.Answer.{Answer}
 use Rattle.office_model.specs.declared.answer.Answer.TheVariants.{Done}
 use Rattle.office_model.specs.declared.event.Event.TheVariants.{Delete}
@@ -13,35 +14,43 @@ use Rattle.store_deletions.proofs.deleting.delete.Goals as goal
 
 pub returns-in_err-at-clause-runs : goal.returns-in_err-at-clause-runs
 returns-in_err-at-clause-runs g c =
-    runs_broken_by c.args.parts.now c.args.parts.now (Delete c.args.host.now c.args.number) c.from_residual.result _ NoHost c.from_residual.ensures.1 c.in_err-at.ensures.rule
+    runs_broken_by c.args.parts.now c.args.parts.now (Delete c.args.host.now c.args.number) c.from_residual.result _ NoHost
+    c.from_residual.ensures.1 c.in_err-at.ensures.rule
     (runs_no_host c.args.parts.now (Delete c.args.host.now c.args.number) c.args.host.now c.in_err-at.ensures.none
     (λ office names e. no_host_delete c.args.host.now c.args.number office names e))
 
-pub returns-in-Some-clause-runs : goal.returns-in-Some-clause-runs
-returns-in-Some-clause-runs g c =
+pub returns-in_err-deletable-clause-runs : goal.returns-in_err-deletable-clause-runs
+returns-in_err-deletable-clause-runs g c =
     let index = within_there c.args.parts.now.catalog.hosts c.in_ok-at.at c.in_ok-at.ensures.within in
-    runs_broken c.args.parts.now (Delete c.args.host.now c.args.number) c.in-Some.rule
+    runs_broken_by c.args.parts.now c.args.parts.now (Delete c.args.host.now c.args.number) c.from_residual-in_err-deletable.result _ _
+    c.from_residual-in_err-deletable.ensures.1 refl
+    (runs_broken c.args.parts.now (Delete c.args.host.now c.args.number) _
     (λ office names is.
     deleting_broken c.args.parts.now.catalog c.args.host.now c.in_ok-at.at index.0 c.in_ok-at.ensures.found index.1 c.args.number
-    c.in-Some.rule (c.in-Some.ensures index.0 index.1) office names is.catalog_is)
+    _ (c.in_err-deletable.ensures.broken index.0 index.1) office names is.catalog_is))
 
 pub returns-in-Ok-clause-runs : goal.returns-in-Ok-clause-runs
 returns-in-Ok-clause-runs g c =
     let index = within_there c.args.parts.now.catalog.hosts c.in_ok-at.at c.in_ok-at.ensures.within in
     c.in-Ok.ensures.runs (Delete c.args.host.now c.args.number) Done
     (deleting c.args.parts.now.catalog c.args.host.now c.in_ok-at.at index.0 c.in_ok-at.ensures.found index.1 c.args.number
-    (c.in-None.ensures index.0 index.1))
+    (c.in_ok-deletable.ensures.fine index.0 index.1))
 
 pub returns-in-Err-clause-runs : goal.returns-in-Err-clause-runs
 returns-in-Err-clause-runs g c =
     let index = within_there c.args.parts.now.catalog.hosts c.in_ok-at.at c.in_ok-at.ensures.within in
     c.in-Err.ensures.runs (Delete c.args.host.now c.args.number) Done
     (deleting c.args.parts.now.catalog c.args.host.now c.in_ok-at.at index.0 c.in_ok-at.ensures.found index.1 c.args.number
-    (c.in-None.ensures index.0 index.1))
+    (c.in_ok-deletable.ensures.fine index.0 index.1))
 
 pub returns-in_err-at-clause-tables : goal.returns-in_err-at-clause-tables
 returns-in_err-at-clause-tables g c = λ place is.
     said_broken c.args.parts.now c.args.parts.now place (c.args.number ∷ []) c.from_residual.result _ c.from_residual.ensures.1
+
+pub returns-in_err-deletable-clause-tables : goal.returns-in_err-deletable-clause-tables
+returns-in_err-deletable-clause-tables g c = λ place is.
+    said_broken c.args.parts.now c.args.parts.now place (c.args.number ∷ []) c.from_residual-in_err-deletable.result _
+    c.from_residual-in_err-deletable.ensures.1
 
 pub returns-in-Ok-clause-tables : goal.returns-in-Ok-clause-tables
 returns-in-Ok-clause-tables g c =
