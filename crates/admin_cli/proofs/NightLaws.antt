@@ -8,15 +8,15 @@ use Rattle.fault_counts.specs.Counts.{Rose}
 use Rattle.wake_schedule.specs.Clock.{local_of}
 use Rattle.wake_schedule.specs.Zones.{ahead_at}
 use Rattle.disk_trait.specs.declared.disk.Disk.{Ghosts as DiskGhosts}
-use Rattle.disk_trait.specs.Images.{Leaves}
 use Rattle.pool_name.specs.declared.namer.Namer.{Ghosts as NamerGhosts}
-use Rattle.journal_view.specs.Found.{Finds}
 use Rattle.office_model.specs.declared.refusal.Refusal.{Refusal}
 use Rattle.office_model.specs.declared.refusal.Refusal.TheVariants as R
+use Rattle.pool_changes.specs.Kept.{slots_of}
+use Rattle.pool_store.specs.Opening.{AreThePoolFiles}
 use Rattle.office_model.specs.Office.{Durable, reopened}
 use Rattle.office_model.specs.Step.{Call}
-use Rattle.store_opening.specs.Begins.{MayLeave}
 use Rattle.store_opening.specs.Opens.{IsOf, Opened}
+use Rattle.store_opening.specs.Settles.{ComesToOne}
 use Rattle.office_store.specs.declared.store.Store.{Store}
 use Rattle.office_store.specs.declared.port.DirectPort.{DirectPort}
 use Rattle.office_store.specs.Moves.{Moves}
@@ -76,10 +76,10 @@ has_cause d digest_of disk disk' calls halted a b (N.Refused refusal) moment day
 has_cause d digest_of disk disk' calls halted a b N.Memory moment day period ends served = tt
 
 module _ {D N S : Type 0} {d : DiskGhosts D} {n : NamerGhosts N S} (disk : D) (store store' : Store D N S d n)
-    (opened : (a b : Durable) → IsOf n.digest_of (d.files disk) (d.uncertain disk) a b → Opened a b store.parts)
-    (begun : (a b : Durable) → IsOf n.digest_of (d.files disk) (d.uncertain disk) a b
-    → Leaves d.moment d.left_since disk store.parts.journal.disk (Finds (MayLeave n.digest_of a b)))
-    (calm : d.fault_count store.parts.journal.disk ≡ d.fault_count disk) where
+    (settles : (a b : Durable) → IsOf n.digest_of (d.files disk) (d.uncertain disk) a b
+    → (o : Opened a b store.parts) × ComesToOne d n.digest_of disk store.parts.journal.disk a b o.office)
+    (calm : d.fault_count store.parts.journal.disk ≡ d.fault_count disk)
+    (listed : AreThePoolFiles (d.files disk) (slots_of store.parts.pool.names)) where
   pub does_night : (scheduled : Bool) (line : Option Line) (settings : List ℕ) (read : Settings) (port port' : DirectPort D N S d n)
       (link link' : LinkSeen) (moments moments' : Option (List ℕ)) (end : NightEnd) (disk' : D) (failed halted : Bool) (note : Note)
       → AsksFor (Night scheduled) line → IsSettings settings read → port.store ≡ store
@@ -106,14 +106,14 @@ module _ {D N S : Type 0} {d : DiskGhosts D} {n : NamerGhosts N S} (disk : D) (s
           clock = works.clock;
           due = works.due;
           calls = works.calls;
-          moved = is_served disk store store' opened begun calm works.calls moved;
+          moved = is_served disk store store' settles calm listed works.calls moved;
           ends = works.ends;
         };
         says = says;
         cause = λ a b stands.
             has_cause d n.digest_of disk store'.parts.journal.disk works.calls _ a b end works.moment
             (local_of works.moment (ahead_at read.zone works.moment)).day read.period works.ends
-            (is_served disk store store' opened begun calm works.calls moved a b stands);
+            (is_served disk store store' settles calm listed works.calls moved a b stands);
         later = omega (arith, calm, moved.later);
         note_is = refl;
       })

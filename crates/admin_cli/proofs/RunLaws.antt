@@ -7,16 +7,19 @@ use Rattle.std.proofs.Common.{◌≡◌, ℕ, ◌-◌, ◌^◌, ◌<◌, Bool, t
 use Rattle.fault_counts.specs.Counts.{Rose}
 use Rattle.disk_trait.specs.declared.disk.Disk.{Ghosts as DiskGhosts}
 use Rattle.disk_trait.specs.Files.{Files}
-use Rattle.disk_trait.specs.Images.{Leaves, leaves_then, leaves_wider}
+use Rattle.disk_trait.specs.Images.{leaves_wider, only_wider}
 use Rattle.pool_name.specs.declared.namer.Namer.{Ghosts as NamerGhosts}
-use Rattle.journal_view.specs.Found.{Finds}
 use Rattle.journal_view.specs.FoundLaws.{finds_wider}
-use Rattle.office_model.specs.Office.{Durable, reopened}
+use Rattle.pool_changes.specs.Kept.{slots_of}
+use Rattle.pool_store.specs.Opening.{AreThePoolFiles}
+use Rattle.office_model.specs.Office.{Durable, raised, reopened}
 use Rattle.office_model.specs.Step.{Call, Running}
 use Rattle.store_opening.specs.declared.fault.OpenRefusal.{OpenRefusal}
 use Rattle.store_opening.specs.declared.fault.OpenRefusal.TheVariants as O
-use Rattle.store_opening.specs.Begins.{MayLeave}
 use Rattle.store_opening.specs.Opens.{IsOf, HasLast, Opened}
+use Rattle.store_parts.specs.Held.{IsEither}
+use Rattle.store_opening.specs.Settles.{ComesToOne}
+use Rattle.store_opening.specs.SettlesLaws.{only_after}
 use Rattle.office_store.specs.declared.store.Store.{Store}
 use Rattle.office_store.specs.declared.port.DirectPort.{DirectPort}
 use Rattle.office_store.specs.Moves.{MayRecoverIn, Moves, Goes}
@@ -38,19 +41,25 @@ use Rattle.admin_cli.specs.Run.{note_of, note_of_refusal, StandsForEither, IsSer
 use Rattle.admin_cli.proofs.RefusalLaws.{none_said, said_task, file_of, refused_for_memory, tells_refused, tells_unopened}
 
 module _ {D N S : Type 0} {d : DiskGhosts D} {n : NamerGhosts N S} (disk : D) (store store' : Store D N S d n)
-    (opened : (a b : Durable) → IsOf n.digest_of (d.files disk) (d.uncertain disk) a b → Opened a b store.parts)
-    (begun : (a b : Durable) → IsOf n.digest_of (d.files disk) (d.uncertain disk) a b
-    → Leaves d.moment d.left_since disk store.parts.journal.disk (Finds (MayLeave n.digest_of a b)))
-    (calm : d.fault_count store.parts.journal.disk ≡ d.fault_count disk) where
+    (settles : (a b : Durable) → IsOf n.digest_of (d.files disk) (d.uncertain disk) a b
+    → (o : Opened a b store.parts) × ComesToOne d n.digest_of disk store.parts.journal.disk a b o.office)
+    (calm : d.fault_count store.parts.journal.disk ≡ d.fault_count disk)
+    (listed : AreThePoolFiles (d.files disk) (slots_of store.parts.pool.names)) where
   pub is_served : (calls : List Call) → Moves store calls store' → (a b : Durable) → StandsForEither d n.digest_of disk a b
       → IsServed d n.digest_of disk store'.parts.journal.disk calls (store'.parts.halted || store'.parts.journal.halted) a b
   is_served calls moved a b stands =
-      let o = opened a b stands in
+      let w = settles a b stands in
+      let o = w.0 in
       let g = moved.goes (Running (reopened o.office) o.names) o.running o.running.sound in
       record {
         office = o.office;
         is_one = o.is_one;
         names = o.names;
+        digest = o.running.digest;
+        listed = λ all is id. (
+          (λ among. sym (listed all is id) ∙ o.running.used.slot id among),
+          (λ there. o.running.used.among id (listed all is id ∙ there)),
+        );
         opening = d.fault_count store.parts.journal.disk;
         since = omega (arith, calm);
         last = g.next;
@@ -58,16 +67,18 @@ module _ {D N S : Type 0} {d : DiskGhosts D} {n : NamerGhosts N S} (disk : D) (s
         left = left_of store' g.next g.in_state;
         halted_is = halted_as store' g.next g.in_state;
         rose = λ halted. rose_of o g halted;
-        crash = leaves_then
-            (leaves_wider (begun a b stands)
-            (λ image finds. finds_wider (MayLeave n.digest_of a b) (during o) image (λ found may. inl may) finds))
+        synced = w.1.synced;
+        up_to = w.1.up_to;
+        crash = only_after
+            (only_wider w.1.from_then
+            (λ image finds. finds_wider (IsEither n.digest_of o.office (raised o.office)) (during o) image (λ found may. inl may) finds))
             (leaves_wider g.crash (λ image finds. finds_wider (MayRecoverIn n.digest_of
             (Running (reopened o.office) o.names) (d.fault_count store.parts.journal.disk) calls) (during o) image (λ found may. inr may) finds));
       }
     where
       during : Opened a b store.parts → Files → Type 0
       during o found =
-          MayLeave n.digest_of a b found
+          IsEither n.digest_of o.office (raised o.office) found
           ⊎ MayRecoverIn n.digest_of (Running (reopened o.office) o.names) (d.fault_count store.parts.journal.disk) calls found
 
       rose_of : (o : Opened a b store.parts) (g : Goes store (Running (reopened o.office) o.names) calls store')

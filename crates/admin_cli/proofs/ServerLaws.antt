@@ -6,13 +6,13 @@ use Rattle.std.proofs.Common.{◌≡◌, ℕ, ◌-◌, ◌^◌, ◌<◌, Bool, t
 use Rattle.std.proofs.lemmas.Bool.Decides.{nat_tests}
 use Rattle.fault_counts.specs.Counts.{Rose}
 use Rattle.disk_trait.specs.declared.disk.Disk.{Ghosts as DiskGhosts}
-use Rattle.disk_trait.specs.Images.{Leaves}
 use Rattle.pool_name.specs.declared.namer.Namer.{Ghosts as NamerGhosts}
-use Rattle.journal_view.specs.Found.{Finds}
 use Rattle.stream_traits.specs.declared.link.Faults.{Ghosts}
+use Rattle.pool_changes.specs.Kept.{slots_of}
+use Rattle.pool_store.specs.Opening.{AreThePoolFiles}
 use Rattle.office_model.specs.Office.{Durable}
-use Rattle.store_opening.specs.Begins.{MayLeave}
 use Rattle.store_opening.specs.Opens.{IsOf, Opened}
+use Rattle.store_opening.specs.Settles.{ComesToOne}
 use Rattle.office_store.specs.declared.store.Store.{Store}
 use Rattle.office_store.specs.Moves.{Moves}
 use Rattle.request_events.specs.declared.defaults.Defaults.{Defaults}
@@ -31,10 +31,10 @@ use Rattle.admin_cli.specs.Servers.{has_risen, note_of_served, counts_of, Serves
 use Rattle.admin_cli.proofs.RunLaws.{is_served, EndsWell}
 
 module _ {D N S : Type 0} {d : DiskGhosts D} {n : NamerGhosts N S} (disk : D) (store store' : Store D N S d n)
-    (opened : (a b : Durable) → IsOf n.digest_of (d.files disk) (d.uncertain disk) a b → Opened a b store.parts)
-    (begun : (a b : Durable) → IsOf n.digest_of (d.files disk) (d.uncertain disk) a b
-    → Leaves d.moment d.left_since disk store.parts.journal.disk (Finds (MayLeave n.digest_of a b)))
-    (calm : d.fault_count store.parts.journal.disk ≡ d.fault_count disk) {T C G L : Type 0} (l : Ghosts L)
+    (settles : (a b : Durable) → IsOf n.digest_of (d.files disk) (d.uncertain disk) a b
+    → (o : Opened a b store.parts) × ComesToOne d n.digest_of disk store.parts.journal.disk a b o.office)
+    (calm : d.fault_count store.parts.journal.disk ≡ d.fault_count disk)
+    (listed : AreThePoolFiles (d.files disk) (slots_of store.parts.pool.names)) {T C G L : Type 0} (l : Ghosts L)
     (coming given_back : T → Option (List L)) (faults : T → ℕ) (moments_of : C → Option (List ℕ)) where
   pub serves_doors : (defaults : Defaults) (line : Option Line) (settings listen : List ℕ) (connections : Option ℕ) (read : Settings)
       (before after : List (Worker T C G)) (counts : List ℕ) (disk' : D) (failed halted : Bool) (note : Note)
@@ -57,7 +57,7 @@ module _ {D N S : Type 0} {d : DiskGhosts D} {n : NamerGhosts N S} (disk : D) (s
         is_read = is_read;
         halted = store'.parts.halted || store'.parts.journal.halted;
         log = all.log;
-        moved = is_served disk store store' opened begun calm (calls_in all.log) moved;
+        moved = is_served disk store store' settles calm listed (calls_in all.log) moved;
         each = all.each;
         only = all.only;
         later = omega (arith, calm, moved.later);
@@ -76,7 +76,7 @@ module _ {D N S : Type 0} {d : DiskGhosts D} {n : NamerGhosts N S} (disk : D) (s
         read = read;
         is_read = is_read;
         halted = store'.parts.halted || store'.parts.journal.halted;
-        moved = is_served disk store store' opened begun calm [] moved;
+        moved = is_served disk store store' settles calm listed [] moved;
         untouched = same;
         later = omega (arith, calm, moved.later);
         note_is = note_is;

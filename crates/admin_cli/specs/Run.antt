@@ -3,21 +3,24 @@
 --     IsServed      one legal history of the calls, from one of the offices that the disk stood for, and what the disk is left with
 --     Serves, Refuses      a connection was served; no store was opened
 --     IsComplete      how a run ends if nothing failed
-use Rattle.std.specs.Prelude.{◌≡◌, ℕ, ◌-◌, ◌^◌, ◌<◌, ◌≤◌, Bool, true, false, List, Option, IsSome, ◌⊎◌, if◌then◌else◌}
+use Rattle.std.specs.Prelude.{◌≡◌, ℕ, ◌-◌, ◌^◌, ◌<◌, ◌≤◌, Bool, true, false, List, Option, Some, option_map, IsSome, ◌⊎◌, if◌then◌else◌}
 use Rattle.fault_counts.specs.Counts.{Rose, Counted}
 use Rattle.disk_trait.specs.declared.disk.Disk.{Ghosts as DiskGhosts}
-use Rattle.disk_trait.specs.Images.{Leaves}
+use Rattle.disk_trait.specs.Files.{Files}
+use Rattle.disk_trait.specs.Images.{Leaves, LeavesOnly}
 use Rattle.stream_traits.specs.Seen.{LinkSeen}
-use Rattle.journal_view.specs.Found.{Finds}
-use Rattle.office_model.specs.Office.{Durable, Names, reopened}
+use Rattle.journal_view.specs.Found.{seen, Finds}
+use Rattle.office_model.specs.Office.{Durable, Names, raised, reopened}
 use Rattle.office_model.specs.Step.{Call, State, Running, Halted, IsPicked}
 use Rattle.office_model.specs.History.{Leads}
+use Rattle.store_parts.specs.Held.{IsEither}
 use Rattle.store_opening.specs.declared.fault.OpenRefusal.{OpenRefusal}
 use Rattle.store_opening.specs.declared.fault.OpenRefusal.TheVariants as O
-use Rattle.store_opening.specs.Begins.{MayLeave}
 use Rattle.store_opening.specs.Opens.{IsOf, HasLast, Left}
 use Rattle.store_opening.specs.Recovers.{SaysWhy}
 use Rattle.store_opening.specs.Reopens.{first_of, second_of}
+use Rattle.store_opening.specs.Settles.{IsStopped}
+use Rattle.store_opening.specs.Whole.{AreListed, SaysSpent}
 use Rattle.office_store.specs.Moves.{MayRecoverIn}
 use Rattle.settings_file.specs.declared.read.Settings.{Settings}
 use Rattle.settings_file.specs.Document.{IsSettings}
@@ -55,13 +58,17 @@ module _ {D : Type 0} (d : DiskGhosts D) (digest_of : List ℕ → List ℕ) whe
   abbrev pub StandsForEither : D → Durable → Durable → Type 0
   StandsForEither disk = IsOf digest_of (d.files disk) (d.uncertain disk)
 
-  -- There is one legal history of these calls, from one of the two offices that the disk stood for, opened, to a last state. The
+  -- There is one legal history of these calls, from one of the two offices that the disk stood for, opened, to a last state. The names
+  -- that were in use at its beginning are those of the disk's Pool files. The
   -- disk handed back stands for the durable part of its office, or for one of its two if it is halted, for which a fault of the
-  -- disk was counted. And a crash at any moment of the run leaves an office as an opening or one of the events may leave it.
+  -- disk was counted. A crash up to the first sync that succeeded leaves one of the two, and from then on the one that was opened, as it
+  -- was or in its next epoch, or what one of the events may leave.
   pub record IsServed (disk disk' : D) (calls : List Call) (halted : Bool) (a b : Durable) : Type 0 where
     pub office : Durable
     pub is_one : IsPicked a b office
     pub names : Names
+    pub digest : names.digest_of ≡ digest_of
+    pub listed : (all : Files) → d.files disk ≡ Some all → AreListed names.used all
     pub opening : ℕ
     pub since : d.fault_count disk ≤ opening
     pub last : State
@@ -69,8 +76,10 @@ module _ {D : Type 0} (d : DiskGhosts D) (digest_of : List ℕ → List ℕ) whe
     pub left : StandsForEither disk' (first_of last) (second_of last)
     pub halted_is : halted ≡ is_halted last
     pub rose : halted ≡ true → Rose (d.fault_count disk) (d.fault_count disk')
-    pub crash : Leaves d.moment d.left_since disk disk' (Finds (λ found.
-        MayLeave digest_of a b found ⊎ MayRecoverIn digest_of (Running (reopened office) names) opening calls found))
+    pub synced : D
+    pub up_to : Leaves d.moment d.left_since disk synced (Finds (IsEither digest_of a b))
+    pub crash : LeavesOnly d.moment d.left_since synced disk' (Finds (λ found.
+        IsEither digest_of office (raised office) found ⊎ MayRecoverIn digest_of (Running (reopened office) names) opening calls found))
 
   -- the calls lead from one disk to another, if whatever a crash of the first leaves stands for one of two offices
   abbrev pub LeadsOnDisk : (halted : Bool) → D → List Call → D → Type 0
@@ -89,14 +98,16 @@ module _ {D : Type 0} (d : DiskGhosts D) (digest_of : List ℕ → List ℕ) whe
     pub later : d.fault_count disk ≤ d.fault_count disk'
     pub note_is : note ≡ note_of end halted
 
-  -- The store was not opened for this reason. A file is named only if it is seen not to be the store's; the disk's count rose exactly
+  -- The store was not opened for this reason. A file is named only if it is seen not to be the store's, and the epochs are spent only
+  -- if the files are those of a store in its last one; the disk's count rose exactly
   -- if it failed; and the disk handed back stands for what it stood for, or, if it failed, for one of the offices as it was or in its
   -- next epoch; so does what a crash meanwhile leaves.
   pub record IsUnopened (disk disk' : D) (refusal : OpenRefusal) : Type 0 where
     pub why : SaysWhy (d.files disk) (d.files disk') refusal
+    pub spent : SaysSpent (option_map seen (d.files disk')) refusal
     pub counted : Counted (d.fault_count disk) (d.fault_count disk') (refusal ≡ O.DiskFault)
     pub left : (a b : Durable) → StandsForEither disk a b → Left digest_of (d.files disk') (d.uncertain disk') a b refusal
-    pub crash : (a b : Durable) → StandsForEither disk a b → Leaves d.moment d.left_since disk disk' (Finds (MayLeave digest_of a b))
+    pub crash : (a b : Durable) → StandsForEither disk a b → IsStopped d digest_of disk disk' a b
 
   -- words and settings were understood, and the opening was refused
   pub record IsNotOpened (disk disk' : D) (line : Option Line) (settings : List ℕ) (note : Note) : Type 0 where

@@ -9,28 +9,35 @@ use std::alloc::Global;
 use store_opening::OpenRefusal;
 
 impl<D: Disk, N: Namer> Store<D, N> {
-    ghost use Rattle.std.specs.Prelude.{IfOk, IfErr};
+    ghost use Rattle.std.specs.Prelude.{IfOk, IfErr, option_map};
     ghost use Rattle.fault_counts.specs.Counts.{Counted};
-    ghost use Rattle.disk_trait.specs.Images.{Leaves};
-    ghost use Rattle.journal_view.specs.Found.{Finds};
+    ghost use Rattle.journal_view.specs.Found.{seen};
+    ghost use Rattle.pool_changes.specs.Kept.{slots_of};
+    ghost use Rattle.pool_store.specs.Opening.{AreThePoolFiles};
     ghost use Rattle.office_model.specs.Office.{Durable};
     ghost use Rattle.store_opening.specs.Recovers.{SaysWhy};
-    ghost use Rattle.store_opening.specs.Begins.{MayLeave};
     ghost use Rattle.store_opening.specs.Opens.{IsOf, Opened, Left};
+    ghost use Rattle.store_opening.specs.Settles.{ComesToOne, IsStopped};
+    ghost use Rattle.store_opening.specs.Whole.{HasAllOf, SaysSpent};
 
     /// Opens the store of a disk. A disk without files is that of a store without hosts.
     ///
     /// After Ok the office that the disk had is at work in its next epoch, and durable so. The disk comes back with each
     /// refusal, and can be opened again: after `EpochsSpent` and `Memory` it has the office as it was, after `DiskFault` as
     /// it was or in its next epoch. `Foreign` says what was found of the file; it never comes on a disk that a store left.
+    ///
+    /// Over any disk that tells its files: after Ok they are those of a store, of which memory has what they hold, and the names in
+    /// use are those of the Pool files; `EpochsSpent` comes only over those of a store in its last epoch.
     pub fn open(alloc: Global, disk: D, namer: N) -> Result<Store<D, N>, (D, OpenRefusal)>
-        ensures opened { IfOk result (λ store. (a b : Durable) → IsOf N.digest_of (D.files disk) (D.uncertain disk) a b → Opened a b store.parts) }
+        ensures opened { IfOk result (λ store. (a b : Durable) → IsOf N.digest_of (D.files disk) (D.uncertain disk) a b
+            → (o : Opened a b store.parts) × ComesToOne ⟦<D as Disk>⟧ N.digest_of disk store.parts.journal.disk a b o.office) }
         ensures left { IfErr result (λ refused. (a b : Durable) → IsOf N.digest_of (D.files disk) (D.uncertain disk) a b
             → Left N.digest_of (D.files refused.0) (D.uncertain refused.0) a b refused.1) }
-        ensures crash { IfOk result (λ store. (a b : Durable) → IsOf N.digest_of (D.files disk) (D.uncertain disk) a b
-            → Leaves D.moment D.left_since disk store.parts.journal.disk (Finds (MayLeave N.digest_of a b))) }
-        ensures left_crash { IfErr result (λ refused. (a b : Durable) → IsOf N.digest_of (D.files disk) (D.uncertain disk) a b
-            → Leaves D.moment D.left_since disk refused.0 (Finds (MayLeave N.digest_of a b))) }
+        ensures stops { IfErr result (λ refused. (a b : Durable) → IsOf N.digest_of (D.files disk) (D.uncertain disk) a b
+            → IsStopped ⟦<D as Disk>⟧ N.digest_of disk refused.0 a b) }
+        ensures whole { IfOk result (λ store. HasAllOf store.parts) }
+        ensures listed { IfOk result (λ store. AreThePoolFiles (D.files disk) (slots_of store.parts.pool.names)) }
+        ensures spent { IfErr result (λ refused. SaysSpent (option_map seen (D.files refused.0)) refused.1) }
         ensures foreign { IfErr result (λ refused. SaysWhy (D.files disk) (D.files refused.0) refused.1) }
         ensures counted { IfOk result (λ store. D.fault_count store.parts.journal.disk ≡ D.fault_count disk) }
         ensures left_counted { IfErr result (λ refused. Counted (D.fault_count disk) (D.fault_count refused.0) (refused.1 ≡ OpenRefusal.DiskFault)) }

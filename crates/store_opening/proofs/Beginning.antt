@@ -72,7 +72,7 @@ module _ {D N S : Type 0} {d : DiskGhosts D} (n : NamerGhosts N S) (old : Journa
   begins_not new Memory known spent quiet = may_still n.digest_of old a b holds new ready quiet
 
   module _ (mid : Journal D d) (found : Found N S n) (recovers : Recovers mid found a b) (quiet : Quiet old mid) where
-    epoch_is : found.catalog.epoch ≡ recovers.office.epoch
+    pub epoch_is : found.catalog.epoch ≡ recovers.office.epoch
     epoch_is = ap (λ (k : Known). k.epoch) recovers.stored.catalog_is
 
     pub begins_spent : (epoch : ℕ) → epoch ≡ found.catalog.epoch → last_sequence ≤ epoch → IsSpent n.digest_of a b mid
@@ -83,7 +83,7 @@ module _ {D N S : Type 0} {d : DiskGhosts D} (n : NamerGhosts N S) (old : Journa
       now = may_still n.digest_of old a b holds mid ready quiet;
     }
 
-    pub begins_raised : (new : Journal D d) (next : Found N S n) (epoch : ℕ) → epoch ≡ found.catalog.epoch → epoch < last_sequence
+    unfoldable pub begins_raised : (new : Journal D d) (next : Found N S n) (epoch : ℕ) → epoch ≡ found.catalog.epoch → epoch < last_sequence
         → next.pool ≡ found.pool
         → ((office : Durable) (names : Names) → IsHeld mid found.pool found.catalog found.counts office names
         → IsHeld new next.pool next.catalog next.counts (raised office) names)

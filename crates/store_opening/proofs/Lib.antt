@@ -6,5 +6,7 @@ pub mod Beginning
 pub mod Reopening
 pub mod Running
 pub mod Telling
+pub mod Whole
+pub mod Settling
 pub mod Blank
 pub mod HostTotals

@@ -41,7 +41,7 @@ use Rattle.store_opening.specs.Recovers.{IsHeld, Looks}
 
 -- ---- Head alone is changed
 
-head_only : (changes : List Change) (files : Files) (file : FileId) → map (λ change. change.file) changes ≡ F.Head ∷ []
+pub head_only : (changes : List Change) (files : Files) (file : FileId) → map (λ change. change.file) changes ≡ F.Head ∷ []
     → is_same_file file F.Head ≡ false → applied changes files file ≡ files file
 head_only [] files file named other = absurd cc
 head_only (change ∷ []) files file named other =
@@ -49,15 +49,15 @@ head_only (change ∷ []) files file named other =
     with_bytes_other files change.file change.bytes file (subst (λ (f : FileId). is_same_file file f ≡ false) (sym one) other)
 head_only (change ∷ next ∷ changes) files file named other = absurd cc
 
-content_apart : (id : PoolId) → is_same_file (F.Pool id) F.Head ≡ false
+pub content_apart : (id : PoolId) → is_same_file (F.Pool id) F.Head ≡ false
 unfolding is_same_file
 content_apart id = refl
 
-index_apart : is_same_file F.PoolIndex F.Head ≡ false
+pub index_apart : is_same_file F.PoolIndex F.Head ≡ false
 unfolding is_same_file
 index_apart = refl
 
-bucket_apart : (byte : ℕ) → is_same_file (F.PoolBucket byte) F.Head ≡ false
+pub bucket_apart : (byte : ℕ) → is_same_file (F.PoolBucket byte) F.Head ≡ false
 unfolding is_same_file
 bucket_apart byte = refl
 
@@ -65,7 +65,7 @@ names_same : (number : ℕ) (hosts : List Host) → K.names_of (indices_from num
 names_same number [] = refl
 names_same number (host ∷ hosts) = ap (λ ns. host.name ∷ ns) (names_same (suc number) hosts)
 
-head_there : (epoch : ℕ) (names : List (List ℕ)) (found : Option (List ℕ)) → IsHeadFile (epoch + 1) names found → is_some found ≡ true
+pub head_there : (epoch : ℕ) (names : List (List ℕ)) (found : Option (List ℕ)) → IsHeadFile (epoch + 1) names found → is_some found ≡ true
 head_there epoch names None head = let e : epoch + 1 ≡ 0 = head.0 in absurd (omega (arith, e))
 head_there epoch names (Some bytes) head = refl
 

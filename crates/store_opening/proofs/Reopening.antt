@@ -39,7 +39,7 @@ left_has P told u old new start crash =
 
 module _ {D : Type 0} (d : DiskGhosts D) (digest_of : List ℕ → List ℕ) (old : D) (a b : Durable)
     (start : FindsAll (d.files old) (d.uncertain old) (IsEither digest_of a b)) (raw : (files : Files) × (d.files old ≡ Some files)) where
-  openable : IsOpenable (d.files old) (d.uncertain old)
+  pub openable : IsOpenable (d.files old) (d.uncertain old)
   openable = opens_of (IsEither digest_of a b) (d.files old) (d.uncertain old) start
 
   module _ (new : Journal D d) (done : (all : Files) → d.files old ≡ Some all → IsOpenable (d.files old) (d.uncertain old)
@@ -118,11 +118,6 @@ told_files None e = absurd (false≢true e)
 told_files (Some raw) e = (raw, refl)
 
 -- the same of another name of the disk
-pub crash_at : {D : Type 0} {moment : D → ℕ} {left_since : D → ℕ → Files → Type 0} (P : Files → Type 0) (old disk other : D) → other ≡ disk
-    → Leaves moment left_since old disk P → Leaves moment left_since old other P
-crash_at {moment = moment} {left_since = left_since} P old disk other same crash =
-    subst (λ (x : _). Leaves moment left_since old x P) (sym same) crash
-
 pub left_at : {D : Type 0} (d : DiskGhosts D) (digest_of : List ℕ → List ℕ) (a b : Durable) (refusal : OpenRefusal) (disk other : D)
     → other ≡ disk → Left digest_of (d.files disk) (d.uncertain disk) a b refusal
     → Left digest_of (d.files other) (d.uncertain other) a b refusal

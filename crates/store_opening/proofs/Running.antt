@@ -6,6 +6,7 @@ use Rattle.fault_counts.specs.Counts.{Counted}
 use Rattle.disk_trait.specs.declared.ids.PoolId.{PoolId}
 use Rattle.disk_trait.specs.declared.ids.FileId.{FileId}
 use Rattle.disk_trait.specs.declared.disk.Disk.{Ghosts as DiskGhosts}
+use Rattle.disk_trait.specs.Files.{Files}
 use Rattle.pool_name.specs.declared.namer.Namer.{Ghosts as NamerGhosts}
 use Rattle.intent_journal.specs.declared.journal.Journal.{Journal}
 use Rattle.journal_view.specs.View.{told, Quiet, FindsOnly}
@@ -15,7 +16,7 @@ use Rattle.pool_changes.specs.Slots.{claims_of}
 use Rattle.pool_changes.specs.Kept.{slots_of}
 use Rattle.pool_store.specs.declared.pool.Pool.{Pool}
 use Rattle.pool_store.specs.Opened.{IsFresh}
-use Rattle.pool_store.specs.Opening.{AreFresh}
+use Rattle.pool_store.specs.Opening.{AreFresh, AreThePoolFiles}
 use Rattle.backup_views.specs.declared.kept.KeptView.{KeptView}
 use Rattle.ref_counts.specs.Numbers.{Items}
 use Rattle.ref_counts.specs.Stored.{Backup as StoredBackup}
@@ -47,9 +48,12 @@ use Rattle.store_opening.specs.declared.fault.OpenRefusal.{OpenRefusal}
 use Rattle.store_opening.specs.declared.fault.OpenRefusal.TheVariants as O
 use Rattle.store_opening.specs.Recovers.{IsHeld, SaysWhy}
 use Rattle.store_opening.specs.Begins.{MayLeave, IsPlain, Raised, Begins}
-use Rattle.store_opening.specs.Reopens.{reply_of, halts, IsPlainReply, first_of, second_of, with_journal, IsOfFound, Reopened, Goes, Reopens}
+use Rattle.store_opening.specs.Reopens.{reply_of, halts, IsPlainReply, first_of, second_of, with_journal, IsOfFound, Reopened, Goes, GoesTo, Reopens}
 use Rattle.store_opening.specs.Opens.{Opened}
+use Rattle.store_opening.specs.Whole.{IsLast, SaysSpent, IsAllOf}
+use Rattle.store_opening.specs.Settles.{ComesToOne, IsOfOne, Ends, Settles}
 use Rattle.store_opening.proofs.Raising.{stored_may}
+use Rattle.store_opening.proofs.Whole.{whole_parts, listed_parts}
 
 -- ---- nothing is open
 
@@ -118,11 +122,29 @@ module _ {D N S : Type 0} {d : DiskGhosts D} {n : NamerGhosts N S} where
           (subst (λ (c : List Items). IsHeld journal found.pool found.catalog c (raised rose.office) rose.names) (sym is.counts_are)
           rose.held)))
 
-  pub opened_of : (parts : StoreParts D N S d n) (journal : Journal D d) (found : Found N S n) (a b : Durable) → Raised journal found a b
+  opened_of : (parts : StoreParts D N S d n) (journal : Journal D d) (found : Found N S n) (a b : Durable) → Raised journal found a b
       → IsOfFound parts found → parts.journal ≡ journal → Opened a b parts
   opened_of parts journal found a b rose is same =
       let r = raised_running parts journal found a b found.catalog.epoch rose is same refl in
       record { office = r.office; is_one = r.is_one; room = r.room; names = r.names; running = r.running }
+
+  pub started_of : (old : D) (parts : StoreParts D N S d n) (journal : Journal D d) (found : Found N S n) (a b : Durable)
+      → Ends a b (Ok found) old journal → IsOfFound parts found → parts.journal ≡ journal
+      → (o : Opened a b parts) × IsOfOne d n.digest_of old parts.journal.disk o.office
+  unfolding opened_of raised_running
+  started_of old parts journal found a b ends is same = (
+    opened_of parts journal found a b ends.0 is same,
+    subst (λ (j : Journal D d). IsOfOne d n.digest_of old j.disk ends.0.office) (sym same) ends.1,
+  )
+
+  goes_to_raised : (old new : StoreParts D N S d n) (journal : Journal D d) (found : Found N S n) (a b : Durable) (epoch : ℕ)
+      → Settles a b (Ok found) old.journal.disk journal → IsOfFound new found → new.journal ≡ journal → epoch ≡ found.catalog.epoch
+      → GoesTo a b (Ok (ReopenedAnswer epoch)) old new
+  unfolding raised_running
+  goes_to_raised old new journal found a b epoch settles is same epoch_is = (
+    raised_running new journal found a b epoch settles.0 is same epoch_is,
+    subst (λ (j : Journal D d). ComesToOne d n.digest_of old.journal.disk j.disk a b settles.0.office) (sym same) settles.1,
+  )
 
   -- ---- how it goes
 
@@ -160,6 +182,13 @@ fault_back O.EpochsSpent e = absurd cc
 fault_back O.DiskFault e = refl
 fault_back O.Memory e = absurd cc
 
+spent_as : (files : Option Files) (refusal : OpenRefusal) (rule : BrokenRule) → SaysSpent files refusal
+    → refused (reply_of refusal) ≡ Err (Broken rule) → (rule ≡ NumbersSpent) × ((all : Files) → files ≡ Some all → IsLast all)
+spent_as files (O.Foreign file found) rule spent e = absurd cc
+spent_as files O.EpochsSpent rule spent e = (cc, spent refl)
+spent_as files O.DiskFault rule spent e = absurd cc
+spent_as files O.Memory rule spent e = absurd cc
+
 damaged_of : (refusal : OpenRefusal) (file : FileId) (found : Option (List ℕ)) → refused (reply_of refusal) ≡ Err (Damaged file found)
     → refusal ≡ O.Foreign file found
 damaged_of (O.Foreign file found) other bytes e = cc
@@ -186,14 +215,20 @@ module _ {D N S : Type 0} {d : DiskGhosts D} {n : NamerGhosts N S} where
       → ((a b : Durable) → MayBe n.digest_of old.journal a b → Begins a b (Ok found) journal)
       → ((a b : Durable) → MayBe n.digest_of old.journal a b → FindsOnly old.journal journal (MayLeave n.digest_of a b))
       → Counted (d.fault_count old.journal.disk) (d.fault_count journal.disk) (IsErrOf (Ok found) O.DiskFault)
+      → ((a b : Durable) → MayBe n.digest_of old.journal a b → Settles a b (Ok found) old.journal.disk journal)
+      → IsAllOf (told journal) found → AreThePoolFiles (d.files old.journal.disk) (slots_of found.pool.names)
       → IsOfFound new found → new.journal ≡ journal → epoch ≡ found.catalog.epoch → Reopens old (Ok (ReopenedAnswer epoch)) new
-  reopens_raised old new journal found epoch begins crash counted is same epoch_is = record {
+  reopens_raised old new journal found epoch begins crash counted settles whole listed is same epoch_is = record {
     goes = λ a b may. raised_running new journal found a b epoch (begins a b may) is same epoch_is;
     crash = λ a b may. subst (λ (j : Journal D d). FindsOnly old.journal j (MayLeave n.digest_of a b)) (sym same) (crash a b may);
+    settles = λ a b may. goes_to_raised old new journal found a b epoch (settles a b may) is same epoch_is;
     stays = λ refusal e. absurd cc;
     halted_same = λ plain. absurd plain;
     quiet = λ plain. absurd plain;
     damaged = λ file found e. absurd cc;
+    whole = whole_parts new found is journal same whole;
+    listed = listed_parts new found is (d.files old.journal.disk) listed;
+    spent = λ rule e. absurd cc;
     in_kind = refl;
     counted = subst (λ (j : Journal D d). Counted (d.fault_count old.journal.disk) (d.fault_count j.disk) (answered
         (ReopenedAnswer epoch) ≡ Err DiskFault)) (sym same)
@@ -207,16 +242,21 @@ module _ {D N S : Type 0} {d : DiskGhosts D} {n : NamerGhosts N S} where
       → ((a b : Durable) → MayBe n.digest_of old.journal a b → FindsOnly old.journal new.journal (MayLeave n.digest_of a b))
       → (IsPlain refusal → old.journal.halted ≡ false → is_some (told old.journal) ≡ true → Quiet old.journal new.journal)
       → Counted (d.fault_count old.journal.disk) (d.fault_count new.journal.disk) (IsErrOf {T = Found N S n} (Err refusal) O.DiskFault)
-      → SaysWhy (d.files old.journal.disk) (d.files new.journal.disk) refusal
+      → SaysWhy (d.files old.journal.disk) (d.files new.journal.disk) refusal → SaysSpent (told new.journal) refusal
+      → ((a b : Durable) → MayBe n.digest_of old.journal a b → Settles {n = n} a b (Err refusal) old.journal.disk new.journal)
       → Reopens old (Err reply) new
-  reopens_refused old new refusal reply reply_is stays halted begins crash quiet counted says =
+  reopens_refused old new refusal reply reply_is stays halted begins crash quiet counted says spent settles =
       subst (λ (r : Refusal). Reopens old (Err r) new) (sym reply_is) (record {
         goes = λ a b may. goes_refused new a b refusal (λ e. halted ∙ either_halts old.halted (halts refusal) e) (begins a b may);
         crash = crash;
+        settles = settles;
         stays = λ r e. stays;
         halted_same = λ plain. halted ∙ neither_halts old.halted (halts refusal) (calm_of refusal plain);
         quiet = λ plain. quiet (plain_of refusal plain);
         damaged = λ file found e. says file found (damaged_of refusal file found e);
+        whole = tt;
+        listed = tt;
+        spent = λ rule e. spent_as (told new.journal) refusal rule spent e;
         in_kind = tt;
         counted = counted_as _ _ (IsErrOf {T = Found N S n} (Err refusal) O.DiskFault) (refused (reply_of refusal) ≡ Err DiskFault)
             (λ p. fault_to refusal cc) (λ q. ap (λ (r : OpenRefusal). Err r) (fault_back refusal q)) counted;

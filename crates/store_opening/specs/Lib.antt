@@ -1,4 +1,7 @@
 pub mod Strays
+pub mod Settles
+pub mod SettlesLaws
+pub mod Whole
 pub mod Recovers
 pub mod Begins
 pub mod Reopens

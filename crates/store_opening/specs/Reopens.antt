@@ -1,17 +1,22 @@
 -- What a reopening of a store does, whatever state it is in.
 --     IsOfFound parts found      the parts are what was found, with nothing open
 --     Goes      how it went, of a store that a crash would have left with one of two offices
+--     GoesTo      to which of the two the disk came
 --     Reopens      it went so, and a refusal changed nothing but what is said here
 --     first_of, second_of      the two offices of a state, of which a crash leaves one
-use Rattle.std.specs.Prelude.{List, ℕ, ◌≡◌, ◌<◌, ◌+◌, Bool, true, false, [], None, Ok, Err, IfOk, is_some, Option}
+use Rattle.std.specs.Prelude.{List, ℕ, ◌≡◌, ◌<◌, ◌+◌, Bool, true, false, [], None, Ok, Err, IfOk, OnOk, is_some, Option, Some}
 use Rattle.fault_counts.specs.Counts.{Counted}
 use Rattle.disk_trait.specs.declared.ids.FileId.{FileId}
 use Rattle.disk_trait.specs.declared.disk.Disk.{Ghosts as DiskGhosts}
+use Rattle.disk_trait.specs.Files.{Files}
 use Rattle.pool_name.specs.declared.namer.Namer.{Ghosts as NamerGhosts}
 use Rattle.intent_journal.specs.declared.journal.Journal.{Journal}
 use Rattle.journal_view.specs.View.{told, Quiet, FindsOnly}
+use Rattle.pool_changes.specs.Kept.{slots_of}
+use Rattle.pool_store.specs.Opening.{AreThePoolFiles}
 use Rattle.office_model.specs.declared.answer.Answer.{Answer}
 use Rattle.office_model.specs.declared.answer.Answer.TheVariants.{Reopened as ReopenedAnswer}
+use Rattle.office_model.specs.declared.refusal.BrokenRule.{BrokenRule}
 use Rattle.office_model.specs.declared.refusal.BrokenRule.TheVariants.{NumbersSpent}
 use Rattle.office_model.specs.declared.refusal.Refusal.{Refusal}
 use Rattle.office_model.specs.declared.refusal.Refusal.TheVariants.{Broken, Halted as HaltedReply, DiskFault, Damaged, Memory}
@@ -27,6 +32,8 @@ use Rattle.store_opening.specs.declared.fault.OpenRefusal.TheVariants as O
 use Rattle.store_opening.specs.declared.found.Found.{Found}
 use Rattle.store_opening.specs.Recovers.{IsForeignTo}
 use Rattle.store_opening.specs.Begins.{MayLeave, IsSpent, IsBetween}
+use Rattle.store_opening.specs.Settles.{ComesToOne, IsStopped}
+use Rattle.store_opening.specs.Whole.{IsLast, HasAllOf}
 
 -- what a store answers to a reopening that was refused
 abbrev pub reply_of : OpenRefusal → Refusal
@@ -93,15 +100,27 @@ module _ {D N S : Type 0} {d : DiskGhosts D} {n : NamerGhosts N S} where
   Goes a b (Err (Damaged file found)) new = ⊥
   Goes a b (Err Memory) new = MayBe n.digest_of new.journal a b
 
+  -- to which of the two the disk came
+  abbrev pub GoesTo : Durable → Durable → Reply → (old new : StoreParts D N S d n) → Type 0
+  GoesTo a b (Ok answer) old new =
+      (r : Reopened a b answer new) × ComesToOne d n.digest_of old.journal.disk new.journal.disk a b r.office
+  GoesTo a b (Err refusal) old new = IsStopped d n.digest_of old.journal.disk new.journal.disk a b
+
   -- The store reopened. It had one of two offices; a plain refusal leaves it as it was, and any refusal leaves all but the
   -- journal and whether it is halted.
   pub record Reopens (old : StoreParts D N S d n) (reply : Reply) (new : StoreParts D N S d n) : Type 0 where
     pub goes : (a b : Durable) → MayBe n.digest_of old.journal a b → Goes a b reply new
     pub crash : (a b : Durable) → MayBe n.digest_of old.journal a b → FindsOnly old.journal new.journal (MayLeave n.digest_of a b)
+    pub settles : (a b : Durable) → MayBe n.digest_of old.journal a b → GoesTo a b reply old new
     pub stays : (refusal : Refusal) → reply ≡ Err refusal → new ≡ with_journal old new.journal new.halted
     pub halted_same : IsPlainReply reply → new.halted ≡ old.halted
     pub quiet : IsPlainReply reply → old.journal.halted ≡ false → is_some (told old.journal) ≡ true → Quiet old.journal new.journal
     pub damaged : (file : FileId) (found : Option (List ℕ)) → reply ≡ Err (Damaged file found)
         → IsForeignTo (d.files old.journal.disk) (d.files new.journal.disk) file found
+    -- over any disk that tells its files
+    pub whole : OnOk reply (HasAllOf new)
+    pub listed : OnOk reply (AreThePoolFiles (d.files old.journal.disk) (slots_of new.pool.names))
+    pub spent : (rule : BrokenRule) → reply ≡ Err (Broken rule)
+        → (rule ≡ NumbersSpent) × ((all : Files) → told new.journal ≡ Some all → IsLast all)
     pub in_kind : IfOk reply (IsAnswerTo Reopen)
     pub counted : Counted (d.fault_count old.journal.disk) (d.fault_count new.journal.disk) (reply ≡ Err DiskFault)

@@ -1,6 +1,6 @@
 //! Opening a store again.
 
-ghost use Rattle.std.specs.Prelude.{◌≡◌, ◌||◌, true, false, List, ℕ, Option, Some, is_some, IfErr, OnOk, OnErr, Err, IsErrOf};
+ghost use Rattle.std.specs.Prelude.{◌≡◌, ◌||◌, true, false, List, ℕ, Option, Some, is_some, IfOk, IfErr, OnOk, OnErr, Err, IsErrOf};
 ghost use Rattle.fault_counts.specs.Counts.{Counted};
 ghost use Rattle.disk_trait.specs.declared.ids.FileId.{FileId as File};
 ghost use Rattle.disk_trait.specs.declared.ids.FileId.TheVariants.{Intent};
@@ -9,6 +9,8 @@ ghost use Rattle.disk_trait.specs.Images.{Leaves};
 ghost use Rattle.intent_journal.specs.Overlay.{IsForeign as IsForeignIntent};
 ghost use Rattle.journal_view.specs.Found.{Finds, FindsAll, CanFind, IsOpenable, Reopened};
 ghost use Rattle.journal_view.specs.View.{told, Quiet, FindsOnly};
+ghost use Rattle.pool_changes.specs.Kept.{slots_of};
+ghost use Rattle.pool_store.specs.Opening.{AreThePoolFiles};
 ghost use Rattle.office_model.specs.declared.event.Event.TheVariants.{Reopen};
 ghost use Rattle.office_model.specs.Office.{Durable};
 ghost use Rattle.office_model.specs.Step.{State};
@@ -17,6 +19,8 @@ ghost use Rattle.store_parts.specs.States.{InState};
 ghost use Rattle.store_parts.specs.Runs.{Steps};
 ghost use Rattle.store_opening.specs.Recovers.{SaysWhy};
 ghost use Rattle.store_opening.specs.Begins.{MayLeave, IsPlain, Begins};
+ghost use Rattle.store_opening.specs.Settles.{IsSynced, MayBeSynced, Settles};
+ghost use Rattle.store_opening.specs.Whole.{KeepsData, IsAllOf, SaysSpent};
 ghost use Rattle.store_opening.specs.Reopens.{Reopens, IsOfFound, reply_of, halts, first_of, second_of};
 
 use crate::begin::begin;
@@ -49,6 +53,10 @@ fn reopen_journal<D: Disk>(alloc: Global, journal: &mut Journal<D>) -> Result<()
     ensures foreign { IfErr result (λ refusal. (file : File) (found : Option (List ℕ)) → refusal ≡ OpenRefusal.Foreign file found
         → (file ≡ Intent) × IsForeignIntent (D.files journal.old.disk) found) }
     ensures kind { IfErr result (λ refusal. refusal ≡ OpenRefusal.EpochsSpent → ⊥) }
+    ensures keeps { OnOk result (KeepsData (D.files journal.old.disk) (D.files journal.new.disk)) }
+    ensures synced { OnOk result ((all : Files) → D.files journal.old.disk ≡ Some all → IsSynced ⟦<D as Disk>⟧ journal.old.disk journal.new.disk) }
+    ensures stopped { OnErr result ((all : Files) → D.files journal.old.disk ≡ Some all
+        → IsOpenable (D.files journal.old.disk) (D.uncertain journal.old.disk) → MayBeSynced ⟦<D as Disk>⟧ journal.old.disk journal.new.disk) }
     ensures running { OnOk result (journal.old.halted ≡ false → is_some (told journal.old) ≡ true → Quiet journal.old journal.new) }
     ensures memory { IfErr result (λ refusal. refusal ≡ OpenRefusal.Memory → journal.old.halted ≡ false → Quiet journal.old journal.new) }
     ensures counted { Counted (D.fault_count journal.old.disk) (D.fault_count journal.new.disk) (IsErrOf result OpenRefusal.DiskFault) }
@@ -67,8 +75,12 @@ fn begin_again<D: Disk, N: Namer>(
 ) -> Result<Found<N>, OpenRefusal>
     ensures begins { (a b : Durable) → MayBe N.digest_of journal.old a b → Begins a b result journal.new }
     ensures crash { (a b : Durable) → MayBe N.digest_of journal.old a b → FindsOnly journal.old journal.new (MayLeave N.digest_of a b) }
+    ensures settles { (a b : Durable) → MayBe N.digest_of journal.old a b → Settles a b result journal.old.disk journal.new }
     ensures quiet { IfErr result (λ refusal. IsPlain refusal → journal.old.halted ≡ false → is_some (told journal.old) ≡ true → Quiet journal.old journal.new) }
     ensures foreign { IfErr result (SaysWhy (D.files journal.old.disk) (D.files journal.new.disk)) }
+    ensures whole { IfOk result (IsAllOf (told journal.new)) }
+    ensures listed { IfOk result (λ found. AreThePoolFiles (D.files journal.old.disk) (slots_of found.pool.names)) }
+    ensures spent { IfErr result (SaysSpent (told journal.new)) }
     ensures counted { Counted (D.fault_count journal.old.disk) (D.fault_count journal.new.disk) (IsErrOf result OpenRefusal.DiskFault) }
 {
     match reopen_journal(alloc, journal) {

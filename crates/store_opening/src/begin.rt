@@ -3,10 +3,14 @@
 ghost use Rattle.std.specs.Prelude.{◌≡◌, ◌<◌, false, List, ℕ, Option, IfOk, IfErr, OnOk, Err, IsErrOf};
 ghost use Rattle.fault_counts.specs.Counts.{Counted};
 ghost use Rattle.journal_view.specs.View.{told, Quiet, FindsOnly};
+ghost use Rattle.pool_changes.specs.Kept.{slots_of};
+ghost use Rattle.pool_store.specs.Opening.{AreThePoolFiles};
 ghost use Rattle.office_model.specs.Office.{Durable, Names, raised};
 ghost use Rattle.store_parts.specs.Held.{IsStored};
 ghost use Rattle.store_opening.specs.Recovers.{Holds, IsHeld, Looks, SaysForeign};
 ghost use Rattle.store_opening.specs.Begins.{MayLeave, Begins};
+ghost use Rattle.store_opening.specs.Settles.{Ends};
+ghost use Rattle.store_opening.specs.Whole.{IsAllOf, SaysSpent};
 
 use crate::fault::{OpenRefusal, refusal_of};
 use crate::found::Found;
@@ -29,6 +33,7 @@ fn raise<D: Disk, N: Namer>(
     requires room { found.old.catalog.epoch < 18446744073709551615 }
     ensures ok { OnOk result ((office : Durable) (names : Names) → IsHeld journal.old found.old.pool found.old.catalog found.old.counts office names
         → IsHeld journal.new found.new.pool found.new.catalog found.new.counts (raised office) names) }
+    ensures whole { OnOk result (IsAllOf (told journal.old) found.old → IsAllOf (told journal.new) found.new) }
     ensures pool { found.new.pool ≡ found.old.pool }
     ensures looks { (office : Durable) (names : Names) → IsStored journal.old found.old.pool found.old.catalog office names
         → Looks N.digest_of journal.old journal.new office (raised office) }
@@ -52,7 +57,7 @@ fn raise<D: Disk, N: Namer>(
 /// Makes the office that the files of a journal stand for durable in its next epoch.
 ///
 /// After `Foreign`, `EpochsSpent` and `Memory` nothing was written; after `DiskFault` the disk has the office as it was, or
-/// in its next epoch.
+/// in its next epoch. Over any disk that tells its files, Ok and `EpochsSpent` say that they are those of a store.
 pub(crate) fn begin<D: Disk, N: Namer>(
     alloc: Global,
     journal: &mut Journal<D>,
@@ -61,8 +66,12 @@ pub(crate) fn begin<D: Disk, N: Namer>(
     requires { journal.old.halted ≡ false }
     ensures begins { (a b : Durable) → Holds N.digest_of journal.old a b → Begins a b result journal.new }
     ensures crash { (a b : Durable) → Holds N.digest_of journal.old a b → FindsOnly journal.old journal.new (MayLeave N.digest_of a b) }
+    ensures ends { (a b : Durable) → Holds N.digest_of journal.old a b → Ends a b result journal.old.disk journal.new }
     ensures quiet { IfErr result (λ refusal. (refusal ≡ OpenRefusal.DiskFault → ⊥) → Quiet journal.old journal.new) }
     ensures foreign { IfErr result (SaysForeign (told journal.old)) }
+    ensures whole { IfOk result (IsAllOf (told journal.new)) }
+    ensures listed { IfOk result (λ found. AreThePoolFiles (D.files journal.old.disk) (slots_of found.pool.names)) }
+    ensures spent { IfErr result (SaysSpent (told journal.new)) }
     ensures counted { Counted (D.fault_count journal.old.disk) (D.fault_count journal.new.disk) (IsErrOf result OpenRefusal.DiskFault) }
 {
     let mut found = match recover(alloc, journal, namer) {

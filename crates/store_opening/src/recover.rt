@@ -8,15 +8,15 @@ ghost use Rattle.journal_view.specs.View.{told, Quiet};
 ghost use Rattle.pool_index.specs.Index.{Index, TellsIndex};
 ghost use Rattle.pool_changes.specs.Kept.{slots_of};
 ghost use Rattle.pool_store.specs.Opened.{Opens, IsForeign as IsForeignToPool};
-ghost use Rattle.pool_store.specs.Opening.{AreFresh};
+ghost use Rattle.pool_store.specs.Opening.{AreFresh, AreThePoolFiles};
 ghost use Rattle.pool_store.specs.Complete.{HaveFiles};
 ghost use Rattle.office_catalog.specs.Held.{HoldsCatalog, IsForeign as IsForeignToCatalog};
 ghost use Rattle.office_catalog.specs.Known.{Known};
 ghost use Rattle.office_model.specs.Office.{Durable};
 ghost use Rattle.office_files.specs.Stands.{StandsFor};
 ghost use Rattle.host_counts.specs.Held.{AreTold};
-ghost use Rattle.store_opening.specs.Strays.{HasNoStray};
 ghost use Rattle.store_opening.specs.Recovers.{Holds, Recovers, IsWithoutCounts, SaysForeign};
+ghost use Rattle.store_opening.specs.Whole.{IsAllOf};
 
 use crate::fault::{OpenRefusal, catalog_refusal, counts_refusal, pool_refusal};
 use crate::found::Found;
@@ -162,7 +162,8 @@ pub(crate) fn recover<D: Disk, N: Namer>(
 ) -> Result<Found<N>, OpenRefusal>
     requires { journal.old.halted ≡ false }
     ensures recovers { IfOk result (λ found. (a b : Durable) → Holds N.digest_of journal.old a b → Recovers journal.new found a b) }
-    ensures whole { IfOk result (λ found. (all : Files) → told journal.old ≡ Some all → HoldsCatalog all found.catalog × HasNoStray found.catalog all) }
+    ensures whole { IfOk result (IsAllOf (told journal.old)) }
+    ensures listed { IfOk result (λ found. AreThePoolFiles (D.files journal.old.disk) (slots_of found.pool.names)) }
     ensures foreign { IfErr result (SaysForeign (told journal.old)) }
     ensures known { IfErr result (λ refusal. (a b : Durable) → Holds N.digest_of journal.old a b
         → (file : File) (found : Option (List ℕ)) → refusal ≡ OpenRefusal.Foreign file found → ⊥) }

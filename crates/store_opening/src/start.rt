@@ -8,11 +8,15 @@ ghost use Rattle.disk_trait.specs.Files.{Files};
 ghost use Rattle.disk_trait.specs.Images.{Leaves};
 ghost use Rattle.intent_journal.specs.Overlay.{IsForeign as IsForeignIntent};
 ghost use Rattle.journal_view.specs.Found.{seen, Finds, FindsAll, CanFind, IsOpenable, Reopened};
+ghost use Rattle.pool_changes.specs.Kept.{slots_of};
+ghost use Rattle.pool_store.specs.Opening.{AreThePoolFiles};
 ghost use Rattle.office_model.specs.Office.{Durable};
+ghost use Rattle.office_model.specs.Step.{IsPicked};
 ghost use Rattle.store_opening.specs.Recovers.{Holds, SaysForeign, SaysWhy};
-ghost use Rattle.store_opening.specs.Begins.{MayLeave, Begins};
 ghost use Rattle.store_opening.specs.Reopens.{IsOfFound};
 ghost use Rattle.store_opening.specs.Opens.{IsOf, Opened, Left};
+ghost use Rattle.store_opening.specs.Settles.{IsSynced, MayBeSynced, ComesToOne, IsStopped, IsOfOne};
+ghost use Rattle.store_opening.specs.Whole.{KeepsData, HasAllOf, SaysSpent};
 
 use crate::begin::begin;
 use crate::fault::{OpenRefusal, open_refusal};
@@ -39,6 +43,10 @@ fn open_journal<D: Disk>(alloc: Global, disk: D) -> Result<Journal<D>, (D, OpenR
     ensures foreign { IfErr result (λ refused. (file : File) (found : Option (List ℕ)) → refused.1 ≡ OpenRefusal.Foreign file found
         → (file ≡ Intent) × IsForeignIntent (D.files disk) found) }
     ensures kind { IfErr result (λ refused. refused.1 ≡ OpenRefusal.EpochsSpent → ⊥) }
+    ensures keeps { IfOk result (λ journal. KeepsData (D.files disk) (D.files journal.disk)) }
+    ensures synced { IfOk result (λ journal. (all : Files) → D.files disk ≡ Some all → IsSynced ⟦<D as Disk>⟧ disk journal.disk) }
+    ensures stopped { IfErr result (λ refused. (all : Files) → D.files disk ≡ Some all → IsOpenable (D.files disk) (D.uncertain disk)
+        → MayBeSynced ⟦<D as Disk>⟧ disk refused.0) }
     ensures refused_counted { IfErr result (λ refused. Counted (D.fault_count disk) (D.fault_count refused.0) (refused.1 ≡ OpenRefusal.DiskFault)) }
 {
     match Journal::open(alloc, disk) {
@@ -74,14 +82,16 @@ fn start<D: Disk, N: Namer>(
     namer: N,
 ) -> Result<StoreParts<D, N>, (D, OpenRefusal)>
     requires { journal.halted ≡ false }
-    ensures opened { IfOk result (λ parts. (a b : Durable) → Holds N.digest_of journal a b → Opened a b parts) }
+    ensures opened { IfOk result (λ parts. (a b : Durable) → Holds N.digest_of journal a b
+        → (o : Opened a b parts) × IsOfOne ⟦<D as Disk>⟧ N.digest_of journal.disk parts.journal.disk o.office) }
+    ensures left_one { IfErr result (λ refused. (a b : Durable) → Holds N.digest_of journal a b
+        → (office : Durable) × IsPicked a b office × IsOfOne ⟦<D as Disk>⟧ N.digest_of journal.disk refused.0 office) }
     ensures left { IfErr result (λ refused. (a b : Durable) → Holds N.digest_of journal a b
         → Left N.digest_of (D.files refused.0) (D.uncertain refused.0) a b refused.1) }
-    ensures crash { IfOk result (λ parts. (a b : Durable) → Holds N.digest_of journal a b
-        → Leaves D.moment D.left_since journal.disk parts.journal.disk (Finds (MayLeave N.digest_of a b))) }
-    ensures left_crash { IfErr result (λ refused. (a b : Durable) → Holds N.digest_of journal a b
-        → Leaves D.moment D.left_since journal.disk refused.0 (Finds (MayLeave N.digest_of a b))) }
     ensures foreign { IfErr result (λ refused. SaysForeign (option_map seen (D.files refused.0)) refused.1) }
+    ensures whole { IfOk result HasAllOf }
+    ensures listed { IfOk result (λ parts. AreThePoolFiles (D.files journal.disk) (slots_of parts.pool.names)) }
+    ensures spent { IfErr result (λ refused. SaysSpent (option_map seen (D.files refused.0)) refused.1) }
     ensures counted { IfOk result (λ parts. D.fault_count parts.journal.disk ≡ D.fault_count journal.disk) }
     ensures left_counted { IfErr result (λ refused. Counted (D.fault_count journal.disk) (D.fault_count refused.0) (refused.1 ≡ OpenRefusal.DiskFault)) }
 {
@@ -97,19 +107,24 @@ fn start<D: Disk, N: Namer>(
 /// After Ok the office that the disk had is at work in its next epoch, and durable so. The disk comes back with each
 /// refusal, and can be opened again: after `EpochsSpent` and `Memory` it has the office as it was, after `DiskFault` as it
 /// was or in its next epoch. `Foreign` says what was found of the file; it never comes on a disk that a store left.
+///
+/// Over any disk that tells its files: after Ok they are those of a store, of which memory has what they hold, and the names in use
+/// are those of the Pool files; `EpochsSpent` comes only over those of a store in its last epoch.
 pub fn open<D: Disk, N: Namer>(
     alloc: Global,
     disk: D,
     namer: N,
 ) -> Result<StoreParts<D, N>, (D, OpenRefusal)>
-    ensures opened { IfOk result (λ parts. (a b : Durable) → IsOf N.digest_of (D.files disk) (D.uncertain disk) a b → Opened a b parts) }
+    ensures opened { IfOk result (λ parts. (a b : Durable) → IsOf N.digest_of (D.files disk) (D.uncertain disk) a b
+        → (o : Opened a b parts) × ComesToOne ⟦<D as Disk>⟧ N.digest_of disk parts.journal.disk a b o.office) }
     ensures left { IfErr result (λ refused. (a b : Durable) → IsOf N.digest_of (D.files disk) (D.uncertain disk) a b
         → Left N.digest_of (D.files refused.0) (D.uncertain refused.0) a b refused.1) }
-    ensures crash { IfOk result (λ parts. (a b : Durable) → IsOf N.digest_of (D.files disk) (D.uncertain disk) a b
-        → Leaves D.moment D.left_since disk parts.journal.disk (Finds (MayLeave N.digest_of a b))) }
-    ensures left_crash { IfErr result (λ refused. (a b : Durable) → IsOf N.digest_of (D.files disk) (D.uncertain disk) a b
-        → Leaves D.moment D.left_since disk refused.0 (Finds (MayLeave N.digest_of a b))) }
+    ensures stops { IfErr result (λ refused. (a b : Durable) → IsOf N.digest_of (D.files disk) (D.uncertain disk) a b
+        → IsStopped ⟦<D as Disk>⟧ N.digest_of disk refused.0 a b) }
     ensures foreign { IfErr result (λ refused. SaysWhy (D.files disk) (D.files refused.0) refused.1) }
+    ensures whole { IfOk result HasAllOf }
+    ensures listed { IfOk result (λ parts. AreThePoolFiles (D.files disk) (slots_of parts.pool.names)) }
+    ensures spent { IfErr result (λ refused. SaysSpent (option_map seen (D.files refused.0)) refused.1) }
     ensures counted { IfOk result (λ parts. D.fault_count parts.journal.disk ≡ D.fault_count disk) }
     ensures left_counted { IfErr result (λ refused. Counted (D.fault_count disk) (D.fault_count refused.0) (refused.1 ≡ OpenRefusal.DiskFault)) }
 {

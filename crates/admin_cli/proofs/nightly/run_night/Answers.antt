@@ -8,14 +8,15 @@ returns-in-Err g c = λ line bytes asked is.
     inr (refuses _ _ c.args.disk c.in-Err.disk line bytes _ c.args.settings.now _ _ c.in-Err.refusal c.note_of_refusal-note.result
     asked is c.note_of_refusal-note.ensures (record {
       why = c.in-Err.ensures.foreign;
+      spent = c.in-Err.ensures.spent;
       counted = c.in-Err.ensures.left_counted;
       left = c.in-Err.ensures.left;
-      crash = c.in-Err.ensures.left_crash;
+      crash = c.in-Err.ensures.stops;
     }))
 
 pub returns : goal.returns
 returns g c = λ line bytes asked is.
-    inl (does_night c.args.disk c.in-Ok.store c.into_store-store.result c.in-Ok.ensures.opened c.in-Ok.ensures.crash c.in-Ok.ensures.counted
+    inl (does_night c.args.disk c.in-Ok.store c.into_store-store.result c.in-Ok.ensures.opened c.in-Ok.ensures.counted c.in-Ok.ensures.listed
     c.args.scheduled line bytes c.args.settings.now _ _ _ _ _ _ _ _ _ _ _ asked is c.new-port.ensures
     (rw c.as_slice.ensures.value at c.night-end.ensures)
     c.say-failed.ensures c.into_store-store.ensures c.close.ensures c.is_halted-halted.ensures c.note_of_night.ensures)

@@ -7,13 +7,14 @@ returns-in-Err g c = λ line bytes asked is.
     inr (refuses _ _ c.args.disk c.in-Err.disk line bytes _ c.args.settings _ _ c.in-Err.refusal c.note_of_refusal-note.result
     asked is c.note_of_refusal-note.ensures (record {
       why = c.in-Err.ensures.foreign;
+      spent = c.in-Err.ensures.spent;
       counted = c.in-Err.ensures.left_counted;
       left = c.in-Err.ensures.left;
-      crash = c.in-Err.ensures.left_crash;
+      crash = c.in-Err.ensures.stops;
     }))
 
 pub returns : goal.returns
 returns g c = λ line bytes asked is.
-    inl (serves c.args.disk c.in-Ok.store c.into_store-store.result c.in-Ok.ensures.opened c.in-Ok.ensures.crash c.in-Ok.ensures.counted
+    inl (serves c.args.disk c.in-Ok.store c.into_store-store.result c.in-Ok.ensures.opened c.in-Ok.ensures.counted c.in-Ok.ensures.listed
     _ line bytes c.args.settings _ _ _ _ _ _ _ _ _ _ asked is c.defaults_of-defaults.ensures c.new-port.ensures c.serve_connection-end.ensures
     c.into_store-store.ensures c.close.ensures c.is_halted-halted.ensures c.note_of.ensures)

@@ -10,16 +10,17 @@ returns-in-Err g c = λ line bytes listen connections asked is.
       is_cause _ _ c.args.disk c.in-Err.disk line bytes _ c.args.settings c.in-Err.refusal c.note_of_refusal-note.result
           asked is c.note_of_refusal-note.ensures (record {
             why = c.in-Err.ensures.foreign;
+            spent = c.in-Err.ensures.spent;
             counted = c.in-Err.ensures.left_counted;
             left = c.in-Err.ensures.left;
-            crash = c.in-Err.ensures.left_crash;
+            crash = c.in-Err.ensures.stops;
           }),
       refl,
     )
 
 pub returns-in_default : goal.returns-in_default
 returns-in_default g c = λ line bytes listen connections asked is.
-    inl (inr (serves_nobody c.args.disk c.in-Ok.store c.in-Ok.store c.in-Ok.ensures.opened c.in-Ok.ensures.crash c.in-Ok.ensures.counted
+    inl (inr (serves_nobody c.args.disk c.in-Ok.store c.in-Ok.store c.in-Ok.ensures.opened c.in-Ok.ensures.counted c.in-Ok.ensures.listed
     _ _ _ _ _ line bytes listen connections c.args.settings _ _ _ _ asked is (Moves-none c.in-Ok.store)
     (ap (λ w. w.items) c.without_memory.ensures.workers)
     c.without_memory.ensures.disk c.without_memory.ensures.note))
@@ -28,15 +29,14 @@ pub returns-in-Err-serve_workers : goal.returns-in-Err-serve_workers
 returns-in-Err-serve_workers g c = λ line bytes listen connections asked is.
     let back = c.in-Err-serve_workers.ensures.err in
     let none = c.without_memory-in-Err-serve_workers.ensures in
-    inl (inr (serves_nobody c.args.disk c.in-Ok.store c.in-Ok.store c.in-Ok.ensures.opened c.in-Ok.ensures.crash c.in-Ok.ensures.counted
+    inl (inr (serves_nobody c.args.disk c.in-Ok.store c.in-Ok.store c.in-Ok.ensures.opened c.in-Ok.ensures.counted c.in-Ok.ensures.listed
     _ _ _ _ _ line bytes listen connections c.args.settings _ _ _ _ asked is (Moves-none c.in-Ok.store)
     (ap (λ w. w.items) (none.workers ∙ back.1))
     (none.disk ∙ ap (λ store. store.parts.journal.disk) back.0) none.note))
 
 pub returns : goal.returns
 returns g c = λ line bytes listen connections asked is.
-    inl (inl (serves_doors c.args.disk c.in-Ok.store c.in-Ok-serve_workers.served.store c.in-Ok.ensures.opened c.in-Ok.ensures.crash
-    c.in-Ok.ensures.counted _ _ _ _ _ _ line bytes listen connections c.args.settings _ _ _ _ _ _ _ asked is c.defaults_of-defaults.ensures
+    inl (inl (serves_doors c.args.disk c.in-Ok.store c.in-Ok-serve_workers.served.store c.in-Ok.ensures.opened c.in-Ok.ensures.counted c.in-Ok.ensures.listed _ _ _ _ _ _ line bytes listen connections c.args.settings _ _ _ _ _ _ _ asked is c.defaults_of-defaults.ensures
     c.in-Ok-serve_workers.ensures.ok
     (rw c.as_slice.ensures.value at c.in-Ok-counts_of.ensures)
     (rw (c.as_slice-2.ensures.value, c.as_slice-3.ensures.value) at c.has_risen-failed.ensures)

@@ -1,7 +1,9 @@
 use Rattle.std.proofs.Common.{inl, inr}
 use Rattle.journal_view.specs.ViewLaws.{FindsOnly-then, Quiet-then, seen_some}
 use Rattle.store_opening.specs.Begins.{MayLeave}
-use Rattle.store_opening.proofs.Reopening.{again_holds, again_crash, failed_each, failed_crash, some_files, seen_tells, plain_not, still_foreign, unknown_never, begins_unopened, plain_memory}
+use Rattle.store_opening.proofs.Reopening.{openable, again_holds, again_crash, failed_each, failed_crash, some_files, seen_tells, plain_not, still_foreign, unknown_never, begins_unopened, plain_memory}
+use Rattle.store_opening.proofs.Settling.{settles_then, stops_then, stops_unopened}
+use Rattle.store_opening.proofs.Whole.{listed_before}
 use Rattle.store_opening.proofs.again.begin_again.Goals as goal
 
 pub returns-in-Err-clause-begins : goal.returns-in-Err-clause-begins
@@ -59,3 +61,35 @@ pub returns-in-Err-begin-clause-quiet : goal.returns-in-Err-begin-clause-quiet
 returns-in-Err-begin-clause-quiet g c = λ plain ready tells.
     Quiet-then c.args.journal.now c.reopen_journal.new.journal c.begin.new.journal (c.in-Ok.ensures.running ready tells)
     (c.in-Err-begin.ensures.quiet (plain_not _ plain))
+
+pub returns-in-Err-clause-spent : goal.returns-in-Err-clause-spent
+returns-in-Err-clause-spent g c = λ e. absurd (c.in-Err.ensures.kind e)
+
+pub returns-in-Ok-begin-clause-listed : goal.returns-in-Ok-begin-clause-listed
+returns-in-Ok-begin-clause-listed g c =
+    listed_before (g.D.Disk.files c.args.journal.now.disk) (g.D.Disk.files c.reopen_journal.new.journal.disk) _ c.in-Ok.ensures.keeps
+    c.in-Ok-begin.ensures.listed
+
+pub returns-in-Err-clause-settles : goal.returns-in-Err-clause-settles
+returns-in-Err-clause-settles g c = λ a b may.
+    let raw = some_files _ may.tells in
+    stops_unopened g.D.Disk _ c.args.journal.now.disk a b may.each c.reopen_journal.new.journal.disk
+    (c.in-Err.ensures.stopped raw.0 raw.1 (openable g.D.Disk _ c.args.journal.now.disk a b may.each raw))
+
+pub returns-in-Ok-begin-clause-settles : goal.returns-in-Ok-begin-clause-settles
+returns-in-Ok-begin-clause-settles g c = λ a b may.
+    let raw = some_files _ may.tells in
+    let w = c.in-Ok-begin.ensures.ends a b
+    (again_holds g.D.Disk _ c.args.journal.now.disk a b may.each raw c.reopen_journal.new.journal c.in-Ok.ensures.done) in (
+      w.0,
+      settles_then g.D.Disk _ c.args.journal.now.disk a b may.each c.reopen_journal.new.journal.disk c.begin.new.journal.disk w.0.office
+          (c.in-Ok.ensures.synced raw.0 raw.1) w.1,
+    )
+
+pub returns-in-Err-begin-clause-settles : goal.returns-in-Err-begin-clause-settles
+returns-in-Err-begin-clause-settles g c = λ a b may.
+    let raw = some_files _ may.tells in
+    stops_then g.D.Disk _ c.args.journal.now.disk a b may.each c.reopen_journal.new.journal.disk c.begin.new.journal.disk
+    (c.in-Ok.ensures.synced raw.0 raw.1)
+    (c.in-Err-begin.ensures.ends a b
+    (again_holds g.D.Disk _ c.args.journal.now.disk a b may.each raw c.reopen_journal.new.journal c.in-Ok.ensures.done))

@@ -1,6 +1,8 @@
 use Rattle.journal_view.specs.Found.{CanFind}
 use Rattle.journal_view.specs.FoundLaws.{openable}
 use Rattle.journal_view.specs.OpeningLaws.{reopened_of, refused_of, refused_known, refused_quietly, reopened_quietly, now_of}
+use Rattle.store_opening.proofs.Settling.{synced_of, stopped_of}
+use Rattle.store_opening.proofs.Whole.{keeps_data}
 use Rattle.store_opening.proofs.again.reopen_journal.Goals as goal
 
 pub returns-in-Ok-clause-done : goal.returns-in-Ok-clause-done
@@ -38,3 +40,13 @@ pub returns-in-Err-clause-memory : goal.returns-in-Err-clause-memory
 returns-in-Err-clause-memory g c = λ none run.
     let memory = c.open_refusal.ensures.memory.0 none in
     refused_quietly c.args.journal.now c.reopen.new.self _ memory run (c.in-Err.ensures.stopped.0 memory) c.in-Err.ensures.refused
+
+pub returns-in-Ok-clause-keeps : goal.returns-in-Ok-clause-keeps
+returns-in-Ok-clause-keeps g c = keeps_data c.args.journal.now.disk c.reopen.new.self c.in-Ok.ensures.done
+
+pub returns-in-Ok-clause-synced : goal.returns-in-Ok-clause-synced
+returns-in-Ok-clause-synced g c = λ all is. synced_of c.args.journal.now.disk c.reopen.new.self all is c.in-Ok.ensures.done
+
+pub returns-in-Err-clause-stopped : goal.returns-in-Err-clause-stopped
+returns-in-Err-clause-stopped g c = λ all is opens.
+    stopped_of c.args.journal.now.disk c.reopen.new.self.disk _ all is opens c.in-Err.ensures.refused

@@ -1,6 +1,8 @@
 use Rattle.std.proofs.Common.{inr, ◌∙◌}
 use Rattle.journal_view.specs.ViewLaws.{Quiet-then}
 use Rattle.store_opening.proofs.Recovering.{recovered_by, stray_known}
+use Rattle.pool_changes.specs.Kept.{slots_of}
+use Rattle.store_opening.proofs.Whole.{whole_of}
 use Rattle.store_opening.proofs.recover.recover.Goals as goal
 
 pub returns-in-Ok-refuse_strays-clause-recovers : goal.returns-in-Ok-refuse_strays-clause-recovers
@@ -11,7 +13,12 @@ returns-in-Ok-refuse_strays-clause-recovers g c = λ a b holds.
 
 pub returns-in-Ok-refuse_strays-clause-whole : goal.returns-in-Ok-refuse_strays-clause-whole
 returns-in-Ok-refuse_strays-clause-whole g c = λ all is.
-    (c.in-Ok.ensures.catalog all is, c.in-Ok-refuse_strays.ensures.none all (c.in-Ok.ensures.quiet.told_same ∙ is))
+    whole_of (g.D.Disk.files c.args.journal.now.disk) c.in-Ok.found.pool.in_one_file (slots_of c.in-Ok.found.pool.names)
+    c.in-Ok.found.catalog c.in-Ok.found.counts all is c.in-Ok.ensures.opened (c.in-Ok.ensures.catalog all is)
+    (c.in-Ok.ensures.counts all is) (c.in-Ok-refuse_strays.ensures.none all (c.in-Ok.ensures.quiet.told_same ∙ is))
+
+pub returns-in-Ok-refuse_strays-clause-listed : goal.returns-in-Ok-refuse_strays-clause-listed
+returns-in-Ok-refuse_strays-clause-listed g c = λ all is. (c.in-Ok.ensures.opened all is).used
 
 pub returns-in-Ok-refuse_strays-clause-quiet : goal.returns-in-Ok-refuse_strays-clause-quiet
 returns-in-Ok-refuse_strays-clause-quiet g c = Quiet-then c.args.journal.now c.read_parts.new.journal _ c.in-Ok.ensures.quiet

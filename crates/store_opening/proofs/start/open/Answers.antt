@@ -1,6 +1,7 @@
 use Rattle.std.proofs.Common.{inl}
-use Rattle.disk_trait.specs.Images.{leaves_then}
-use Rattle.store_opening.proofs.Reopening.{again_holds, again_crash, failed_each, failed_crash, unknown_never, left_unopened, told_files}
+use Rattle.store_opening.proofs.Reopening.{again_holds, failed_each, unknown_never, left_unopened, told_files, openable}
+use Rattle.store_opening.proofs.Settling.{settles_then, stops_then, stops_unopened}
+use Rattle.store_opening.proofs.Whole.{listed_before}
 use Rattle.store_opening.proofs.start.open.Goals as goal
 
 pub returns-in-Err-clause-left : goal.returns-in-Err-clause-left
@@ -13,31 +14,35 @@ returns-in-Err-clause-left g c = λ a b is.
       tells = g.met.D.Disk.tells c.args.disk c.in-Err.refused.0 is.tells;
     })
 
-pub returns-in-Err-clause-left_crash : goal.returns-in-Err-clause-left_crash
-returns-in-Err-clause-left_crash g c = λ a b is.
-    failed_crash g.D.Disk _ c.args.disk a b is.each (told_files _ is.tells) c.in-Err.refused.0 c.in-Err.ensures.failed
-
 pub returns-in-Err-clause-foreign : goal.returns-in-Err-clause-foreign
 returns-in-Err-clause-foreign g c = λ file found e. inl (c.in-Err.ensures.foreign file found e)
-
-pub returns-in-Ok-start-clause-opened : goal.returns-in-Ok-start-clause-opened
-returns-in-Ok-start-clause-opened g c = λ a b is.
-    c.in-Ok-start.ensures.opened a b
-    (again_holds g.D.Disk _ c.args.disk a b is.each (told_files _ is.tells) c.in-Ok.journal c.in-Ok.ensures.done)
-
-pub returns-in-Ok-start-clause-crash : goal.returns-in-Ok-start-clause-crash
-returns-in-Ok-start-clause-crash g c = λ a b is.
-    leaves_then (again_crash g.D.Disk _ c.args.disk a b is.each (told_files _ is.tells) c.in-Ok.journal c.in-Ok.ensures.done)
-    (c.in-Ok-start.ensures.crash a b
-    (again_holds g.D.Disk _ c.args.disk a b is.each (told_files _ is.tells) c.in-Ok.journal c.in-Ok.ensures.done))
 
 pub returns-in-Err-start-clause-left : goal.returns-in-Err-start-clause-left
 returns-in-Err-start-clause-left g c = λ a b is.
     c.in-Err-start.ensures.left a b
     (again_holds g.D.Disk _ c.args.disk a b is.each (told_files _ is.tells) c.in-Ok.journal c.in-Ok.ensures.done)
 
-pub returns-in-Err-start-clause-left_crash : goal.returns-in-Err-start-clause-left_crash
-returns-in-Err-start-clause-left_crash g c = λ a b is.
-    leaves_then (again_crash g.D.Disk _ c.args.disk a b is.each (told_files _ is.tells) c.in-Ok.journal c.in-Ok.ensures.done)
-    (c.in-Err-start.ensures.left_crash a b
-    (again_holds g.D.Disk _ c.args.disk a b is.each (told_files _ is.tells) c.in-Ok.journal c.in-Ok.ensures.done))
+pub returns-in-Err-clause-spent : goal.returns-in-Err-clause-spent
+returns-in-Err-clause-spent g c = λ e. absurd (c.in-Err.ensures.kind e)
+
+pub returns-in-Ok-start-clause-listed : goal.returns-in-Ok-start-clause-listed
+returns-in-Ok-start-clause-listed g c =
+    listed_before (g.D.Disk.files c.args.disk) (g.D.Disk.files c.in-Ok.journal.disk) _ c.in-Ok.ensures.keeps c.in-Ok-start.ensures.listed
+
+pub returns-in-Err-clause-stops : goal.returns-in-Err-clause-stops
+returns-in-Err-clause-stops g c = λ a b is.
+    stops_unopened g.D.Disk _ c.args.disk a b is.each c.in-Err.refused.0
+    (c.in-Err.ensures.stopped (told_files _ is.tells).0 (told_files _ is.tells).1
+    (openable g.D.Disk _ c.args.disk a b is.each (told_files _ is.tells)))
+
+pub returns-in-Ok-start-clause-opened : goal.returns-in-Ok-start-clause-opened
+returns-in-Ok-start-clause-opened g c = λ a b is.
+    let raw = told_files _ is.tells in
+    let w = c.in-Ok-start.ensures.opened a b (again_holds g.D.Disk _ c.args.disk a b is.each raw c.in-Ok.journal c.in-Ok.ensures.done) in
+    (w.0, settles_then g.D.Disk _ c.args.disk a b is.each c.in-Ok.journal.disk _ w.0.office (c.in-Ok.ensures.synced raw.0 raw.1) w.1)
+
+pub returns-in-Err-start-clause-stops : goal.returns-in-Err-start-clause-stops
+returns-in-Err-start-clause-stops g c = λ a b is.
+    let raw = told_files _ is.tells in
+    let w = c.in-Err-start.ensures.left_one a b (again_holds g.D.Disk _ c.args.disk a b is.each raw c.in-Ok.journal c.in-Ok.ensures.done) in
+    stops_then g.D.Disk _ c.args.disk a b is.each c.in-Ok.journal.disk _ (c.in-Ok.ensures.synced raw.0 raw.1) w

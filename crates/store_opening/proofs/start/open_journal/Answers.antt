@@ -1,6 +1,8 @@
 use Rattle.journal_view.specs.Found.{CanFind}
 use Rattle.journal_view.specs.FoundLaws.{openable}
 use Rattle.journal_view.specs.OpeningLaws.{reopened_of, refused_of, refused_known, now_of}
+use Rattle.store_opening.proofs.Settling.{synced_of, stopped_of}
+use Rattle.store_opening.proofs.Whole.{keeps_data}
 use Rattle.store_opening.proofs.start.open_journal.Goals as goal
 
 pub returns-in-Ok-clause-done : goal.returns-in-Ok-clause-done
@@ -28,3 +30,12 @@ returns-in-Err-clause-known g c = λ all file found foreign is opens.
 pub returns-in-Err-clause-foreign : goal.returns-in-Err-clause-foreign
 returns-in-Err-clause-foreign g c = λ file found foreign.
     c.in-Err.ensures.refused.foreign file found (c.open_refusal.ensures.foreign file found foreign)
+
+pub returns-in-Ok-clause-keeps : goal.returns-in-Ok-clause-keeps
+returns-in-Ok-clause-keeps g c = keeps_data c.args.disk _ c.in-Ok.ensures.opened
+
+pub returns-in-Ok-clause-synced : goal.returns-in-Ok-clause-synced
+returns-in-Ok-clause-synced g c = λ all is. synced_of c.args.disk _ all is c.in-Ok.ensures.opened
+
+pub returns-in-Err-clause-stopped : goal.returns-in-Err-clause-stopped
+returns-in-Err-clause-stopped g c = λ all is opens. stopped_of c.args.disk c.in-Err.disk c.in-Err.fault all is opens c.in-Err.ensures.refused
