@@ -1,5 +1,5 @@
 -- What an abort leaves.
-use Rattle.std.specs.Prelude.{◌≡◌, ◌≤◌, ℕ, List, Option, Some, None, Ok, Err, slice_get}
+use Rattle.std.specs.Prelude.{◌≡◌, ◌≤◌, ℕ, List, Option, Some, Ok, Err, slice_get}
 use Rattle.std.specs.List.{position_from, remove}
 use Rattle.std.proofs.Common.{refl, sym, ap, ◌∙◌, subst, arith}
 use Rattle.disk_trait.specs.declared.ids.PoolId.{PoolId}
@@ -32,6 +32,11 @@ use Rattle.store_dumps.proofs.Running.{running_let_go, runs_kept}
 abbrev pub place_of : List OpenDump → SessionName → Option ℕ
 place_of dumps name = position_from (λ dump. is_same_session dump.name name) 0 dumps
 
+-- there is no such dump
+pub no_dump_abort : (session : SessionName) (office : Office) (names : Names) → dump_at office.dumps session ≡ Err NoSession
+    → AbortEvent.carried session office ≡ Err NoSession
+no_dump_abort session office names e = rw e refl
+
 module _ {D N S : Type 0} {d : DiskGhosts D} {n : NamerGhosts N S} where
   module _ (old : StoreParts D N S d n) (session : SessionName) where
     -- the model looks where memory looked
@@ -39,10 +44,6 @@ module _ {D N S : Type 0} {d : DiskGhosts D} {n : NamerGhosts N S} where
         → (office : Office) (names : Names) → IsRunning old office names → dump_index office.dumps session ≡ place
     place_is place e office names at =
         dump_index-sessions (given (slots old)) (contents_of at.all) office.dumps old.sessions.dumps.items at.sessions.dumps session ∙ sym e
-
-    pub no_dump : None ≡ place_of old.sessions.dumps.items session
-        → (office : Office) (names : Names) → IsRunning old office names → dump_at office.dumps session ≡ Err NoSession
-    no_dump e office names at = rw (place_is None e office names at) refl
 
     -- the dump of the model that an open dump is
     pub record IsFound (index : ℕ) (dump : OpenDump) (office : Office) (names : Names) (at : IsRunning old office names) : Type 0 where
@@ -62,10 +63,6 @@ module _ {D N S : Type 0} {d : DiskGhosts D} {n : NamerGhosts N S} where
           is_at = at_found NoSession office.dumps (dump_index office.dumps session) index w.0 (place_is (Some index) e office names at) w.1;
           is = at.sessions.dumps.each index w.0 dump w.1 there;
         }
-
-    pub abort_refused : None ≡ place_of old.sessions.dumps.items session
-        → (office : Office) (names : Names) → IsRunning old office names → AbortEvent.carried session office ≡ Err NoSession
-    abort_refused e office names at = rw (no_dump e office names at) refl
 
     pub abort_enough : (index : ℕ) (dump : OpenDump) → slice_get old.sessions.dumps.items index ≡ Some dump
         → (office : Office) (names : Names) → IsRunning old office names → (id : PoolId) → claims_of_dump dump id ≤ claims_of (slots old id)

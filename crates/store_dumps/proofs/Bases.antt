@@ -3,7 +3,8 @@
 --     base_there, no_base      there is a base exactly if the kind wants none or the host has a backup
 --     begins_full, begins_newest, begins_none      the rows that are read are those of the base
 --     newest_fault      the newest backup's table isn't damaged
-use Rattle.std.specs.Prelude.{◌≡◌, ◌<◌, ◌+◌, ◌-◌, ℕ, zero, suc, Bool, true, false, List, [], ◌∷◌, length, Option, Some, None, Ok, Err, is_some, option_map, slice_get, if◌then◌else◌}
+--     tells_none, tells_newest, newest_damaged      whatever the files hold
+use Rattle.std.specs.Prelude.{◌≡◌, ◌<◌, ◌+◌, ◌-◌, ℕ, zero, suc, Bool, true, false, List, [], ◌∷◌, length, take, Option, Some, None, Ok, Err, is_some, option_map, slice_get, if◌then◌else◌}
 use Rattle.std.proofs.Common.{refl, sym, ap, ◌∙◌, subst, arith}
 use Rattle.std.proofs.lemmas.Bool.{false≢true}
 use Rattle.std.proofs.lemmas.List.{length-map}
@@ -23,8 +24,9 @@ use Rattle.backup_rules.specs.declared.lines.Kind.TheVariants.{Full, Incr}
 use Rattle.backup_rules.specs.declared.lines.Line.{Line}
 use Rattle.backup_views.specs.declared.fault.ViewFault.{ViewFault}
 use Rattle.backup_views.specs.declared.fault.ViewFault.TheVariants as V
+use Rattle.backup_views.specs.FaultLaws.{first_damaged}
 use Rattle.backup_views.specs.Faults.{SaysOneDamaged}
-use Rattle.backup_views.specs.Stored.{IsTableFile, HasTable, AreTables, tree_from}
+use Rattle.backup_views.specs.Stored.{IsTableFile, HasTable, AreTables, TellsTree, tree_from, depth_of}
 use Rattle.journal_view.specs.View.{told}
 use Rattle.merge_view.specs.Views.{Rows, IsWhole, view}
 use Rattle.merge_view.specs.TableLaws.{view-nil}
@@ -47,9 +49,10 @@ use Rattle.office_files.specs.Pooled.{contents_of, IsListed}
 use Rattle.office_files.specs.Hosts.{IsShown, StandsHost}
 use Rattle.store_parts.specs.declared.parts.StoreParts.{StoreParts}
 use Rattle.store_parts.specs.Held.{given}
+use Rattle.store_parts.specs.Refusals.{IsReadFault, refusal_of_view}
 use Rattle.store_parts.specs.States.{slots, IsRunning}
 use Rattle.store_parts.specs.StoredLaws.{listed_live}
-use Rattle.store_dumps.specs.Base.{newest_line, has_base, IsBase, BeginsWith, IsReadFault, refusal_of_view}
+use Rattle.store_dumps.specs.Base.{newest_line, has_base, IsBase, BeginsWith, TellsNewest, TellsBase, IsBaseFault}
 use Rattle.store_dumps.proofs.Hosts.{host_of, index_named}
 
 -- ---- ids that rows name
@@ -169,6 +172,9 @@ module _ (given : PoolId → Type 0) (contents : PoolId → List ℕ) (files : F
             });
           }
 
+same_index : (o : Option Index) (a b : Index) → o ≡ Some a → o ≡ Some b → a ≡ b
+same_index o a b e f = cc
+
 only_line : (line other : Line) (i : ℕ) → slice_get (line ∷ []) i ≡ Some other → other ≡ line
 only_line line other zero e = cc
 only_line line other (suc i) e = absurd cc
@@ -219,12 +225,16 @@ module _ {D N S : Type 0} {d : DiskGhosts D} {n : NamerGhosts N S} where
             };
           })
 
-      pub newest_fault : (fault : ViewFault) → SaysOneDamaged (told parts.journal) place (line ∷ []) fault
+      -- of the one line
+      abbrev SaysNewest : ViewFault → Type 0
+      SaysNewest fault = SaysOneDamaged (told parts.journal) place (take (depth_of (line ∷ [])) (line ∷ [])) fault
+
+      pub newest_fault : (fault : ViewFault) → SaysNewest fault
           → IsReadFault parts (refusal_of_view fault)
       newest_fault V.Disk says = tt
       newest_fault V.Memory says = tt
       newest_fault (V.Damaged file found) says = λ office names at.
-          let said = says file found refl in
+          let said = first_damaged (told parts.journal) place (depth_of (line ∷ [])) (line ∷ []) (V.Damaged file found) says file found refl in
           let h = host_of office.durable parts.catalog at.catalog_is place index there in
           let w = newest_there office names at h.0 h.1 line newest_is in
           let same : said.line ≡ line = only_line line said.line said.index said.is_line in
@@ -232,3 +242,31 @@ module _ {D N S : Type 0} {d : DiskGhosts D} {n : NamerGhosts N S} where
           said.no_table.there at.all at.told_is ∙ ap at.all (said.file_is ∙ ap (λ (l : Line). TableOf place l.number) same) in
           said.no_table.none w.shown.rows
           (subst (λ (found : Option (List ℕ)). IsTableFile w.shown.rows found) (sym there) w.table.file)
+
+      -- ---- whatever the files hold
+
+      abbrev read_line : (other : Index) → slice_get parts.catalog.hosts place ≡ Some other → newest_line other.lines ≡ Some line
+      read_line other e =
+          ap (λ (i : Index). newest_line i.lines) (same_index (slice_get parts.catalog.hosts place) other index e there) ∙ newest_is
+
+      pub tells_newest : (rows : Rows)
+          → ((all : Files) → told parts.journal ≡ Some all → TellsTree all place (line ∷ []) rows)
+          → (other : Index) → slice_get parts.catalog.hosts place ≡ Some other → TellsBase (told parts.journal) place Incr other.lines rows
+      tells_newest rows tells other e =
+          subst (λ (l : Option Line). TellsNewest (told parts.journal) place l rows) (sym (read_line other e)) tells
+
+      pub newest_damaged : (fault : ViewFault) → SaysNewest fault → IsBaseFault parts place (refusal_of_view fault)
+      newest_damaged V.Disk says = tt
+      newest_damaged V.Memory says = tt
+      newest_damaged (V.Damaged file found) says = λ other e. record {
+        line = line;
+        is_line = read_line other e;
+        damaged = first_damaged (told parts.journal) place (depth_of (line ∷ [])) (line ∷ []) (V.Damaged file found) says file found refl;
+      }
+
+    pub tells_none : newest_line index.lines ≡ None → (rows : Rows) → rows ≡ [] → (other : Index)
+        → slice_get parts.catalog.hosts place ≡ Some other → TellsBase (told parts.journal) place Incr other.lines rows
+    tells_none none rows is other e =
+        let same = same_index (slice_get parts.catalog.hosts place) other index e there in
+        subst (λ (l : Option Line). TellsNewest (told parts.journal) place l rows)
+        (sym (ap (λ (i : Index). newest_line i.lines) same ∙ none)) is

@@ -3,6 +3,7 @@
 --     runs_base_opened, runs_base_memory, runs_base_fault      after its base was read, or wasn't
 use Rattle.std.specs.Prelude.{◌≡◌, ◌<◌, ◌+◌, ◌==◌, ℕ, Bool, true, false, List, [], ◌∷◌, ◌++◌, nat_le, is_some, Option, Some, None, Result, Ok, Err, slice_get, if◌then◌else◌}
 use Rattle.std.specs.List.{position_from}
+use Rattle.std.specs.Result.{IsErrAnd}
 use Rattle.std.proofs.Common.{refl, sym, ap, ◌∙◌, subst, arith}
 use Rattle.fault_counts.specs.Counts.{Counted}
 use Rattle.disk_trait.specs.declared.ids.PoolId.{PoolId}
@@ -29,24 +30,26 @@ use Rattle.office_model.specs.declared.refusal.BrokenRule.TheVariants.{NoHost, N
 use Rattle.office_model.specs.declared.refusal.Refusal.{Refusal}
 use Rattle.office_model.specs.declared.refusal.Refusal.TheVariants.{Broken, Halted, DiskFault, Damaged, Memory}
 use Rattle.office_model.specs.declared.session.SessionName.{SessionName}
-use Rattle.office_model.specs.Meaning.{Carried, Judged, ◌>>=◌, ◌>>◌, breaks}
+use Rattle.office_model.specs.Meaning.{Carried, Judged, Reply, ◌>>=◌, ◌>>◌, breaks}
 use Rattle.office_model.specs.Office.{Office, Host, Dump, Names, dump_index_of_host, number_limit, last_sequence, numbered_as, with_dumps}
 use Rattle.office_model.specs.Parts.{host_at, lines_of}
 use Rattle.office_model.specs.laws.StateLaws.{AreSound-carried}
 use Rattle.office_model.specs.events.OpenDump as OpenDumpModel
 use Rattle.office_files.specs.Pairs.{AtEachPair, pairs_push}
 use Rattle.office_files.specs.Pooled.{contents_of}
+use Rattle.office_known.specs.CatalogLaws.{IsNamed, named_host}
 use Rattle.store_parts.specs.declared.parts.StoreParts.{StoreParts}
 use Rattle.store_parts.specs.Held.{given}
+use Rattle.store_parts.specs.Refusals.{IsReadFault}
 use Rattle.store_parts.specs.States.{slots, IsRunning}
 use Rattle.store_parts.specs.Runs.{Runs, Reads}
 use Rattle.store_parts.specs.RunLaws.{runs_reads, runs_memory, runs_read_fault, counted_fine}
-use Rattle.store_dumps.specs.Base.{has_base, IsBase, BeginsWith, IsReadFault}
+use Rattle.store_dumps.specs.Base.{has_base, IsBase, BeginsWith, IsBaseFault}
 use Rattle.store_dumps.specs.Claims.{Gains}
-use Rattle.store_dumps.specs.Opening.{opening_rule, session_of, IsFresh, IsOpened, claims_at_first, HasOpened, HasKept}
+use Rattle.store_dumps.specs.Opening.{opening_rule, session_of, IsFresh, IsOpened, claims_at_first, HasOpened, HasKept, OpensDump}
 use Rattle.store_dumps.proofs.Bases.{rows_given, base_there, no_base, lines_are}
 use Rattle.store_dumps.proofs.Gaining.{running_gains}
-use Rattle.store_dumps.proofs.Hosts.{IsNamed, named_host, no_named, index_named}
+use Rattle.store_dumps.proofs.Hosts.{index_named}
 use Rattle.store_dumps.proofs.Running.{Makes, runs_kept, runs_read_then, runs_kept_memory}
 
 -- ---- the model's rules
@@ -148,6 +151,11 @@ claims_opened old new epoch place kind now rows name opened id =
       ap (occurrences id) opened.fresh.tree_is,
     )
 
+-- there is no such host
+pub no_host : (name : List ℕ) (kind : Kind) (now : ℕ) (office : Office) (names : Names) → host_at office.hosts name ≡ Err NoHost
+    → OpenDumpModel.carried name kind now office ≡ Err NoHost
+no_host name kind now office names e = rw e refl
+
 none_some : {A : Type 0} (x : A) → None ≡ Some x → ⊥
 none_some x e = absurd cc
 
@@ -165,10 +173,6 @@ module _ {D N S : Type 0} {d : DiskGhosts D} {n : NamerGhosts N S} where
   -- ---- refusals
 
   module _ (old : StoreParts D N S d n) (name : List ℕ) (kind : Kind) (now : ℕ) where
-    pub no_host : None ≡ host_named (names_of old.catalog.hosts) name
-        → (office : Office) (names : Names) → IsRunning old office names → OpenDumpModel.carried name kind now office ≡ Err NoHost
-    no_host e office names at = rw (no_named office.durable old.catalog at.catalog_is name e) refl
-
     module _ (place : ℕ) (index : Index) (found : Some place ≡ host_named (names_of old.catalog.hosts) name)
         (there : slice_get old.catalog.hosts place ≡ Some index) where
       abbrev rule_for : Bool → Option BrokenRule
@@ -182,8 +186,8 @@ module _ {D N S : Type 0} {d : DiskGhosts D} {n : NamerGhosts N S} where
 
       -- is that of the model
       module _ (office : Office) (names : Names) (at : IsRunning old office names) where
-        abbrev named : IsNamed office.durable old.catalog name place
-        named = named_host office.durable old.catalog at.catalog_is name place found
+        abbrev named : IsNamed office.hosts name place
+        named = named_host office.durable old.catalog name place at.catalog_is found
 
         has_same : has_base kind index.lines ≡ has_base kind (lines_of named.host.backups)
         has_same = ap (has_base kind) (lines_are old place index there office names at named.host named.is_host)
@@ -325,3 +329,33 @@ module _ {D N S : Type 0} {d : DiskGhosts D} {n : NamerGhosts N S} where
       runs_memory old mid (OpenDumpEvent name kind now) reads (counted_fine counted (λ e. cc) (λ e. e))
   runs_base_fault old mid name kind now Halted reads counted fault = absurd fault
   runs_base_fault old mid name kind now (Broken rule) reads counted fault = absurd fault
+
+  -- ---- whatever the files hold
+
+  pub base_reply : (old : StoreParts D N S d n) (name : List ℕ) (kind : Kind) (now : ℕ) (new : StoreParts D N S d n) (place : ℕ)
+      (index : Index)
+      → Some place ≡ host_named (names_of old.catalog.hosts) name → slice_get old.catalog.hosts place ≡ Some index → (refusal : Refusal)
+      → IsBaseFault old place refusal → OpensDump old name kind now (Err refusal) new
+  base_reply old name kind now new place index found there (Damaged file content) fault = record {
+    host = record { place = place; index = index; is_host = found; is_index = there };
+    damaged = fault index there;
+  }
+  base_reply old name kind now new place index found there (Broken rule) fault = tt
+  base_reply old name kind now new place index found there Halted fault = tt
+  base_reply old name kind now new place index found there DiskFault fault = tt
+  base_reply old name kind now new place index found there Memory fault = tt
+
+  -- what a `?` made of a rule
+  pub broken_base : (old : StoreParts D N S d n) (name : List ℕ) (kind : Kind) (now : ℕ) (new : StoreParts D N S d n) (reply : Reply)
+      (rule : BrokenRule) → IsErrAnd reply (λ refusal. refusal ≡ Broken rule) → OpensDump old name kind now reply new
+  broken_base old name kind now new (Ok answer) rule is = absurd is
+  broken_base old name kind now new (Err refusal) rule is =
+      subst (λ (r : Refusal). OpensDump old name kind now (Err r) new) (sym is) tt
+
+  -- what is open since the base was read
+  pub opened_since : (old mid : StoreParts D N S d n) → Reads old mid → (place : ℕ) (kind : Kind) (now : ℕ) (rows : Rows)
+      (session : SessionName) (new : Sessions S) → IsOpened mid.sessions mid.catalog.epoch place kind now rows session new
+      → IsOpened old.sessions old.catalog.epoch place kind now rows session new
+  opened_since old mid reads place kind now rows session new opened =
+      subst (λ (s : Sessions S). IsOpened s old.catalog.epoch place kind now rows session new) reads.sessions_same
+      (subst (λ (k : Known). IsOpened mid.sessions k.epoch place kind now rows session new) reads.catalog_same opened)

@@ -59,6 +59,7 @@ use Rattle.office_model.specs.declared.session.SessionName.{SessionName}
 use Rattle.tree_frames.specs.Frames.{bytes_of as item_bytes}
 use Rattle.office_model.specs.Meaning.{Carried, Judged, Reply, Stages}
 use Rattle.office_model.specs.Office.{Office, Dump, Names, with_dumps}
+use Rattle.office_model.specs.Parts.{dump_at}
 use Rattle.office_model.specs.Step.{Running, IsStep, MayFault, meaning_of}
 use Rattle.office_model.specs.History.{IsUndamaged}
 use Rattle.office_model.specs.UsedNames.{IsRenamed, AreNamesAfter}
@@ -71,14 +72,15 @@ use Rattle.office_files.specs.Stands.{StandsFor}
 use Rattle.store_parts.specs.declared.parts.StoreParts.{StoreParts}
 use Rattle.store_parts.specs.Held.{given}
 use Rattle.store_parts.specs.States.{slots, IsWorking, IsRunning}
+use Rattle.store_parts.specs.Refusals.{refusal_of_pool}
 use Rattle.store_parts.specs.Runs.{MayRecover, Steps, Runs}
 use Rattle.store_parts.specs.StepLaws.{names_refused, recover_before}
 use Rattle.store_parts.specs.RunLaws.{counted_fine, counted_failed}
 use Rattle.store_parts.specs.StagingLaws.{with_used, working_staged, crash_staged}
 use Rattle.store_dumps.specs.Alike.{AreAlike}
 use Rattle.store_dumps.specs.Claims.{LetsGo, claims_of_content}
-use Rattle.store_dumps.specs.Putting.{record_for, content_found, TakesIn, refusal_of, refused_put}
-use Rattle.store_dumps.proofs.Aborts.{place_of, no_dump, IsFound, dump_found}
+use Rattle.store_dumps.specs.Putting.{record_for, content_found, TakesIn, refused_put}
+use Rattle.store_dumps.proofs.Aborts.{place_of, IsFound, dump_found}
 use Rattle.store_dumps.proofs.Running.{running_let_go}
 use Rattle.store_dumps.proofs.Staged.{AreNamedAs, StagedAs, MissedAs, staged_as, missed_as, full_as}
 
@@ -205,6 +207,11 @@ damaged_seen digest_of raw id found damaged = record {
   wrong = damaged.wrong;
 }
 
+-- there is no such dump
+pub no_dump_put : (session : SessionName) (path : List ℕ) (item : Item) (office : Office) (names : Names)
+    → dump_at office.dumps session ≡ Err NoSession → PutEvent.carried session path item office names ≡ Err NoSession
+no_dump_put session path item office names e = rw e refl
+
 pub go_content : (old new : Slots) (content content' : Option PoolId) → content ≡ content'
     → (((id : PoolId) → claims_of_content content id ≤ claims_of (old id)) → LetsGo (λ id. claims_of_content content id) old new)
     → ((id : PoolId) → claims_of_content content' id ≤ claims_of (old id)) → LetsGo (λ id. claims_of_content content' id) old new
@@ -226,10 +233,6 @@ module _ {D N S : Type 0} {d : DiskGhosts D} {n : NamerGhosts N S} where
     Event' = Put session path item
 
     -- ---- the rules
-
-    pub put_refused : None ≡ place_of old.sessions.dumps.items session
-        → (office : Office) (names : Names) → IsRunning old office names → PutEvent.carried session path item office names ≡ Err NoSession
-    put_refused e office names at = rw (no_dump old session e office names at) refl
 
     module _ (index : ℕ) (dump : OpenDump) (e : Some index ≡ place_of old.sessions.dumps.items session)
         (there : slice_get old.sessions.dumps.items index ≡ Some dump) where
@@ -503,7 +506,7 @@ module _ {D N S : Type 0} {d : DiskGhosts D} {n : NamerGhosts N S} where
             → Misses n.digest_of (slots old) (slots mid) (d.files old.journal.disk) (d.files journal.disk) (item_bytes item) fault
             → SaysDamaged n.digest_of (d.files old.journal.disk) fault → SaysGiven (slots old) fault → IsNotForeign fault
             → Counted (d.fault_count old.journal.disk) (d.fault_count journal.disk) (IsErrOf {T = Option PoolId} (Err fault) P.Disk)
-            → Runs old Event' (Err (refusal_of fault)) mid
+            → Runs old Event' (Err (refusal_of_pool fault)) mid
         runs_missed (P.Foreign file found) some misses damaged given kind counted = absurd kind
         runs_missed P.Disk some misses damaged given kind counted = record {
           steps = λ office names at. steps_missed P.Disk some misses office names at R.DiskFault (

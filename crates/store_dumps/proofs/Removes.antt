@@ -22,6 +22,7 @@ use Rattle.office_model.specs.declared.event.Event.TheVariants.{Remove}
 use Rattle.office_model.specs.declared.refusal.BrokenRule.TheVariants.{NoSession, NoPath}
 use Rattle.office_model.specs.declared.session.SessionName.{SessionName}
 use Rattle.office_model.specs.Office.{Office, Dump, Names, with_dumps}
+use Rattle.office_model.specs.Parts.{dump_at}
 use Rattle.office_model.specs.laws.StateLaws.{AreSound-carried}
 use Rattle.office_model.specs.events.Remove as RemoveEvent
 use Rattle.office_files.specs.Pairs.{AtEachPair}
@@ -31,7 +32,7 @@ use Rattle.store_parts.specs.Held.{given}
 use Rattle.store_parts.specs.States.{slots, IsRunning}
 use Rattle.store_parts.specs.Runs.{Runs}
 use Rattle.store_dumps.specs.Claims.{LetsGo}
-use Rattle.store_dumps.proofs.Aborts.{place_of, no_dump, dump_found}
+use Rattle.store_dumps.proofs.Aborts.{place_of, dump_found}
 use Rattle.store_dumps.proofs.Running.{running_let_go, runs_kept}
 
 -- ---- rows without a path
@@ -87,12 +88,13 @@ dump_without given contents value dump path is = record {
   tree_rows = rows_without given contents dump.tree path is.tree_rows;
 }
 
+-- there is no such dump
+pub no_dump_remove : (session : SessionName) (path : List ℕ) (office : Office) (names : Names)
+    → dump_at office.dumps session ≡ Err NoSession → RemoveEvent.carried session path office ≡ Err NoSession
+no_dump_remove session path office names e = rw e refl
+
 module _ {D N S : Type 0} {d : DiskGhosts D} {n : NamerGhosts N S} where
   module _ (old : StoreParts D N S d n) (session : SessionName) (path : List ℕ) where
-    pub remove_refused : None ≡ place_of old.sessions.dumps.items session
-        → (office : Office) (names : Names) → IsRunning old office names → RemoveEvent.carried session path office ≡ Err NoSession
-    remove_refused e office names at = rw (no_dump old session e office names at) refl
-
     module _ (index : ℕ) (dump : OpenDump) (e : Some index ≡ place_of old.sessions.dumps.items session)
         (there : slice_get old.sessions.dumps.items index ≡ Some dump) where
       path_is : (office : Office) (names : Names) (at : IsRunning old office names)

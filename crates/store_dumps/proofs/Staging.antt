@@ -24,7 +24,7 @@ use Rattle.attr_tables.specs.RecordLaws.{id_itself}
 use Rattle.office_model.specs.Office.{Office, Names}
 use Rattle.office_model.specs.UsedNames.{Among, AddsName}
 use Rattle.store_parts.specs.declared.parts.StoreParts.{StoreParts}
-use Rattle.store_parts.specs.Held.{AreUsed, given}
+use Rattle.store_parts.specs.Held.{AreUsed}
 use Rattle.store_parts.specs.States.{slots, IsRunning}
 use Rattle.store_parts.specs.ListLaws.{first_distinct}
 use Rattle.store_parts.specs.StagingLaws.{HasStaged}

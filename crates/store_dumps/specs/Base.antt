@@ -3,16 +3,21 @@
 --     has_base kind lines      whether there is what a dump of this kind begins with
 --     IsBase given contents kind backups rows      the rows of the tree that it begins with
 --     BeginsWith parts place kind rows      those of a dump of this host, in each office that the parts are at work with
---     IsReadFault parts refusal      why a backup isn't read: a fault of the disk, want of memory, or files that can't be there
-use Rattle.std.specs.Prelude.{⊤, ◌≡◌, ℕ, ◌-◌, Bool, true, List, length, Option, Some, Ok, is_some, slice_get}
+--     TellsBase told place kind lines rows      the files tell the rows: none, or what the newest backup's table shows
+--     IsBaseFault parts place refusal      a damaged file is that table
+use Rattle.std.specs.Prelude.{⊤, ◌≡◌, ℕ, ◌-◌, Bool, true, List, [], ◌∷◌, length, Option, Some, None, Ok, is_some, slice_get}
 use Rattle.disk_trait.specs.declared.ids.PoolId.{PoolId}
+use Rattle.disk_trait.specs.declared.ids.FileId.{FileId}
 use Rattle.disk_trait.specs.declared.disk.Disk.{Ghosts as DiskGhosts}
+use Rattle.disk_trait.specs.Files.{Files}
 use Rattle.pool_name.specs.declared.namer.Namer.{Ghosts as NamerGhosts}
 use Rattle.backup_rules.specs.declared.lines.Kind.{Kind}
 use Rattle.backup_rules.specs.declared.lines.Kind.TheVariants.{Full, Incr}
 use Rattle.backup_rules.specs.declared.lines.Line.{Line}
-use Rattle.backup_views.specs.declared.fault.ViewFault.{ViewFault}
-use Rattle.backup_views.specs.declared.fault.ViewFault.TheVariants as V
+use Rattle.backup_views.specs.Faults.{IsDamaged}
+use Rattle.backup_views.specs.Stored.{TellsTree}
+use Rattle.backup_index.specs.Index.{Index}
+use Rattle.journal_view.specs.View.{told}
 use Rattle.merge_view.specs.Views.{Rows}
 use Rattle.stored_trees.specs.Resolved.{resolved}
 use Rattle.open_sessions.specs.Opened.{AreRowsOf}
@@ -39,10 +44,22 @@ pub record IsBase (given : PoolId → Type 0) (contents : PoolId → List ℕ) (
   pub is : OpenDumpModel.base_of kind backups ≡ Ok (resolved contents rows)
   pub rows_of : AreRowsOf given contents rows
 
-abbrev pub refusal_of_view : ViewFault → Refusal
-refusal_of_view V.Disk = R.DiskFault
-refusal_of_view V.Memory = R.Memory
-refusal_of_view (V.Damaged file found) = R.Damaged file found
+-- ---- whatever the files hold
+
+abbrev pub TellsNewest : Option Files → ℕ → Option Line → Rows → Type 0
+TellsNewest told place None rows = rows ≡ []
+TellsNewest told place (Some line) rows = (all : Files) → told ≡ Some all → TellsTree all place (line ∷ []) rows
+
+abbrev pub TellsBase : Option Files → ℕ → Kind → List Line → Rows → Type 0
+TellsBase told place Full lines rows = rows ≡ []
+TellsBase told place Incr lines rows = TellsNewest told place (newest_line lines) rows
+
+-- the newest backup's table is absent or in no table's grammar, and was found so
+pub record IsNewestDamaged (told : Option Files) (place : ℕ) (lines : List Line) (file : FileId)
+    (found : Option (List ℕ)) : Type 0 where
+  pub line : Line
+  pub is_line : newest_line lines ≡ Some line
+  pub damaged : IsDamaged told place (line ∷ []) file found
 
 module _ {D N S : Type 0} {d : DiskGhosts D} {n : NamerGhosts N S} where
   abbrev pub BeginsWith : StoreParts D N S d n → ℕ → Kind → Rows → Type 0
@@ -50,8 +67,7 @@ module _ {D N S : Type 0} {d : DiskGhosts D} {n : NamerGhosts N S} where
       (office : Office) (names : Names) (at : IsRunning parts office names) (host : Host) → slice_get office.hosts place ≡ Some host
       → has_base kind (lines_of host.backups) ≡ true → IsBase (given (slots parts)) (contents_of at.all) kind host.backups rows
 
-  abbrev pub IsReadFault : StoreParts D N S d n → Refusal → Type 0
-  IsReadFault parts (R.Damaged file found) = (office : Office) (names : Names) → IsRunning parts office names → ⊥
-  IsReadFault parts R.DiskFault = ⊤
-  IsReadFault parts R.Memory = ⊤
-  IsReadFault parts refusal = ⊥
+  abbrev pub IsBaseFault : StoreParts D N S d n → ℕ → Refusal → Type 0
+  IsBaseFault parts place (R.Damaged file found) = (index : Index) → slice_get parts.catalog.hosts place ≡ Some index
+      → IsNewestDamaged (told parts.journal) place index.lines file found
+  IsBaseFault parts place refusal = ⊤

@@ -2,19 +2,27 @@
 --     opening_rule has_base is_open next sequence      the first rule that keeps a host's dump from being opened
 --     IsOpened old epoch host kind now base name new      the sessions have one dump more, whose rows are those of its base
 --     HasOpened old host kind now base name new      so have the parts of a store, and its rows and those of its base claim contents
+--     OpensDump old name kind now reply new      an answer opened a dump whose base the files tell; a damaged file is the newest table
 --     HasKept old new      the same is open, and claims the same
-use Rattle.std.specs.Prelude.{◌≡◌, ◌<◌, ℕ, ◌+◌, Bool, true, not, [], ◌∷◌, ◌++◌, nat_le, Option, Some, None, if◌then◌else◌}
+use Rattle.std.specs.Prelude.{⊤, ◌≡◌, ◌<◌, ℕ, ◌+◌, Bool, true, not, List, [], ◌∷◌, ◌++◌, nat_le, Option, Some, None, Ok, Err, slice_get, if◌then◌else◌}
 use Rattle.disk_trait.specs.declared.ids.PoolId.{PoolId}
+use Rattle.disk_trait.specs.declared.ids.FileId.{FileId}
 use Rattle.disk_trait.specs.declared.disk.Disk.{Ghosts as DiskGhosts}
 use Rattle.pool_name.specs.declared.namer.Namer.{Ghosts as NamerGhosts}
+use Rattle.backup_index.specs.Index.{Index}
 use Rattle.backup_rules.specs.declared.lines.Kind.{Kind}
+use Rattle.journal_view.specs.View.{told}
 use Rattle.merge_view.specs.Views.{Rows}
 use Rattle.stored_trees.specs.Occurrences.{occurrences}
 use Rattle.pool_changes.specs.Slots.{is_given}
 use Rattle.pool_changes.specs.Kept.{IsSame}
+use Rattle.office_catalog.specs.Known.{Known, host_named, names_of}
+use Rattle.office_model.specs.declared.answer.Answer.TheVariants.{Dump as DumpAnswer}
 use Rattle.office_model.specs.declared.refusal.BrokenRule.{BrokenRule}
 use Rattle.office_model.specs.declared.refusal.BrokenRule.TheVariants.{NoBackup, SessionOpen, NumbersSpent}
+use Rattle.office_model.specs.declared.refusal.Refusal.TheVariants as R
 use Rattle.office_model.specs.declared.session.SessionName.{SessionName}
+use Rattle.office_model.specs.Meaning.{Reply}
 use Rattle.office_model.specs.Office.{number_limit, last_sequence}
 use Rattle.open_sessions.specs.declared.sessions.OpenDump.{OpenDump}
 use Rattle.open_sessions.specs.declared.sessions.Sessions.{Sessions}
@@ -22,6 +30,7 @@ use Rattle.open_sessions.specs.Opened.{base_of}
 use Rattle.store_parts.specs.declared.parts.StoreParts.{StoreParts}
 use Rattle.store_parts.specs.States.{slots}
 use Rattle.store_dumps.specs.Alike.{AreAlike}
+use Rattle.store_dumps.specs.Base.{TellsBase, IsNewestDamaged}
 use Rattle.store_dumps.specs.Claims.{Gains}
 
 abbrev pub opening_rule : (has_base is_open : Bool) (next sequence : ℕ) → Option BrokenRule
@@ -31,6 +40,13 @@ opening_rule has_base is_open next sequence =
     else (if nat_le number_limit next then Some NumbersSpent
     else (if nat_le last_sequence sequence then Some NumbersSpent
     else None)))
+
+-- where a catalog has the host of this name
+pub record IsHostPlaced (known : Known) (name : List ℕ) : Type 0 where
+  pub place : ℕ
+  pub index : Index
+  pub is_host : Some place ≡ host_named (names_of known.hosts) name
+  pub is_index : slice_get known.hosts place ≡ Some index
 
 abbrev pub session_of : ℕ → ℕ → SessionName
 session_of epoch sequence = record { epoch = epoch; sequence = sequence }
@@ -80,3 +96,21 @@ module _ {D N S : Type 0} {d : DiskGhosts D} {n : NamerGhosts N S} where
     pub form : new.pool.in_one_file ≡ old.pool.in_one_file
     pub sessions : AreAlike old.sessions new.sessions
     pub names : IsSame (slots old) (slots new)
+
+  -- the base of a dump that was opened is what the files tell
+  pub record OpensTold (old : StoreParts D N S d n) (name : List ℕ) (kind : Kind) (now : ℕ) (session : SessionName)
+      (new : StoreParts D N S d n) : Type 0 where
+    pub host : IsHostPlaced old.catalog name
+    pub rows : Rows
+    pub tells : TellsBase (told old.journal) host.place kind host.index.lines rows
+    pub opened : IsOpened old.sessions old.catalog.epoch host.place kind now rows session new.sessions
+
+  pub record HasNewestDamaged (old : StoreParts D N S d n) (name : List ℕ) (file : FileId) (found : Option (List ℕ)) : Type 0 where
+    pub host : IsHostPlaced old.catalog name
+    pub damaged : IsNewestDamaged (told old.journal) host.place host.index.lines file found
+
+  abbrev pub OpensDump : StoreParts D N S d n → List ℕ → Kind → ℕ → Reply → StoreParts D N S d n → Type 0
+  OpensDump old name kind now (Ok answer) new =
+      (session : SessionName) × (answer ≡ DumpAnswer session) × OpensTold old name kind now session new
+  OpensDump old name kind now (Err (R.Damaged file found)) new = HasNewestDamaged old name file found
+  OpensDump old name kind now (Err refusal) new = ⊤

@@ -2,10 +2,9 @@
 --     record_for item content      the record of an item whose bytes are kept under a name
 --     content_found found      the name of the content of what is found
 --     TakesIn .. content bytes      bytes got a name, if there are some
---     refusal_of, refused_put      the refusals that faults are
+--     refused_put      the refusal that a fault of a dump's tree is
 use Rattle.std.specs.Prelude.{◌≡◌, ℕ, List, length, Option, Some, None}
 use Rattle.disk_trait.specs.declared.ids.PoolId.{PoolId}
-use Rattle.disk_trait.specs.declared.ids.FileId.TheVariants.{Pool as PoolFile}
 use Rattle.disk_trait.specs.Files.{Files}
 use Rattle.attr_records.specs.declared.nodes.Item.{Item}
 use Rattle.attr_records.specs.declared.nodes.Item.TheVariants as I
@@ -13,13 +12,11 @@ use Rattle.attr_tables.specs.declared.records.Record.{Record}
 use Rattle.attr_tables.specs.declared.records.Record.TheVariants.{File, Dir, Link}
 use Rattle.pool_changes.specs.Slots.{Slots}
 use Rattle.pool_changes.specs.Kept.{IsSame}
-use Rattle.pool_store.specs.declared.fault.PoolFault.{PoolFault}
-use Rattle.pool_store.specs.declared.fault.PoolFault.TheVariants as P
 use Rattle.pool_store.specs.Pools.{Takes}
 use Rattle.stored_trees.specs.Resolved.{content_in}
 use Rattle.dump_session.specs.declared.session.PutFault.{PutFault}
 use Rattle.dump_session.specs.declared.session.PutFault.TheVariants as F
-use Rattle.office_model.specs.declared.refusal.BrokenRule.TheVariants.{Put as PutRule, ChainFull}
+use Rattle.office_model.specs.declared.refusal.BrokenRule.TheVariants.{Put as PutRule}
 use Rattle.office_model.specs.declared.refusal.Refusal.{Refusal}
 use Rattle.office_model.specs.declared.refusal.Refusal.TheVariants as R
 
@@ -36,13 +33,6 @@ content_found (Some node) = content_in node
 abbrev pub TakesIn : (List ℕ → List ℕ) → (old new : Slots) → (told told' : Option Files) → Option PoolId → List ℕ → Type 0
 TakesIn digest_of old new told told' None bytes = IsSame old new × (told' ≡ told) × (length bytes ≡ 0)
 TakesIn digest_of old new told told' (Some id) bytes = Takes digest_of old new told told' id bytes
-
-abbrev pub refusal_of : PoolFault → Refusal
-refusal_of (P.Foreign file found) = R.Damaged file found
-refusal_of P.Disk = R.DiskFault
-refusal_of P.Memory = R.Memory
-refusal_of (P.Damaged id found) = R.Damaged (PoolFile id) found
-refusal_of P.ChainFull = R.Broken ChainFull
 
 abbrev pub refused_put : PutFault → Refusal
 refused_put (F.Broken rule) = R.Broken (PutRule rule)

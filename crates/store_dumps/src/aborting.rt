@@ -6,7 +6,7 @@ ghost use Rattle.store_parts.specs.Runs.{Runs};
 
 use crate::claims::release_dump;
 use disk_trait::Disk;
-use office_model::{Answer, BrokenRule, Refusal, SessionName};
+use office_model::{Answer, Refusal, SessionName};
 use pool_name::Namer;
 use std::alloc::Global;
 use store_parts::StoreParts;
@@ -21,10 +21,7 @@ pub fn abort<D: Disk, N: Namer>(
     requires ready { parts.old.halted ≡ false }
     ensures { Runs parts.old (Abort session) result parts.new }
 {
-    let at = match parts.sessions.dump_at(session) {
-        Some(at) => at,
-        None => return Err(Refusal::Broken(BrokenRule::NoSession)),
-    };
+    let at = parts.dump(session)?;
     match release_dump(&mut parts.pool, alloc, parts.sessions.dump(at)) {
         Ok(()) => {}
         Err(_) => return Err(Refusal::Memory),

@@ -95,18 +95,6 @@ pub(crate) fn release_dump<N: Namer>(
     Ok(())
 }
 
-/// Whether a name is live or staged.
-fn is_given<N: Namer>(pool: &Pool<N>, id: PoolId) -> bool
-    ensures { result ≡ is_given (slots_of pool.now.names id) }
-{
-    match pool.slot(id) {
-        Some(Slot::Live { .. }) => true,
-        Some(Slot::Staged { .. }) => true,
-        Some(Slot::Doomed) => false,
-        None => false,
-    }
-}
-
 /// Claims a content, if its name is live or staged.
 fn claim_id<N: Namer>(pool: &mut Pool<N>, id: PoolId)
     requires { 0 < pool.old.spare }
@@ -115,7 +103,7 @@ fn claim_id<N: Namer>(pool: &mut Pool<N>, id: PoolId)
     ensures spare { pool.old.spare ≤ pool.new.spare + 1 }
     ensures form { pool.new.in_one_file ≡ pool.old.in_one_file }
 {
-    if is_given(pool, id) {
+    if pool.has(id) {
         pool.claim(id);
     }
 }

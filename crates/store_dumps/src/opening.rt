@@ -6,7 +6,7 @@ ghost use Rattle.std.specs.Arc.{arc_value};
 ghost use Rattle.office_model.specs.declared.event.Event.TheVariants.{OpenDump as OpenDumpEvent};
 ghost use Rattle.store_parts.specs.Runs.{Runs};
 ghost use Rattle.store_dumps.specs.Base.{has_base};
-ghost use Rattle.store_dumps.specs.Opening.{opening_rule, IsFresh, IsOpened, HasOpened, HasKept};
+ghost use Rattle.store_dumps.specs.Opening.{opening_rule, IsFresh, IsOpened, HasOpened, HasKept, OpensDump};
 ghost use Rattle.store_dumps.specs.Alike.{AreAlike};
 
 use crate::base::{base_of, has_base};
@@ -121,7 +121,8 @@ fn open_with<D: Disk, N: Namer>(
 }
 
 /// Opens a dump of a host: a full one begins with the empty tree, an incremental with the tree of the host's newest backup,
-/// whose contents it claims. After a refusal nothing has changed.
+/// whose contents it claims. After a refusal nothing has changed; `Damaged` names the table of that backup, with what was
+/// found of it.
 pub fn open_dump<D: Disk, N: Namer>(
     parts: &mut StoreParts<D, N>,
     alloc: Global,
@@ -131,12 +132,10 @@ pub fn open_dump<D: Disk, N: Namer>(
 ) -> Result<Answer, Refusal>
     requires ready { parts.old.halted ≡ false }
     requires journal_ready { parts.old.journal.halted ≡ false }
-    ensures { Runs parts.old (OpenDumpEvent host.now kind now) result parts.new }
+    ensures runs { Runs parts.old (OpenDumpEvent host.now kind now) result parts.new }
+    ensures base { OpensDump parts.old host.now kind now result parts.new }
 {
-    let at = match parts.catalog.host_at(host) {
-        Some(at) => at,
-        None => return Err(Refusal::Broken(BrokenRule::NoHost)),
-    };
+    let at = parts.host(host)?;
     match broken_rule(&parts.sessions, at, &parts.catalog.hosts()[at], kind) {
         Some(rule) => return Err(Refusal::Broken(rule)),
         None => {}

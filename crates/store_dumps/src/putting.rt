@@ -20,12 +20,12 @@ ghost use Rattle.office_model.specs.declared.event.Event.TheVariants.{Put};
 ghost use Rattle.tree_frames.specs.Frames.{bytes_of};
 ghost use Rattle.store_parts.specs.Runs.{Runs};
 ghost use Rattle.store_dumps.specs.Alike.{AreAlike};
-ghost use Rattle.store_dumps.specs.Putting.{record_for, content_found, TakesIn, refusal_of, refused_put};
+ghost use Rattle.store_dumps.specs.Putting.{record_for, content_found, TakesIn, refused_put};
 
 use crate::claims::release;
 use attr_records::{Item, PathName, PutRule};
 use attr_tables::{Record, StoredFile};
-use disk_trait::{Disk, FileId, PoolId};
+use disk_trait::{Disk, PoolId};
 use dump_session::{NodeKind, PutFault, Session};
 use intent_journal::Journal;
 use office_model::{Answer, BrokenRule, Refusal, SessionName};
@@ -33,23 +33,7 @@ use open_sessions::Sessions;
 use pool_name::Namer;
 use pool_store::{Pool, PoolFault};
 use std::alloc::{AllocError, Global};
-use store_parts::StoreParts;
-
-/// The refusal that a fault of the pool is.
-fn refusal_of(fault: PoolFault) -> Refusal
-    ensures { result ≡ refusal_of fault }
-{
-    match fault {
-        PoolFault::Foreign { file, found } => Refusal::Damaged { file, found },
-        PoolFault::Disk => Refusal::DiskFault,
-        PoolFault::Memory => Refusal::Memory,
-        PoolFault::Damaged { id, found } => Refusal::Damaged {
-            file: FileId::Pool(id),
-            found,
-        },
-        PoolFault::ChainFull => Refusal::Broken(BrokenRule::ChainFull),
-    }
-}
+use store_parts::{StoreParts, refusal_of_pool};
 
 /// The refusal that a fault of a dump's tree is.
 fn refused_put(fault: PutFault) -> Refusal
@@ -195,17 +179,14 @@ pub fn put<D: Disk, N: Namer>(
     requires journal_ready { parts.old.journal.halted ≡ false }
     ensures { Runs parts.old (Put session path.now item.now) result parts.new }
 {
-    let at = match parts.sessions.dump_at(session) {
-        Some(at) => at,
-        None => return Err(Refusal::Broken(BrokenRule::NoSession)),
-    };
+    let at = parts.dump(session)?;
     match broken_rule(&parts.sessions.dumps[at].tree, path, item) {
         Some(rule) => return Err(Refusal::Broken(BrokenRule::Put(rule))),
         None => {}
     }
     let content = match stage(&mut parts.pool, &mut parts.journal, alloc, bytes_of(item)) {
         Ok(content) => content,
-        Err(fault) => return Err(refusal_of(fault)),
+        Err(fault) => return Err(refusal_of_pool(fault)),
     };
     let before = content_of(parts.sessions.find(at, path));
     match put_item(&mut parts.sessions, alloc, at, path, item, content) {

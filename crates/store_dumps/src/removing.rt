@@ -24,10 +24,7 @@ pub fn remove<D: Disk, N: Namer>(
     requires ready { parts.old.halted ≡ false }
     ensures { Runs parts.old (Remove session path.now) result parts.new }
 {
-    let at = match parts.sessions.dump_at(session) {
-        Some(at) => at,
-        None => return Err(Refusal::Broken(BrokenRule::NoSession)),
-    };
+    let at = parts.dump(session)?;
     let removed = match parts.sessions.dumps[at].tree.within(alloc, path) {
         Ok(removed) => removed,
         Err(_) => return Err(Refusal::Memory),

@@ -1,5 +1,5 @@
 -- Which backup's view is kept after a load, and that the tables that it reads aren't damaged.
-use Rattle.std.specs.Prelude.{◌≡◌, ◌==◌, ◌&&◌, ◌<◌, ℕ, zero, suc, ◌-◌, take, get_or, Bool, true, false, List, [], ◌∷◌, drop, length, Option, Some, None, Result, Ok, Err, OnOk, IfOk, slice_get, if◌then◌else◌}
+use Rattle.std.specs.Prelude.{◌≡◌, ◌==◌, ◌&&◌, ◌<◌, ℕ, zero, suc, ◌-◌, take, get_or, Bool, true, false, List, [], ◌∷◌, drop, length, Option, Some, None, Result, Ok, Err, OnOk, IfOk, IfErr, slice_get, if◌then◌else◌}
 use Rattle.std.specs.Cmp.{first_so, second_so}
 use Rattle.std.proofs.Common.{refl, sym, ap, ◌∙◌, subst, arith}
 use Rattle.std.proofs.lemmas.List.{take_rest}
@@ -16,9 +16,10 @@ use Rattle.backup_views.specs.declared.fault.ViewFault.{ViewFault}
 use Rattle.backup_views.specs.declared.fault.ViewFault.TheVariants as V
 use Rattle.backup_views.specs.declared.kept.KeptView.{KeptView}
 use Rattle.backup_views.specs.declared.kept.Views.{Views}
-use Rattle.backup_views.specs.Faults.{SaysOneDamaged}
-use Rattle.backup_views.specs.Kept.{Trees, IsKept, HasView, rows_of}
-use Rattle.backup_views.specs.Stored.{IsTableFile, AreTables, tree_from}
+use Rattle.backup_views.specs.FaultLaws.{first_damaged}
+use Rattle.backup_views.specs.Faults.{IsDamaged, SaysOneDamaged}
+use Rattle.backup_views.specs.Kept.{Trees, IsKept, HasView, AreRowsRead, rows_of}
+use Rattle.backup_views.specs.Stored.{IsTableFile, AreTables, TellsTree, tree_from, depth_of}
 use Rattle.backup_views.specs.StoredLaws.{table_at}
 use Rattle.pool_changes.specs.Listed.{index_of}
 use Rattle.ref_counts.specs.Stored.{Backup as StoredBackup, stored}
@@ -34,9 +35,14 @@ use Rattle.store_parts.specs.declared.parts.StoreParts.{StoreParts}
 use Rattle.store_parts.specs.Held.{IsViewOf, IsKeptView}
 use Rattle.store_parts.specs.States.{slots, IsRunning}
 use Rattle.store_parts.specs.Runs.{Reads}
-use Rattle.store_reads.specs.CatalogLaws.{IsLineFound, host_there, no_host, index_there, host_of_index, line_there, line_at_backup, no_backup, backup_there, backup_at_there, backup_of_at, backup_of_none, one_backup}
+use Rattle.office_known.specs.CatalogLaws.{named_host, no_named}
+use Rattle.store_reads.specs.CatalogLaws.{IsLineFound, index_there, host_of_index, line_there, line_at_backup, no_backup, backup_there, backup_at_there, backup_of_at, backup_of_none, one_backup}
 use Rattle.store_reads.specs.TreeLaws.{tables_from, tree_from_at, first_dropped}
-use Rattle.store_reads.specs.Shown.{refusal_of_view, ShowsBackup, IsLoaded, IsTreeAt, IsReadFault}
+use Rattle.store_parts.specs.Refusals.{refusal_of_view, IsReadFault}
+use Rattle.store_reads.specs.Shown.{ShowsBackup, IsLoaded, IsTreeAt}
+use Rattle.store_reads.specs.Told.{IsPlaced, ReadsTree, TellsBackup, IsTableFault, IsBackupFault}
+use Rattle.office_model.specs.declared.refusal.Refusal.{Refusal}
+use Rattle.office_model.specs.declared.refusal.Refusal.TheVariants.{Broken, Halted, DiskFault, Damaged, Memory}
 
 -- ---- the trees that are told of
 
@@ -72,6 +78,10 @@ on_ok (Err e) f p = tt
 pub if_ok : {A E : Type 0} {P Q : A → Type 0} (result : Result A E) → ((x : A) → P x → Q x) → IfOk result P → IfOk result Q
 if_ok (Ok x) f p = f x p
 if_ok (Err e) f p = tt
+
+pub if_err : {A E : Type 0} {P Q : E → Type 0} (result : Result A E) → ((e : E) → P e → Q e) → IfErr result P → IfErr result Q
+if_err (Ok x) f p = tt
+if_err (Err e) f p = f e p
 
 there : {A : Type 0} (xs : List A) (i : ℕ) → i < length xs → (x : A) × (slice_get xs i ≡ Some x)
 there [] i h = absurd (omega arith)
@@ -194,11 +204,12 @@ module _ {D N S : Type 0} {d : DiskGhosts D} {n : NamerGhosts N S} where
         })
 
     -- the tables that it reads aren't damaged
-    pub load_fault : (fault : ViewFault) → SaysOneDamaged (told old.journal) place lines fault → IsReadFault old (refusal_of_view fault)
+    pub load_fault : (fault : ViewFault) → SaysOneDamaged (told old.journal) place (take (depth_of lines) lines) fault
+        → IsReadFault old (refusal_of_view fault)
     load_fault V.Disk says = tt
     load_fault V.Memory says = tt
     load_fault (V.Damaged file found) says = λ office names at.
-        let said = says file found refl in
+        let said = first_damaged (told old.journal) place (depth_of lines) lines (V.Damaged file found) says file found refl in
         let h = host_of old office names at place index is_index in
         let tables : AreTables at.all place lines (drop line (stored h.shown)) =
         subst (λ (ls : List Line). AreTables at.all place ls (drop line (stored h.shown))) (sym (lines_are ∙ ap (drop line) h.lines))
@@ -253,7 +264,7 @@ module _ {D N S : Type 0} {d : DiskGhosts D} {n : NamerGhosts N S} where
         has asked (first_is asked
         (ap (λ (i : Index). slice_get i.lines line) (same_line (slice_get old.catalog.hosts place) is_index e) ∙ f))
 
-    pub read_fault : (fault : ViewFault) → SaysOneDamaged (told old.journal) place given_lines fault
+    pub read_fault : (fault : ViewFault) → SaysOneDamaged (told old.journal) place (take (depth_of given_lines) given_lines) fault
         → IsReadFault old (refusal_of_view fault)
     read_fault = load_fault old place line index given_lines is_index lines_are
 
@@ -262,6 +273,32 @@ module _ {D N S : Type 0} {d : DiskGhosts D} {n : NamerGhosts N S} where
         → tree ≡ tree_from given_lines tables)
         → IsTreeAt old place line tree
     read_tree_is = tree_is old place line index given_lines is_index lines_are
+
+    -- so they are in the catalog
+    in_catalog : (other : Index) → slice_get old.catalog.hosts place ≡ Some other → given_lines ≡ drop line other.lines
+    in_catalog other e =
+        lines_are ∙ ap (λ (i : Index). drop line i.lines) (same_line (slice_get old.catalog.hosts place) is_index e)
+
+    pub read_rows : (rows : Rows)
+        → ((all : Files) → told old.journal ≡ Some all → AreRowsRead old.views all place given_lines rows)
+        → (other : Index) (all : Files) → slice_get old.catalog.hosts place ≡ Some other → told old.journal ≡ Some all
+        → AreRowsRead old.views all place (drop line other.lines) rows
+    read_rows rows read other all e is =
+        subst (λ (ls : List Line). AreRowsRead old.views all place ls rows) (in_catalog other e) (read all is)
+
+    pub read_tells : (rows : Rows) → ((all : Files) → told old.journal ≡ Some all → TellsTree all place given_lines rows)
+        → (other : Index) (all : Files) → slice_get old.catalog.hosts place ≡ Some other → told old.journal ≡ Some all
+        → TellsTree all place (drop line other.lines) rows
+    read_tells rows tells other all e is =
+        subst (λ (ls : List Line). TellsTree all place ls rows) (in_catalog other e) (tells all is)
+
+    pub read_damaged : (fault : ViewFault) → SaysOneDamaged (told old.journal) place (take (depth_of given_lines) given_lines) fault
+        → IsTableFault old place line (refusal_of_view fault)
+    read_damaged V.Disk says = tt
+    read_damaged V.Memory says = tt
+    read_damaged (V.Damaged file found) says = λ other e.
+        subst (λ (ls : List Line). IsDamaged (told old.journal) place (take (depth_of ls) ls) file found) (in_catalog other e)
+        (says file found refl)
 
   -- ---- a load by name and number
 
@@ -273,21 +310,21 @@ module _ {D N S : Type 0} {d : DiskGhosts D} {n : NamerGhosts N S} where
         → HasView new.views place asked.number)
         → IsLoaded old name number (rows_of new.views.kept)
     loaded_backup reads has office names at =
-        let h = host_there old.catalog office.durable at.catalog_is name place is_place in
-        let b = backup_there old.catalog office.durable at.catalog_is place h.host h.there number line is_line in
-        let at_b = backup_at_there old.catalog office.durable at.catalog_is place h.host h.there number line is_line in
-        let index = index_there old.catalog office.durable at.catalog_is place h.host h.there in
+        let h = named_host office.durable old.catalog name place at.catalog_is is_place in
+        let b = backup_there old.catalog office.durable at.catalog_is place h.host h.is_host number line is_line in
+        let at_b = backup_at_there old.catalog office.durable at.catalog_is place h.host h.is_host number line is_line in
+        let index = index_there old.catalog office.durable at.catalog_is place h.host h.is_host in
         let kept = has (index_of_host place h.host) b.backup.line index (line_at_backup h.host.backups line b.backup b.there) in
         let view : IsViewOf kept.kept office.hosts at.backups =
         subst (λ (k : Option KeptView). IsKeptView k office.hosts at.backups) kept.is (reads.view office names at) in
         let stands = at.stands.hosts.each kept.kept.host view.host view.shown view.is_host view.is_shown in
         let is = stands.shown.each view.index view.backup view.stored view.is_backup view.is_stored in
         let hosts : view.host ≡ h.host =
-        same_line (slice_get office.hosts place) (ap (slice_get office.hosts) (sym kept.host_is) ∙ view.is_host) h.there in
+        same_line (slice_get office.hosts place) (ap (slice_get office.hosts) (sym kept.host_is) ∙ view.is_host) h.is_host in
         let there : slice_get h.host.backups view.index ≡ Some view.backup =
         ap (λ (h : Host). slice_get h.backups view.index) (sym hosts) ∙ view.is_backup in
         let places : view.index ≡ line =
-        same_backup old office names at place h.host h.there view.index line view.backup b.backup there b.there
+        same_backup old office names at place h.host h.is_host view.index line view.backup b.backup there b.there
         (view.number ∙ kept.number_is) in
         let backups : view.backup ≡ b.backup =
         same_line (slice_get h.host.backups line) (ap (slice_get h.host.backups) (sym places) ∙ there) b.there in
@@ -295,7 +332,7 @@ module _ {D N S : Type 0} {d : DiskGhosts D} {n : NamerGhosts N S} where
         subst (λ (rs : Rows). ShowsBackup (IsListed (index_of (slots old))) (contents_of at.all) office.hosts name number rs) (sym rows)
         (record {
           backup = b.backup;
-          is = backup_of_at office.hosts name place number h.host h.is ∙ ap (λ j. j >>= λ x. Ok x.value) at_b;
+          is = backup_of_at office.hosts name place number h.host h.judged ∙ ap (λ j. j >>= λ x. Ok x.value) at_b;
           tree = ap (λ (x : Backup). x.tree) (sym backups) ∙ is.tree;
           whole = is.whole;
           told = is.told;
@@ -307,12 +344,12 @@ module _ {D N S : Type 0} {d : DiskGhosts D} {n : NamerGhosts N S} where
       (is_line : IsLineFound old.catalog place number (Some line)) where
     pub loaded_tree : (tree : Rows) → IsTreeAt old place line tree → IsLoaded old name number tree
     loaded_tree tree is office names at =
-        let h = host_there old.catalog office.durable at.catalog_is name place is_place in
-        let b = backup_there old.catalog office.durable at.catalog_is place h.host h.there number line is_line in
-        let at_b = backup_at_there old.catalog office.durable at.catalog_is place h.host h.there number line is_line in
+        let h = named_host office.durable old.catalog name place at.catalog_is is_place in
+        let b = backup_there old.catalog office.durable at.catalog_is place h.host h.is_host number line is_line in
+        let at_b = backup_at_there old.catalog office.durable at.catalog_is place h.host h.is_host number line is_line in
         let shown =
         pair_at (StandsHost (IsListed (index_of (slots old))) (contents_of at.all) at.all) office.hosts at.backups
-        at.stands.hosts place h.host h.there in
+        at.stands.hosts place h.host h.is_host in
         let s =
         pair_at (λ i. IsShown (IsListed (index_of (slots old))) (contents_of at.all)) h.host.backups shown.0
         shown.2.shown line b.backup b.there in
@@ -320,11 +357,45 @@ module _ {D N S : Type 0} {d : DiskGhosts D} {n : NamerGhosts N S} where
         subst (λ (rs : Rows). ShowsBackup (IsListed (index_of (slots old))) (contents_of at.all) office.hosts name number rs) (sym rows)
         (record {
           backup = b.backup;
-          is = backup_of_at office.hosts name place number h.host h.is ∙ ap (λ j. j >>= λ x. Ok x.value) at_b;
+          is = backup_of_at office.hosts name place number h.host h.judged ∙ ap (λ j. j >>= λ x. Ok x.value) at_b;
           tree = s.2.tree;
           whole = s.2.whole;
           told = s.2.told;
         })
+
+  -- ---- whatever the files hold
+
+  module _ (old : StoreParts D N S d n) (name : List ℕ) (number place line : ℕ) (within : place < length old.catalog.hosts)
+      (is_place : Some place ≡ host_named (names_of old.catalog.hosts) name)
+      (is_line : IsLineFound old.catalog place number (Some line)) where
+    abbrev placed : IsPlaced old.catalog name number
+    placed = let w = there old.catalog.hosts place within in record {
+      place = place;
+      index = w.0;
+      line = line;
+      is_host = is_place;
+      is_index = w.1;
+      is_line = is_line w.0 w.1;
+    }
+
+    pub reads_tree : (rows : Rows)
+        → ((index : Index) (all : Files) → slice_get old.catalog.hosts place ≡ Some index → told old.journal ≡ Some all
+        → AreRowsRead old.views all place (drop line index.lines) rows)
+        → ReadsTree old name number rows
+    reads_tree rows read = record { placed = placed; read = λ all is. read placed.index all placed.is_index is }
+
+    pub tells_backup : (rows : Rows)
+        → ((index : Index) (all : Files) → slice_get old.catalog.hosts place ≡ Some index → told old.journal ≡ Some all
+        → TellsTree all place (drop line index.lines) rows)
+        → TellsBackup old name number rows
+    tells_backup rows tells = record { placed = placed; tells = λ all is. tells placed.index all placed.is_index is }
+
+    pub backup_fault : (refusal : Refusal) → IsTableFault old place line refusal → IsBackupFault old name number refusal
+    backup_fault (Damaged file found) fault = record { placed = placed; damaged = fault placed.index placed.is_index }
+    backup_fault (Broken rule) fault = tt
+    backup_fault Halted fault = tt
+    backup_fault DiskFault fault = tt
+    backup_fault Memory fault = tt
 
   -- ---- refused by name or number
 
@@ -332,11 +403,11 @@ module _ {D N S : Type 0} {d : DiskGhosts D} {n : NamerGhosts N S} where
     pub refused_host : None ≡ host_named (names_of old.catalog.hosts) name → (office : Office) (names : Names) → IsRunning old office names
         → backup_of office.hosts name number ≡ Err NoHost
     refused_host e office names at =
-        backup_of_none office.hosts name number NoHost (no_host old.catalog office.durable at.catalog_is name e)
+        backup_of_none office.hosts name number NoHost (no_named office.durable old.catalog name at.catalog_is e)
 
     pub refused_number : (place : ℕ) → Some place ≡ host_named (names_of old.catalog.hosts) name → IsLineFound old.catalog place number None
         → (office : Office) (names : Names) → IsRunning old office names → backup_of office.hosts name number ≡ Err NoBackup
     refused_number place e found office names at =
-        let h = host_there old.catalog office.durable at.catalog_is name place e in
-        backup_of_at office.hosts name place number h.host h.is
-        ∙ ap (λ j. j >>= λ x. Ok x.value) (no_backup old.catalog office.durable at.catalog_is place h.host h.there number found)
+        let h = named_host office.durable old.catalog name place at.catalog_is e in
+        backup_of_at office.hosts name place number h.host h.judged
+        ∙ ap (λ j. j >>= λ x. Ok x.value) (no_backup old.catalog office.durable at.catalog_is place h.host h.is_host number found)

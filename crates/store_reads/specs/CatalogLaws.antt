@@ -1,35 +1,26 @@
 -- Look-ups in a catalog are those of the office that it is of.
---     host_there, no_host      the host of a name
---     index_there      the index at a host's place
+--     index_there, host_of_index      the index at a host's place, and the host of an index
 --     backup_there, no_backup      the backup of a number
 --     backup_of_there      the backup of a name and a number
 --     one_backup      numbers of backups differ
-use Rattle.std.specs.Prelude.{◌≡◌, ◌⊎◌, ◌==◌, ℕ, zero, suc, ◌+◌, ◌<◌, List, [], ◌∷◌, cond, Option, Some, None, Ok, Err, slice_get, bytes_eq}
+use Rattle.std.specs.Prelude.{◌≡◌, ◌⊎◌, ◌==◌, ℕ, zero, suc, ◌+◌, ◌<◌, List, [], ◌∷◌, cond, Option, Some, None, Ok, Err, slice_get}
 use Rattle.std.specs.List.{position_from}
 use Rattle.std.proofs.Common.{refl, sym, ap, ◌∙◌, inl, inr, arith}
 use Rattle.std.proofs.lemmas.Bool.Decides.{Decides-eqb}
 use Rattle.backup_rules.specs.declared.lines.Line.{Line}
 use Rattle.backup_index.specs.Index.{Index}
-use Rattle.office_catalog.specs.Known.{Known, host_named, line_numbered}
-use Rattle.office_catalog.specs.Known as K
+use Rattle.office_catalog.specs.Known.{Known, line_numbered}
 use Rattle.office_files.specs.Hosts.{index_of_host}
-use Rattle.office_known.specs.KnownLaws.{indices_from, known_of_office, index_at}
+use Rattle.office_known.specs.CatalogLaws.{index_there as known_there}
+use Rattle.office_known.specs.KnownLaws.{known_of_office, index_at}
 use Rattle.office_model.specs.declared.refusal.BrokenRule.{BrokenRule}
-use Rattle.office_model.specs.declared.refusal.BrokenRule.TheVariants.{NoHost, NoBackup}
-use Rattle.office_model.specs.Office.{Durable, Host, Backup, AreNumbered, host_index, backup_index}
+use Rattle.office_model.specs.declared.refusal.BrokenRule.TheVariants.{NoBackup}
+use Rattle.office_model.specs.Office.{Durable, Host, Backup, AreNumbered, backup_index}
 use Rattle.office_model.specs.Meaning.{Judged, ◌>>=◌, found}
 use Rattle.office_model.specs.Parts.{At, at, host_at, backup_at, backup_of, lines_of}
 use Rattle.office_model.specs.Places.{position-found}
-use Rattle.office_model.specs.laws.Lookups.{host_index-found}
 
 -- ---- places
-
-host_place : (from number : ℕ) (hosts : List Host) (name : List ℕ)
-    → position_from (λ other. bytes_eq other name) from (K.names_of (indices_from number hosts))
-    ≡ position_from (λ host. bytes_eq host.name name) from hosts
-host_place from number [] name = refl
-host_place from number (host ∷ hosts) name =
-    ap (λ (rest : Option ℕ). cond (bytes_eq host.name name) (Some from) rest) (host_place (from + 1) (suc number) hosts name)
 
 line_place : (from : ℕ) (backups : List Backup) (number : ℕ)
     → position_from (λ line. line.number == number) from (lines_of backups)
@@ -52,18 +43,6 @@ line_at_backup (first ∷ backups) zero backup e =
     let same : first ≡ backup = cc in ap (λ (b : Backup). Some b.line) same
 line_at_backup (first ∷ backups) (suc i) backup e = line_at_backup backups i backup e
 
--- the index at the place of a host
-index_of_place : (number : ℕ) (hosts : List Host) (i : ℕ) (host : Host) → slice_get hosts i ≡ Some host
-    → slice_get (indices_from number hosts) i ≡ Some (index_of_host (number + i) host)
-index_of_place number [] i host e = absurd cc
-index_of_place number (first ∷ hosts) zero host e =
-    let same : first ≡ host = cc in
-    let n : number ≡ number + 0 = omega arith in
-    ap (λ (h : Host). Some (index_of_host number h)) same ∙ ap (λ (n : ℕ). Some (index_of_host n host)) n
-index_of_place number (first ∷ hosts) (suc i) host e =
-    let n : suc number + i ≡ number + suc i = omega arith in
-    index_of_place (suc number) hosts i host e ∙ ap (λ (n : ℕ). Some (index_of_host n host)) n
-
 -- ---- an element at a place
 
 at_some : {A : Type 0} (rule : BrokenRule) (xs : List A) (place : Option ℕ) (i : ℕ) (x : A) → place ≡ Some i → slice_get xs i ≡ Some x
@@ -76,36 +55,15 @@ at_none rule xs place e = ap (at rule xs) e
 
 -- ---- hosts
 
--- a host of this name stands at this place
-pub record IsHostAt (hosts : List Host) (name : List ℕ) (place : ℕ) : Type 0 where
-  pub host : Host
-  pub there : slice_get hosts place ≡ Some host
-  pub is : host_at hosts name ≡ Ok (record { index = place; value = host })
-
 -- what is found among the lines of the host at this place
 abbrev pub IsLineFound : Known → ℕ → ℕ → Option ℕ → Type 0
 IsLineFound known place number line =
     (index : Index) → slice_get known.hosts place ≡ Some index → line ≡ line_numbered index.lines number
 
 module _ (known : Known) (office : Durable) (known_is : known ≡ known_of_office office) where
-  host_found : (name : List ℕ) → host_named (K.names_of known.hosts) name ≡ host_index office.hosts name
-  host_found name = ap (λ (k : Known). host_named (K.names_of k.hosts) name) known_is ∙ host_place 0 0 office.hosts name
-
-  pub host_there : (name : List ℕ) (place : ℕ) → Some place ≡ host_named (K.names_of known.hosts) name → IsHostAt office.hosts name place
-  host_there name place e =
-      let is : host_index office.hosts name ≡ Some place = sym (host_found name) ∙ sym e in
-      let w = host_index-found office.hosts name place is in
-      record { host = w.0; there = w.1; is = at_some NoHost office.hosts (host_index office.hosts name) place w.0 is w.1 }
-
-  pub no_host : (name : List ℕ) → None ≡ host_named (K.names_of known.hosts) name → host_at office.hosts name ≡ Err NoHost
-  no_host name e = at_none NoHost office.hosts (host_index office.hosts name) (sym (host_found name) ∙ sym e)
-
   pub index_there : (place : ℕ) (host : Host) → slice_get office.hosts place ≡ Some host
       → slice_get known.hosts place ≡ Some (index_of_host place host)
-  index_there place host e =
-      let n : 0 + place ≡ place = omega arith in
-      ap (λ (k : Known). slice_get k.hosts place) known_is ∙ index_of_place 0 office.hosts place host e
-      ∙ ap (λ (n : ℕ). Some (index_of_host n host)) n
+  index_there place host e = ap (λ (k : Known). slice_get k.hosts place) known_is ∙ known_there office.hosts place host e
 
   pub host_of_index : (place : ℕ) (index : Index) → slice_get known.hosts place ≡ Some index
       → (host : Host) × (slice_get office.hosts place ≡ Some host) × (index ≡ index_of_host place host)

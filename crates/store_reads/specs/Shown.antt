@@ -8,7 +8,6 @@
 --     Answers judged reply      what was judged, or want of memory
 use Rattle.std.specs.Prelude.{⊤, ◌≡◌, ℕ, List, [], ◌∷◌, Option, Some, None, Result, Ok, Err, option_map, slice_get}
 use Rattle.disk_trait.specs.declared.ids.PoolId.{PoolId}
-use Rattle.disk_trait.specs.declared.ids.FileId.TheVariants.{Pool as PoolFile}
 use Rattle.disk_trait.specs.declared.disk.Disk.{Ghosts as DiskGhosts}
 use Rattle.pool_name.specs.declared.namer.Namer.{Ghosts as NamerGhosts}
 use Rattle.attr_records.specs.Trees.{node_at}
@@ -17,18 +16,14 @@ use Rattle.attr_tables.specs.declared.records.Record.TheVariants.{File, Dir, Lin
 use Rattle.journal_view.specs.View.{Quiet}
 use Rattle.merge_view.specs.Runs.{children}
 use Rattle.merge_view.specs.Views.{Rows, IsWhole}
-use Rattle.backup_views.specs.declared.fault.ViewFault.{ViewFault}
-use Rattle.backup_views.specs.declared.fault.ViewFault.TheVariants as V
 use Rattle.pool_changes.specs.Listed.{index_of}
-use Rattle.pool_store.specs.declared.fault.PoolFault.{PoolFault}
-use Rattle.pool_store.specs.declared.fault.PoolFault.TheVariants as P
 use Rattle.ref_counts.specs.Stored.{Backup as StoredBackup}
 use Rattle.stored_trees.specs.Resolved.{resolved, AreTold}
 use Rattle.office_model.specs.declared.answer.NamedNode.{NamedNode}
 use Rattle.tree_frames.specs.declared.nodes.Node.{Node}
 use Rattle.tree_frames.specs.declared.nodes.Node.TheVariants as N
 use Rattle.office_model.specs.declared.refusal.BrokenRule.{BrokenRule}
-use Rattle.office_model.specs.declared.refusal.BrokenRule.TheVariants.{NoPath, NotAFile, NotADirectory, ChainFull}
+use Rattle.office_model.specs.declared.refusal.BrokenRule.TheVariants.{NoPath, NotAFile, NotADirectory}
 use Rattle.office_model.specs.declared.refusal.Refusal.{Refusal}
 use Rattle.office_model.specs.declared.refusal.Refusal.TheVariants as R
 use Rattle.office_model.specs.Office.{Office, Host, Backup, Names}
@@ -98,20 +93,6 @@ Answers judged (Err (R.Broken rule)) = judged ≡ Err rule
 Answers judged (Err R.Memory) = ⊤
 Answers judged (Err refusal) = ⊥
 
--- ---- faults
-
-abbrev pub refusal_of_view : ViewFault → Refusal
-refusal_of_view V.Disk = R.DiskFault
-refusal_of_view V.Memory = R.Memory
-refusal_of_view (V.Damaged file found) = R.Damaged file found
-
-abbrev pub refusal_of_pool : PoolFault → Refusal
-refusal_of_pool (P.Foreign file found) = R.Damaged file found
-refusal_of_pool P.Disk = R.DiskFault
-refusal_of_pool P.Memory = R.Memory
-refusal_of_pool (P.Damaged id found) = R.Damaged (PoolFile id) found
-refusal_of_pool P.ChainFull = R.Broken ChainFull
-
 -- ---- backups
 
 -- the tree of the backup of this name and number is that of these whole rows, which name given ids
@@ -141,6 +122,11 @@ module _ {D N S : Type 0} {d : DiskGhosts D} {n : NamerGhosts N S} where
       (office : Office) (names : Names) (at : IsRunning parts office names) (shown : List StoredBackup) (stored : StoredBackup)
       → slice_get at.backups host ≡ Some shown → slice_get shown line ≡ Some stored → tree ≡ stored.rows
 
+  -- the rule that there is no such host or backup
+  abbrev pub IsNoBackup : StoreParts D N S d n → List ℕ → ℕ → BrokenRule → Type 0
+  IsNoBackup parts name number rule =
+      (office : Office) (names : Names) → IsRunning parts office names → backup_of office.hosts name number ≡ Err rule
+
   -- a rule that is broken there, want of memory or a fault of the disk; a damaged file can't be there
   abbrev pub IsRefusal : {A : Type 0} → StoreParts D N S d n → (Office → Judged A) → Refusal → Type 0
   IsRefusal parts judged (R.Broken rule) = (office : Office) (names : Names) → IsRunning parts office names → judged office ≡ Err rule
@@ -149,14 +135,7 @@ module _ {D N S : Type 0} {d : DiskGhosts D} {n : NamerGhosts N S} where
   IsRefusal parts judged R.Memory = ⊤
   IsRefusal parts judged R.Halted = ⊥
 
-  -- the same if no rule can be broken
-  abbrev pub IsReadFault : StoreParts D N S d n → Refusal → Type 0
-  IsReadFault parts (R.Damaged file found) = (office : Office) (names : Names) → IsRunning parts office names → ⊥
-  IsReadFault parts R.DiskFault = ⊤
-  IsReadFault parts R.Memory = ⊤
-  IsReadFault parts refusal = ⊥
-
-  -- the same of a content, whose file can't be damaged there if its id is live or staged
+  -- the same of a content, whose file can't be damaged there if its id is live or staged, and no rule can be broken
   abbrev pub IsContentFault : StoreParts D N S d n → Option PoolId → Refusal → Type 0
   IsContentFault parts content (R.Damaged file found) =
       (office : Office) (names : Names) → IsRunning parts office names → IsGivenContent (given (slots parts)) content → ⊥

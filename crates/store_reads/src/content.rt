@@ -1,39 +1,23 @@
 //! The bytes of a content of the pool, whole or piece by piece.
 
-ghost use Rattle.std.specs.Prelude.{◌≡◌, Some, false, IfOk, IfErr, Err, length, take, drop};
+ghost use Rattle.std.specs.Prelude.{◌≡◌, Some, false, IfOk, IfErr, Err, length};
 ghost use Rattle.fault_counts.specs.Counts.{Counted};
-ghost use Rattle.disk_trait.specs.Files.{Files};
+ghost use Rattle.disk_trait.specs.declared.ids.FileId.TheVariants.{Pool as PoolFile};
+ghost use Rattle.disk_trait.specs.Files.{Files, piece as piece_in};
 ghost use Rattle.journal_view.specs.View.{told};
-ghost use Rattle.stored_trees.specs.Resolved.{bytes_of};
-ghost use Rattle.office_files.specs.Pooled.{contents_of};
-ghost use Rattle.store_reads.specs.Shown.{refusal_of_pool, IsContentFault, Looks};
+ghost use Rattle.store_reads.specs.Shown.{IsContentFault, Looks};
 ghost use Rattle.store_reads.specs.Pieces.{refusal_of_journal, IsPieceFault};
+ghost use Rattle.store_reads.specs.Told.{IsContentOf};
 
 use disk_trait::{Bytes, Disk, FileId, PoolId};
 use intent_journal::JournalFault;
-use office_model::{BrokenRule, Refusal};
+use office_model::Refusal;
 use pool_name::Namer;
-use pool_store::PoolFault;
 use std::alloc::Global;
-use store_parts::StoreParts;
+use store_parts::{StoreParts, refusal_of_pool};
 
-/// What a fault of a content's file is to a caller of the store.
-fn refusal_of(fault: PoolFault) -> Refusal
-    ensures { result ≡ refusal_of_pool fault }
-{
-    match fault {
-        PoolFault::Foreign { file, found } => Refusal::Damaged { file, found },
-        PoolFault::Disk => Refusal::DiskFault,
-        PoolFault::Memory => Refusal::Memory,
-        PoolFault::Damaged { id, found } => Refusal::Damaged {
-            file: FileId::Pool(id),
-            found,
-        },
-        PoolFault::ChainFull => Refusal::Broken(BrokenRule::ChainFull),
-    }
-}
-
-/// The bytes of a content, none if there is no id: then nothing is read.
+/// The bytes of a content, none if there is no id: then nothing is read. If its file is absent, or has bytes of another digest
+/// than its name says, that is `Damaged`, with what was found.
 pub fn read_content<D: Disk, N: Namer>(
     parts: &mut StoreParts<D, N>,
     alloc: Global,
@@ -41,7 +25,7 @@ pub fn read_content<D: Disk, N: Namer>(
 ) -> Result<Bytes, Refusal>
     requires ready { parts.old.journal.halted ≡ false }
     ensures looks { Looks parts.old parts.new }
-    ensures bytes { IfOk result (λ bytes. (all : Files) → told parts.old.journal ≡ Some all → bytes ≡ bytes_of (contents_of all) content) }
+    ensures content { IsContentOf N.digest_of (told parts.old.journal) content result }
     ensures fault { IfErr result (IsContentFault parts.old content) }
     ensures counted { Counted (D.fault_count parts.old.journal.disk) (D.fault_count parts.new.journal.disk)
         (result ≡ Err Refusal.DiskFault) }
@@ -52,7 +36,7 @@ pub fn read_content<D: Disk, N: Namer>(
     };
     match parts.pool.read(alloc, &mut parts.journal, id) {
         Ok(bytes) => Ok(bytes),
-        Err(fault) => Err(refusal_of(fault)),
+        Err(fault) => Err(refusal_of_pool(fault)),
     }
 }
 
@@ -77,9 +61,9 @@ pub fn read_piece<D: Disk, N: Namer>(
 ) -> Result<Bytes, Refusal>
     requires ready { parts.old.journal.halted ≡ false }
     ensures looks { Looks parts.old parts.new }
-    ensures piece { IfOk result (λ piece. (all : Files) → told parts.old.journal ≡ Some all
-        → piece ≡ take room (drop offset (contents_of all content))) }
-    ensures whole { IfOk result (λ piece. length piece ≡ room) }
+    ensures piece { IfOk result (λ found. (all : Files) → told parts.old.journal ≡ Some all
+        → piece_in (all (PoolFile content)) offset room ≡ Some found) }
+    ensures whole { IfOk result (λ found. length found ≡ room) }
     ensures fault { IfErr result (IsPieceFault parts.old content offset room) }
     ensures counted { Counted (D.fault_count parts.old.journal.disk) (D.fault_count parts.new.journal.disk)
         (result ≡ Err Refusal.DiskFault) }

@@ -2,9 +2,9 @@
 //! knows the catalog, the tables of backups and the contents of the pool, and changes no file.
 //!
 //! Its main clause: each event is answered as the model says (`Runs` of `store_parts`), whether the tables of backups are
-//! whole trees or only say what differs from the next newer one. Two law files stand for other events, too:
-//! `specs/CatalogLaws` says that the catalog finds the host and the backup that the model finds, and `specs/TreeLaws`
-//! that the tables of a host's backups show their trees.
+//! whole trees or only say what differs from the next newer one. Beside it stands what holds of any disk that tells its files,
+//! damaged ones too (`specs/Told`): an answer is of the tree that the backup's tables tell, each of which is there and in its
+//! grammar, or of its view that was kept; a content has the digest of its name; and `Damaged` names what isn't so.
 //!
 //! A call at a store at work: `let answer = read_file(&mut parts, alloc, &host, 5, &path)?;`
 //!
@@ -21,6 +21,7 @@ mod list_event;
 mod load;
 mod lookup_event;
 mod nodes;
+mod place;
 mod read_file_event;
 mod tree;
 

@@ -8,6 +8,7 @@ ghost use Rattle.merge_view.specs.Runs.{is_child};
 ghost use Rattle.office_model.specs.declared.event.Event.TheVariants.{List};
 ghost use Rattle.store_parts.specs.Runs.{Runs};
 ghost use Rattle.store_reads.specs.Shown.{directory_told, list_told, entry_told, entries_told, pushed};
+ghost use Rattle.store_reads.specs.Told.{ReadsTree, HasDamagedTable, IsReadReply, ListsRows};
 
 use crate::load::load_backup;
 use crate::nodes::node_of;
@@ -127,8 +128,8 @@ fn entries_of(
 }
 
 /// What lies directly in a directory of a backup, or in its root, by rising names. It changes nothing but which view is
-/// kept, whether it answers or refuses: a host, a backup or a path that isn't there, a path of no directory, a fault of
-/// the disk or want of memory.
+/// kept, whether it answers or refuses: a host, a backup or a path that isn't there, a path of no directory, a table that
+/// is damaged, a fault of the disk or want of memory.
 pub fn list<D: Disk, N: Namer>(
     parts: &mut StoreParts<D, N>,
     alloc: Global,
@@ -138,7 +139,9 @@ pub fn list<D: Disk, N: Namer>(
 ) -> Result<Answer, Refusal>
     requires ready { parts.old.halted ≡ false }
     requires journal_ready { parts.old.journal.halted ≡ false }
-    ensures { Runs parts.old (List host.now number (option_copied directory.entry)) result parts.new }
+    ensures runs { Runs parts.old (List host.now number (option_copied directory.entry)) result parts.new }
+    ensures read { IsReadReply (ReadsTree parts.old host.now number) (HasDamagedTable parts.old host.now number)
+        (ListsRows (option_copied directory.entry)) result }
 {
     match load_backup(parts, alloc, host, number) {
         Ok(()) => {}

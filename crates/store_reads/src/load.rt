@@ -1,32 +1,25 @@
 //! The view of a backup is made the one that is kept.
 
-ghost use Rattle.std.specs.Prelude.{◌≡◌, ◌<◌, Some, false, length, OnOk, IfErr, Err, slice_get};
+ghost use Rattle.std.specs.Prelude.{◌≡◌, ◌<◌, Some, false, length, drop, OnOk, IfErr, Err, slice_get};
 ghost use Rattle.fault_counts.specs.Counts.{Counted};
+ghost use Rattle.disk_trait.specs.Files.{Files};
 ghost use Rattle.backup_rules.specs.declared.lines.Line.{Line as LineValue};
 ghost use Rattle.backup_index.specs.Index.{Index};
-ghost use Rattle.backup_views.specs.Kept.{HasView, rows_of};
+ghost use Rattle.backup_views.specs.Kept.{HasView, AreRowsRead, rows_of};
+ghost use Rattle.journal_view.specs.View.{told};
 ghost use Rattle.office_model.specs.Parts.{backup_of};
+ghost use Rattle.store_parts.specs.Refusals.{IsReadFault};
 ghost use Rattle.store_parts.specs.Runs.{Reads};
-ghost use Rattle.store_reads.specs.Shown.{refusal_of_view, IsLoaded, IsRefusal, IsReadFault};
+ghost use Rattle.store_reads.specs.Shown.{IsLoaded, IsRefusal};
+ghost use Rattle.store_reads.specs.Told.{ReadsTree, IsTableFault, IsBackupFault};
 
+use crate::place::find_backup;
 use attr_records::HostName;
-use backup_views::ViewFault;
 use disk_trait::Disk;
-use office_model::{BrokenRule, Refusal};
+use office_model::Refusal;
 use pool_name::Namer;
 use std::alloc::Global;
-use store_parts::StoreParts;
-
-/// What a fault of a view's tables is to a caller of the store.
-pub(crate) fn refusal_of(fault: ViewFault) -> Refusal
-    ensures { result ≡ refusal_of_view fault }
-{
-    match fault {
-        ViewFault::Disk => Refusal::DiskFault,
-        ViewFault::Memory => Refusal::Memory,
-        ViewFault::Damaged { file, found } => Refusal::Damaged { file, found },
-    }
-}
+use store_parts::{StoreParts, refusal_of_view};
 
 /// Makes the view of the backup at this line of this host the one that is kept. A refusal keeps the view from before.
 fn load<D: Disk, N: Namer>(
@@ -41,6 +34,10 @@ fn load<D: Disk, N: Namer>(
     ensures reads { Reads parts.old parts.new }
     ensures has { OnOk result ((index : Index) (asked : LineValue) → slice_get parts.old.catalog.hosts host ≡ Some index
         → slice_get index.lines line ≡ Some asked → HasView parts.new.views host asked.number) }
+    ensures read { OnOk result ((index : Index) (all : Files) → slice_get parts.old.catalog.hosts host ≡ Some index
+        → told parts.old.journal ≡ Some all
+        → AreRowsRead parts.old.views all host (drop line index.lines) (rows_of parts.new.views.kept)) }
+    ensures damaged { IfErr result (IsTableFault parts.old host line) }
     ensures fault { IfErr result (IsReadFault parts.old) }
     ensures counted { Counted (D.fault_count parts.old.journal.disk) (D.fault_count parts.new.journal.disk)
         (result ≡ Err Refusal.DiskFault) }
@@ -51,7 +48,7 @@ fn load<D: Disk, N: Namer>(
         .load(alloc, &mut parts.journal, host as u32, &lines[line..])
     {
         Ok(()) => Ok(()),
-        Err(fault) => Err(refusal_of(fault)),
+        Err(fault) => Err(refusal_of_view(fault)),
     }
 }
 
@@ -66,17 +63,14 @@ pub(crate) fn load_backup<D: Disk, N: Namer>(
     requires ready { parts.old.journal.halted ≡ false }
     ensures reads { Reads parts.old parts.new }
     ensures loaded { OnOk result (IsLoaded parts.old name.now number (rows_of parts.new.views.kept)) }
+    ensures read { OnOk result (ReadsTree parts.old name.now number (rows_of parts.new.views.kept)) }
+    ensures damaged { IfErr result (IsBackupFault parts.old name.now number) }
     ensures refusal { IfErr result (IsRefusal parts.old (λ office. backup_of office.hosts name.now number)) }
     ensures counted { Counted (D.fault_count parts.old.journal.disk) (D.fault_count parts.new.journal.disk)
         (result ≡ Err Refusal.DiskFault) }
 {
-    let host = match parts.catalog.host_at(name) {
-        Some(host) => host,
-        None => return Err(Refusal::Broken(BrokenRule::NoHost)),
-    };
-    let line = match parts.catalog.line_at(host, number) {
-        Some(line) => line,
-        None => return Err(Refusal::Broken(BrokenRule::NoBackup)),
-    };
-    load(parts, alloc, host, line)
+    match find_backup(parts, name, number) {
+        Ok((host, line)) => load(parts, alloc, host, line),
+        Err(rule) => Err(Refusal::Broken(rule)),
+    }
 }

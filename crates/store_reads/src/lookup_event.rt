@@ -5,6 +5,7 @@ ghost use Rattle.std.specs.Option.{option_copied};
 ghost use Rattle.office_model.specs.declared.event.Event.TheVariants.{Lookup};
 ghost use Rattle.store_parts.specs.Runs.{Runs};
 ghost use Rattle.store_reads.specs.Shown.{node_told, Answers};
+ghost use Rattle.store_reads.specs.Told.{ReadsTree, HasDamagedTable, IsReadReply, SaysNode};
 
 use crate::load::load_backup;
 use crate::nodes::node_of;
@@ -32,7 +33,8 @@ fn node_at(alloc: Global, found: Option<&Record>) -> Result<Node, Refusal>
 }
 
 /// What is at a path of a backup, without the bytes of a file. It changes nothing but which view is kept, whether it
-/// answers or refuses: a host, a backup or a path that isn't there, a fault of the disk or want of memory.
+/// answers or refuses: a host, a backup or a path that isn't there, a table that is damaged, a fault of the disk or want
+/// of memory.
 pub fn lookup<D: Disk, N: Namer>(
     parts: &mut StoreParts<D, N>,
     alloc: Global,
@@ -42,7 +44,9 @@ pub fn lookup<D: Disk, N: Namer>(
 ) -> Result<Answer, Refusal>
     requires ready { parts.old.halted ≡ false }
     requires journal_ready { parts.old.journal.halted ≡ false }
-    ensures { Runs parts.old (Lookup host.now number path.now) result parts.new }
+    ensures runs { Runs parts.old (Lookup host.now number path.now) result parts.new }
+    ensures read { IsReadReply (ReadsTree parts.old host.now number) (HasDamagedTable parts.old host.now number)
+        (SaysNode path.now) result }
 {
     match load_backup(parts, alloc, host, number) {
         Ok(()) => {}

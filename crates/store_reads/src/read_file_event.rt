@@ -2,9 +2,11 @@
 
 ghost use Rattle.std.specs.Prelude.{◌≡◌, false};
 ghost use Rattle.std.specs.Option.{option_copied};
+ghost use Rattle.journal_view.specs.View.{told};
 ghost use Rattle.office_model.specs.declared.event.Event.TheVariants.{ReadFile};
 ghost use Rattle.store_parts.specs.Runs.{Runs};
 ghost use Rattle.store_reads.specs.Shown.{content_told};
+ghost use Rattle.store_reads.specs.Told.{ReadsTree, HasDamagedTable, IsReadReply, GivesFile};
 
 use crate::content::read_content;
 use crate::load::load_backup;
@@ -28,7 +30,8 @@ fn content_of(found: Option<&Record>) -> Result<Option<PoolId>, BrokenRule>
 }
 
 /// The bytes of the file at a path of a backup. It changes nothing but which view is kept, whether it answers or refuses:
-/// a host, a backup or a path that isn't there, a path of no file, a fault of the disk or want of memory.
+/// a host, a backup or a path that isn't there, a path of no file, a table or a content that is damaged, a fault of the disk
+/// or want of memory.
 pub fn read_file<D: Disk, N: Namer>(
     parts: &mut StoreParts<D, N>,
     alloc: Global,
@@ -38,7 +41,9 @@ pub fn read_file<D: Disk, N: Namer>(
 ) -> Result<Answer, Refusal>
     requires ready { parts.old.halted ≡ false }
     requires journal_ready { parts.old.journal.halted ≡ false }
-    ensures { Runs parts.old (ReadFile host.now number path.now) result parts.new }
+    ensures runs { Runs parts.old (ReadFile host.now number path.now) result parts.new }
+    ensures read { IsReadReply (ReadsTree parts.old host.now number) (HasDamagedTable parts.old host.now number)
+        (GivesFile N.digest_of (told parts.old.journal) path.now) result }
 {
     match load_backup(parts, alloc, host, number) {
         Ok(()) => {}

@@ -1,5 +1,5 @@
 -- What a close leaves.
-use Rattle.std.specs.Prelude.{◌≡◌, ◌≤◌, ℕ, Some, None, Ok, Err, slice_get}
+use Rattle.std.specs.Prelude.{◌≡◌, ◌≤◌, ℕ, Some, Ok, Err, slice_get}
 use Rattle.std.specs.List.{remove}
 use Rattle.std.proofs.Common.{refl, subst, arith}
 use Rattle.disk_trait.specs.declared.ids.PoolId.{PoolId}
@@ -19,6 +19,7 @@ use Rattle.office_model.specs.declared.answer.Answer.TheVariants.{Done}
 use Rattle.office_model.specs.declared.event.Event.TheVariants.{CloseRead}
 use Rattle.office_model.specs.declared.refusal.BrokenRule.TheVariants.{NoSession}
 use Rattle.office_model.specs.Office.{Office, Names, with_restores}
+use Rattle.office_model.specs.Parts.{restore_at}
 use Rattle.office_model.specs.laws.StateLaws.{AreSound-carried}
 use Rattle.office_model.specs.events.CloseRead as CloseReadEvent
 use Rattle.office_files.specs.Pooled.{contents_of}
@@ -28,14 +29,15 @@ use Rattle.store_parts.specs.States.{slots, IsRunning}
 use Rattle.store_parts.specs.Runs.{Runs}
 use Rattle.store_dumps.specs.Claims.{LetsGo}
 use Rattle.store_restores.specs.Finding.{place_of}
-use Rattle.store_restores.proofs.Found.{no_restore, restore_found}
+use Rattle.store_restores.proofs.Found.{restore_found}
 use Rattle.store_restores.proofs.Running.{count_of, near_lost, running_stays, runs_ok}
 
-module _ {D N S : Type 0} {d : DiskGhosts D} {n : NamerGhosts N S} (old : StoreParts D N S d n) (session : SessionName) where
-  pub close_refused : None ≡ place_of old.sessions.restores.items session
-      → (office : Office) (names : Names) → IsRunning old office names → CloseReadEvent.carried session office ≡ Err NoSession
-  close_refused e office names at = rw (no_restore old session e office names at) refl
+-- there is no such restore
+pub no_restore_close : (session : SessionName) (office : Office) (names : Names) → restore_at office.restores session ≡ Err NoSession
+    → CloseReadEvent.carried session office ≡ Err NoSession
+no_restore_close session office names e = rw e refl
 
+module _ {D N S : Type 0} {d : DiskGhosts D} {n : NamerGhosts N S} (old : StoreParts D N S d n) (session : SessionName) where
   module _ (new : StoreParts D N S d n) (index : ℕ) (restore : OpenRestore S)
       (e : Some index ≡ place_of old.sessions.restores.items session) (there : slice_get old.sessions.restores.items index ≡ Some restore)
       (quiet : Quiet old.journal new.journal) (catalog : new.catalog ≡ old.catalog) (counts : new.counts ≡ old.counts)

@@ -1,6 +1,6 @@
 -- The model finds the restore that memory finds.
-use Rattle.std.specs.Prelude.{◌≡◌, ℕ, Option, Some, None, Ok, Err, slice_get}
-use Rattle.std.proofs.Common.{refl, sym, ◌∙◌}
+use Rattle.std.specs.Prelude.{◌≡◌, ℕ, Option, Some, Ok, slice_get}
+use Rattle.std.proofs.Common.{sym, ◌∙◌}
 use Rattle.disk_trait.specs.declared.disk.Disk.{Ghosts as DiskGhosts}
 use Rattle.pool_name.specs.declared.namer.Namer.{Ghosts as NamerGhosts}
 use Rattle.open_sessions.specs.declared.sessions.OpenRestore.{OpenRestore}
@@ -24,10 +24,6 @@ module _ {D N S : Type 0} {d : DiskGhosts D} {n : NamerGhosts N S} (old : StoreP
   place_is place e office names at =
       restore_index-sessions (given (slots old)) (contents_of at.all) n.holds office.restores old.sessions.restores.items
       at.sessions.restores session ∙ sym e
-
-  pub no_restore : None ≡ place_of old.sessions.restores.items session
-      → (office : Office) (names : Names) → IsRunning old office names → restore_at office.restores session ≡ Err NoSession
-  no_restore e office names at = rw (place_is None e office names at) refl
 
   -- the restore of the model that an open one is
   pub record IsFound (index : ℕ) (restore : OpenRestore S) (office : Office) (names : Names) (at : IsRunning old office names) : Type 0 where

@@ -1,5 +1,5 @@
 -- What a frame that is given leaves.
-use Rattle.std.specs.Prelude.{◌≡◌, ◌<◌, ◌≤◌, ℕ, zero, suc, List, [], ◌∷◌, Some, None, Ok, Err, length, take, drop, slice_get, slice_set}
+use Rattle.std.specs.Prelude.{◌≡◌, ◌<◌, ◌≤◌, ℕ, zero, suc, List, [], ◌∷◌, Option, Some, None, Ok, Err, length, take, drop, slice_get, slice_set}
 use Rattle.std.proofs.Common.{refl, sym, ap, ◌∙◌, subst, arith}
 use Rattle.std.proofs.lemmas.List.{length-set}
 use Rattle.std.proofs.lemmas.Option.{slice_get_within}
@@ -24,13 +24,16 @@ use Rattle.office_model.specs.declared.refusal.BrokenRule.TheVariants.{NoSession
 use Rattle.office_model.specs.declared.refusal.Refusal.{Refusal}
 use Rattle.office_model.specs.declared.refusal.Refusal.TheVariants.{Broken, Halted, DiskFault, Damaged, Memory}
 use Rattle.office_model.specs.declared.session.SessionName.{SessionName}
+use Rattle.office_model.specs.Meaning.{Reply}
 use Rattle.office_model.specs.Office.{Office, Restore, Names, with_restores}
+use Rattle.office_model.specs.Parts.{restore_at}
 use Rattle.office_model.specs.UsedNames.{AreSound}
 use Rattle.office_model.specs.laws.StateLaws.{AreSound-carried}
 use Rattle.office_model.specs.events.ReadNext.{moved_on, frame_of}
 use Rattle.office_model.specs.events.ReadNext as ReadNextEvent
 use Rattle.office_files.specs.Pooled.{contents_of}
 use Rattle.open_sessions.specs.declared.sessions.Asked.{Asked}
+use Rattle.open_sessions.specs.declared.sessions.Next.{Next as NextOf}
 use Rattle.open_sessions.specs.declared.sessions.Next.TheVariants as Next
 use Rattle.open_sessions.specs.declared.sessions.OpenRestore.{OpenRestore}
 use Rattle.open_sessions.specs.declared.sessions.Place.{Place}
@@ -48,8 +51,8 @@ use Rattle.store_parts.specs.RunLaws.{counted_fine, runs_reads, runs_memory, run
 use Rattle.store_reads.specs.Shown.{Looks}
 use Rattle.store_reads.specs.Pieces.{IsPieceFault, piece_not_damaged}
 use Rattle.store_restores.specs.Finding.{place_of}
-use Rattle.store_restores.specs.Giving.{entry_in, room_of, IsBehind, wrong_in, IsDamagedOr, MovesTo}
-use Rattle.store_restores.proofs.Found.{no_restore, IsFound, restore_found}
+use Rattle.store_restores.specs.Giving.{entry_in, room_of, IsBehind, wrong_in, IsDamagedOr, MovesTo, GivesNext}
+use Rattle.store_restores.proofs.Found.{IsFound, restore_found}
 use Rattle.store_restores.proofs.Opens.{Failed, reads_of}
 use Rattle.store_restores.proofs.Running.{count_of, near_same, sessions_given, Stays, running_stays, runs_ok}
 use Rattle.store_restores.proofs.Steps.{length_shown, is_entry, is_piece, not_wrong, entry_gives, piece_gives, room_fits, never_wrong, IsPiece}
@@ -64,6 +67,14 @@ module _ {A : Type 0} where
   set_at [] i x y e = absurd cc
   set_at (z ∷ xs) zero x y e = refl
   set_at (z ∷ xs) (suc i) x y e = set_at xs i x y e
+
+-- there is no such restore
+pub no_restore_next : (session : SessionName) (office : Office) (names : Names) → restore_at office.restores session ≡ Err NoSession
+    → ReadNextEvent.carried session office ≡ Err NoSession
+no_restore_next session office names e = rw e refl
+
+pub none_found : {A : Type 0} {x : A} {o : Option A} → None ≡ o → Some x ≡ o → ⊥
+none_found none some = cc
 
 -- a count over no call
 counted_none : (count : ℕ) → Counted count count ⊥
@@ -135,6 +146,21 @@ module _ {D N S : Type 0} {d : DiskGhosts D} {n : NamerGhosts N S} where
           })
           (record { restores = again between first_there; dumps = dumps'; sequence = sequence' })
 
+  -- what is given next, of the restore that was found
+  pub gives_found : (old new : StoreParts D N S d n) (session : SessionName) (at : ℕ)
+      → Some at ≡ place_of old.sessions.restores.items session → (next : NextOf) (reply : Reply)
+      → ((restore : OpenRestore S) → slice_get old.sessions.restores.items at ≡ Some restore → next ≡ next_in restore.rows restore.place)
+      → ((restore : OpenRestore S) → slice_get old.sessions.restores.items at ≡ Some restore → GivesNext next old at restore reply new)
+      → (at' : ℕ) (restore : OpenRestore S) → Some at' ≡ place_of old.sessions.restores.items session
+      → slice_get old.sessions.restores.items at' ≡ Some restore
+      → GivesNext (next_in restore.rows restore.place) old at' restore reply new
+  gives_found old new session at is next reply next_is gives at' restore found there =
+      let same : at ≡ at' = cc in
+      let here : slice_get old.sessions.restores.items at ≡ Some restore
+      = ap (slice_get old.sessions.restores.items) same ∙ there in
+      subst (λ (k : ℕ). GivesNext (next_in restore.rows restore.place) old k restore reply new) same
+      (subst (λ (m : NextOf). GivesNext m old at restore reply new) (next_is restore here) (gives restore here))
+
   looks_still : (parts : StoreParts D N S d n) → Looks parts parts
   looks_still parts = record {
     quiet = Quiet-still parts.journal;
@@ -161,10 +187,6 @@ module _ {D N S : Type 0} {d : DiskGhosts D} {n : NamerGhosts N S} where
           views_same = same.views;
         }))
         (subst (λ (j : Journal D d). Counted (count_of old) (d.fault_count j.disk) ⊥) (sym same.journal) (counted_none (count_of old)))
-
-    pub next_refused : None ≡ place_of old.sessions.restores.items session
-        → (office : Office) (names : Names) → IsRunning old office names → ReadNextEvent.carried session office ≡ Err NoSession
-    next_refused e office names at = rw (no_restore old session e office names at) refl
 
     module _ (index : ℕ) (restore : OpenRestore S) (e : Some index ≡ place_of old.sessions.restores.items session)
         (there : slice_get old.sessions.restores.items index ≡ Some restore) where

@@ -114,6 +114,13 @@ module _ {D N S : Type 0} {d : DiskGhosts D} {n : NamerGhosts N S} where
         subst (λ (views : Views). IsKeptView views.kept office.hosts at.backups) (sym looks.views_same) at.view;
   }
 
+  -- what is open since the files were read
+  pub opened_looks : (old mid : StoreParts D N S d n) → Looks old mid → (rows : Rows) (session : SessionName) (new : Sessions S)
+      → IsOpened mid.sessions mid.catalog.epoch rows session new → IsOpened old.sessions old.catalog.epoch rows session new
+  opened_looks old mid looks rows session new opened =
+      subst (λ (s : Sessions S). IsOpened s old.catalog.epoch rows session new) looks.sessions_same
+      (subst (λ (k : Known). IsOpened mid.sessions k.epoch rows session new) looks.catalog_same opened)
+
   module _ (old mid : StoreParts D N S d n) (name : List ℕ) (number : ℕ) (looks : Looks old mid) where
     -- ---- refused
 
@@ -204,8 +211,7 @@ module _ {D N S : Type 0} {d : DiskGhosts D} {n : NamerGhosts N S} where
         views = has.views ∙ looks.views_same;
         halted = has.halted ∙ looks.halted_same;
         form = has.form ∙ ap (λ (p : Pool N S n). p.in_one_file) looks.pool_same;
-        sessions = subst (λ (s : Sessions S). IsOpened s old.catalog.epoch rows session new.sessions) looks.sessions_same
-            (subst (λ (k : Known). IsOpened mid.sessions k.epoch rows session new.sessions) looks.catalog_same has.sessions);
+        sessions = opened_looks old mid looks rows session new.sessions has.sessions;
         claims = subst (λ (p : Pool N S n). ((id : PoolId) → 0 < occurrences id rows → is_given (slots_of p.names id) ≡ true)
             → Gains (λ id. occurrences id rows) (slots_of p.names) (slots new)) looks.pool_same has.claims;
       }

@@ -6,22 +6,33 @@
 --     wrong_in place      a wrong digest, if a place has one
 --     IsDamagedOr content digest refusal      how that is refused
 --     MovesTo old at restore place new      sessions whose restore at this index has another place
-use Rattle.std.specs.Prelude.{⊤, ◌≡◌, ◌≢◌, ℕ, ◌+◌, ◌-◌, min, nat_le, Bool, true, false, List, [], ◌++◌, length, Option, Some, None, slice_get, slice_set}
+--     GivesNext next old at restore reply new      what a restore gives next, whatever the files hold
+use Rattle.std.specs.Prelude.{⊤, ◌≡◌, ◌≢◌, ◌⊎◌, Ok, Err, ℕ, ◌+◌, ◌-◌, min, nat_le, Bool, true, false, List, [], ◌++◌, length, Option, Some, None, slice_get, slice_set}
 use Rattle.disk_trait.specs.declared.ids.PoolId.{PoolId}
 use Rattle.disk_trait.specs.declared.ids.FileId.TheVariants.{Pool as PoolFile}
+use Rattle.disk_trait.specs.declared.disk.Disk.{Ghosts as DiskGhosts}
+use Rattle.disk_trait.specs.Files.{Files, piece as piece_of}
+use Rattle.pool_name.specs.declared.namer.Namer.{Ghosts as NamerGhosts}
+use Rattle.journal_view.specs.View.{told}
 use Rattle.attr_tables.specs.declared.records.Record.{Record}
 use Rattle.merge_view.specs.Views.{Rows}
 use Rattle.tree_frames.specs.declared.nodes.Node.{Node}
 use Rattle.tree_frames.specs.declared.nodes.Frame.{Frame}
 use Rattle.tree_frames.specs.declared.nodes.Frame.TheVariants as F
+use Rattle.office_model.specs.declared.answer.Answer.TheVariants.{Next as NextAnswer}
 use Rattle.office_model.specs.declared.refusal.Refusal.{Refusal}
 use Rattle.office_model.specs.declared.refusal.Refusal.TheVariants as R
+use Rattle.office_model.specs.Meaning.{Reply}
 use Rattle.open_sessions.specs.declared.sessions.Asked.{Asked}
+use Rattle.open_sessions.specs.declared.sessions.Next.{Next}
 use Rattle.open_sessions.specs.declared.sessions.OpenRestore.{OpenRestore}
 use Rattle.open_sessions.specs.declared.sessions.Place.{Place}
 use Rattle.open_sessions.specs.declared.sessions.Place.TheVariants.{Entry, Content, Piece, Wrong}
 use Rattle.open_sessions.specs.declared.sessions.Sessions.{Sessions}
+use Rattle.open_sessions.specs.Places.{behind_entry}
+use Rattle.store_parts.specs.declared.parts.StoreParts.{StoreParts}
 use Rattle.store_reads.specs.Shown.{node_in}
+use Rattle.store_reads.specs.Pieces.{IsPieceFault}
 
 -- ---- entries
 
@@ -87,3 +98,40 @@ pub record MovesTo {S : Type 0} (old : Sessions S) (at : ℕ) (restore : OpenRes
   pub restores : new.restores.items ≡ slice_set old.restores.items at (record restore { place = place })
   pub dumps : new.dumps ≡ old.dumps
   pub sequence : new.sequence ≡ old.sequence
+
+-- ---- whatever the files hold
+
+module _ {D N S : Type 0} {d : DiskGhosts D} {n : NamerGhosts N S} where
+  -- the file of the content has the piece, and the restore moved on behind it
+  pub record PassesPiece (old : StoreParts D N S d n) (at : ℕ) (restore : OpenRestore S) (asked : Asked) (piece : List ℕ)
+      (new : StoreParts D N S d n) : Type 0 where
+    pub there : (all : Files) → told old.journal ≡ Some all
+        → piece_of (all (PoolFile asked.content)) asked.from (room_of asked) ≡ Some piece
+    pub place : Place S
+    pub behind : IsBehind n.holds n.digest_of restore.place asked piece place
+    pub moves : MovesTo old.sessions at restore place new.sessions
+
+  -- behind the last piece the digest of all is not that of the name
+  pub record FindsWrong (old : StoreParts D N S d n) (at : ℕ) (restore : OpenRestore S) (asked : Asked) (refusal : Refusal)
+      (new : StoreParts D N S d n) : Type 0 where
+    pub piece : List ℕ
+    pub passes : PassesPiece old at restore asked piece new
+    pub digest : List ℕ
+    pub is : Some digest ≡ wrong_in passes.place
+    pub refused : IsDamagedOr asked.content digest refusal
+
+  -- a piece is given only if its file has it, and the last one only if all pieces have the digest of the name
+  abbrev pub GivesNext : Next → StoreParts D N S d n → ℕ → OpenRestore S → Reply → StoreParts D N S d n → Type 0
+  GivesNext (Next.Entry row) old at restore (Ok answer) new =
+      (answer ≡ NextAnswer (entry_in restore.rows row))
+      × MovesTo old.sessions at restore (behind_entry row (slice_get restore.rows row)) new.sessions
+  GivesNext (Next.Entry row) old at restore (Err refusal) new = (refusal ≡ R.Memory) × (new.sessions ≡ old.sessions)
+  GivesNext (Next.Piece asked) old at restore (Ok answer) new =
+      (piece : List ℕ) × (answer ≡ NextAnswer (F.Piece piece))
+      × ((passes : PassesPiece old at restore asked piece new) × (wrong_in passes.place ≡ None))
+  GivesNext (Next.Piece asked) old at restore (Err refusal) new =
+      (IsPieceFault old asked.content asked.from (room_of asked) refusal × (new.sessions ≡ old.sessions))
+      ⊎ FindsWrong old at restore asked refusal new
+  GivesNext (Next.Wrong content digest) old at restore (Ok answer) new = ⊥
+  GivesNext (Next.Wrong content digest) old at restore (Err refusal) new =
+      IsDamagedOr content digest refusal × (new.sessions ≡ old.sessions)

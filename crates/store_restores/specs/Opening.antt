@@ -1,8 +1,9 @@
 -- A further open restore.
 --     IsOpened old epoch rows name new      the sessions have one restore more, at the start of these rows
 --     HasOpened old rows name new      so have the parts of a store, and its rows claim their contents
+--     OpensRestore old epoch rows reply new      an answer opened it
 --     HasKept old new      the same is open, and claims the same
-use Rattle.std.specs.Prelude.{◌≡◌, ℕ, ◌+◌, ◌<◌, true, [], ◌∷◌, ◌++◌}
+use Rattle.std.specs.Prelude.{◌≡◌, ℕ, ◌+◌, ◌<◌, true, [], ◌∷◌, ◌++◌, Ok, Err}
 use Rattle.disk_trait.specs.declared.ids.PoolId.{PoolId}
 use Rattle.disk_trait.specs.declared.disk.Disk.{Ghosts as DiskGhosts}
 use Rattle.pool_name.specs.declared.namer.Namer.{Ghosts as NamerGhosts}
@@ -11,7 +12,9 @@ use Rattle.merge_view.specs.Views.{Rows}
 use Rattle.stored_trees.specs.Occurrences.{occurrences}
 use Rattle.pool_changes.specs.Slots.{is_given}
 use Rattle.pool_changes.specs.Kept.{IsSame}
+use Rattle.office_model.specs.declared.answer.Answer.TheVariants.{Restore}
 use Rattle.office_model.specs.declared.session.SessionName.{SessionName}
+use Rattle.office_model.specs.Meaning.{Reply}
 use Rattle.open_sessions.specs.declared.sessions.OpenRestore.{OpenRestore}
 use Rattle.open_sessions.specs.declared.sessions.Place.TheVariants.{Entry}
 use Rattle.open_sessions.specs.declared.sessions.Sessions.{Sessions}
@@ -32,6 +35,10 @@ pub record IsOpened {S : Type 0} (old : Sessions S) (epoch : ℕ) (rows : Rows) 
   pub restores : new.restores.items ≡ old.restores.items ++ fresh name rows ∷ []
   pub dumps : new.dumps ≡ old.dumps
   pub sequence : new.sequence ≡ old.sequence + 1
+
+abbrev pub OpensRestore : {S : Type 0} → Sessions S → ℕ → Rows → Reply → Sessions S → Type 0
+OpensRestore old epoch rows (Ok answer) new = (name : SessionName) × (answer ≡ Restore name) × IsOpened old epoch rows name new
+OpensRestore old epoch rows (Err refusal) new = ⊥
 
 module _ {D N S : Type 0} {d : DiskGhosts D} {n : NamerGhosts N S} where
   -- the contents are claimed if their names are given ones

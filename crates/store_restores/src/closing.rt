@@ -5,7 +5,7 @@ ghost use Rattle.office_model.specs.declared.event.Event.TheVariants.{CloseRead}
 ghost use Rattle.store_parts.specs.Runs.{Runs};
 
 use disk_trait::Disk;
-use office_model::{Answer, BrokenRule, Refusal, SessionName};
+use office_model::{Answer, Refusal, SessionName};
 use pool_name::Namer;
 use store_dumps::release_rows;
 use store_parts::StoreParts;
@@ -19,10 +19,7 @@ pub fn close_read<D: Disk, N: Namer>(
     requires ready { parts.old.halted ≡ false }
     ensures { Runs parts.old (CloseRead restore) result parts.new }
 {
-    let at = match parts.sessions.restore_at(restore) {
-        Some(at) => at,
-        None => return Err(Refusal::Broken(BrokenRule::NoSession)),
-    };
+    let at = parts.restore(restore)?;
     let closed = parts.sessions.take_restore(at);
     release_rows(&mut parts.pool, closed.rows.rows());
     Ok(Answer::Done)

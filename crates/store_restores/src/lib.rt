@@ -12,7 +12,8 @@
 //! | [`close_read`] | drops a restore, and lets go its claims |
 //!
 //! Its main clause: each event is answered as the model says (`Runs` of `store_parts`). `specs/Giving` says what a restore
-//! gives from its rows.
+//! gives from its rows, also over a disk with damaged files (`GivesNext`): the last piece of a content comes only if all its
+//! pieces have the digest of its name.
 #![tactic(auto)]
 
 mod closing;

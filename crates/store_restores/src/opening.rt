@@ -9,7 +9,8 @@ ghost use Rattle.open_sessions.specs.declared.sessions.OpenRestore.{OpenRestore}
 ghost use Rattle.office_model.specs.declared.event.Event.TheVariants.{OpenRead};
 ghost use Rattle.store_dumps.specs.Claims.{Gains};
 ghost use Rattle.store_parts.specs.Runs.{Runs};
-ghost use Rattle.store_restores.specs.Opening.{HasOpened, HasKept};
+ghost use Rattle.store_reads.specs.Told.{TellsBackup, HasDamagedTable, IsReadReply};
+ghost use Rattle.store_restores.specs.Opening.{HasOpened, HasKept, OpensRestore};
 
 use attr_records::HostName;
 use attr_tables::Table;
@@ -63,7 +64,7 @@ fn open_with<D: Disk, N: Namer>(
 }
 
 /// Opens a restore of a backup, whose contents it claims. It refuses a host or a backup that isn't there, a spent number of
-/// sessions, a fault of the disk and want of memory; then nothing has changed.
+/// sessions, a table that is damaged, a fault of the disk and want of memory; then nothing has changed.
 pub fn open_read<D: Disk, N: Namer>(
     parts: &mut StoreParts<D, N>,
     alloc: Global,
@@ -72,7 +73,9 @@ pub fn open_read<D: Disk, N: Namer>(
 ) -> Result<Answer, Refusal>
     requires ready { parts.old.halted ≡ false }
     requires journal_ready { parts.old.journal.halted ≡ false }
-    ensures { Runs parts.old (OpenRead host.now number) result parts.new }
+    ensures runs { Runs parts.old (OpenRead host.now number) result parts.new }
+    ensures read { IsReadReply (TellsBackup parts.old host.now number) (HasDamagedTable parts.old host.now number)
+        (λ rows reply. OpensRestore parts.old.sessions parts.old.catalog.epoch rows reply parts.new.sessions) result }
 {
     let rows = match read_backup(parts, alloc, host, number) {
         Ok(rows) => rows,

@@ -1,6 +1,6 @@
 //! A restore gives its next frame.
 
-ghost use Rattle.std.specs.Prelude.{◌≡◌, ◌<◌, ◌-◌, ◌^◌, false, Some, length, slice_get};
+ghost use Rattle.std.specs.Prelude.{◌≡◌, ◌<◌, ◌-◌, ◌^◌, ℕ, false, Some, length, slice_get};
 ghost use Rattle.office_model.specs.declared.event.Event.TheVariants.{ReadNext};
 ghost use Rattle.office_model.specs.declared.session.SessionName.{SessionName as SessionNameValue};
 ghost use Rattle.open_sessions.specs.declared.sessions.Next.TheVariants.{Piece as NextPiece};
@@ -8,12 +8,12 @@ ghost use Rattle.open_sessions.specs.declared.sessions.OpenRestore.{OpenRestore}
 ghost use Rattle.open_sessions.specs.Places.{next_in};
 ghost use Rattle.store_parts.specs.Runs.{Runs};
 ghost use Rattle.store_restores.specs.Finding.{place_of};
-ghost use Rattle.store_restores.specs.Giving.{IsDamagedOr};
+ghost use Rattle.store_restores.specs.Giving.{IsDamagedOr, GivesNext};
 
 use crate::digests::{place_behind, room_of, wrong_at};
 use crate::giving::give_entry;
 use disk_trait::{Bytes, Disk, FileId, PoolId};
-use office_model::{Answer, BrokenRule, Frame, Refusal, SessionName};
+use office_model::{Answer, Frame, Refusal, SessionName};
 use open_sessions::{Asked, Next, Place};
 use pool_name::Namer;
 use std::alloc::Global;
@@ -46,8 +46,10 @@ fn give_piece<D: Disk, N: Namer>(
     requires row { asked.now.row < 2 ^ 64 - 1 }
     requires is { (restore : OpenRestore N.State) → slice_get parts.old.sessions.restores.items at ≡ Some restore
         → NextPiece asked.now ≡ next_in restore.rows restore.place }
-    ensures { (session : SessionNameValue) → Some at ≡ place_of parts.old.sessions.restores.items session
+    ensures runs { (session : SessionNameValue) → Some at ≡ place_of parts.old.sessions.restores.items session
         → Runs parts.old (ReadNext session) result parts.new }
+    ensures gives { (restore : OpenRestore N.State) → slice_get parts.old.sessions.restores.items at ≡ Some restore
+        → GivesNext (NextPiece asked.now) parts.old at restore result parts.new }
 {
     let piece = match read_piece(parts, alloc, asked.content, asked.from, room_of(asked)) {
         Ok(piece) => piece,
@@ -73,12 +75,12 @@ pub fn read_next<D: Disk, N: Namer>(
 ) -> Result<Answer, Refusal>
     requires ready { parts.old.halted ≡ false }
     requires journal_ready { parts.old.journal.halted ≡ false }
-    ensures { Runs parts.old (ReadNext restore) result parts.new }
+    ensures runs { Runs parts.old (ReadNext restore) result parts.new }
+    ensures gives { (at : ℕ) (session : OpenRestore N.State) → Some at ≡ place_of parts.old.sessions.restores.items restore
+        → slice_get parts.old.sessions.restores.items at ≡ Some session
+        → GivesNext (next_in session.rows session.place) parts.old at session result parts.new }
 {
-    let at = match parts.sessions.restore_at(restore) {
-        Some(at) => at,
-        None => return Err(Refusal::Broken(BrokenRule::NoSession)),
-    };
+    let at = parts.restore(restore)?;
     match parts.sessions.next(at) {
         Next::Entry(row) => match give_entry(&mut parts.sessions, alloc, at, row) {
             Ok(frame) => Ok(Answer::Next(frame)),

@@ -1,29 +1,53 @@
-use Rattle.store_parts.specs.RunLaws.{runs_refused, reads_still, counted_still}
+use Rattle.std.proofs.Common.{refl}
+use Rattle.store_parts.specs.RefusalLaws.{runs_broken_by}
+use Rattle.store_parts.specs.RefusedLaws.{runs_broken, runs_no_host}
 use Rattle.store_dumps.proofs.Hosts.{index_read}
-use Rattle.store_dumps.proofs.Opens.{no_host, refused_by, not_failed, runs_base_opened, runs_base_memory, runs_base_fault}
+use Rattle.store_dumps.proofs.Opens.{no_host, refused_by, not_failed, runs_base_opened, runs_base_memory, runs_base_fault, base_reply, broken_base, opened_since}
 use Rattle.store_dumps.proofs.opening.open_dump.Goals as goal
 
-pub returns-in-None : goal.returns-in-None
-returns-in-None g c = runs_refused _ _ _ _ (reads_still _) (no_host _ c.args.host.now c.args.kind c.args.now c.in-None.ensures.value)
-    (counted_still _ _ (λ e. e))
+pub returns-in_err-at-clause-runs : goal.returns-in_err-at-clause-runs
+returns-in_err-at-clause-runs g c = runs_broken_by _ _ _ _ _ _ c.from_residual.ensures.1 c.in_err-at.ensures.rule
+    (runs_no_host _ _ _ c.in_err-at.ensures.none (no_host c.args.host.now c.args.kind c.args.now))
 
-pub returns-in-Some-broken_rule : goal.returns-in-Some-broken_rule
-returns-in-Some-broken_rule g c = runs_refused _ _ _ c.in-Some-broken_rule.rule (reads_still _)
-    (refused_by c.args.parts.now c.args.host.now c.args.kind c.args.now c.in-Some.at c.index-hosts-at.result c.in-Some.ensures.value
-    (index_read _ _ _ _ c.hosts.ensures.hosts c.in-Some.ensures.within c.index-hosts-at.is) c.in-Some-broken_rule.rule
-    c.in-Some-broken_rule.ensures)
-    (counted_still _ _ (λ e. e))
+pub returns-in_err-at-clause-base : goal.returns-in_err-at-clause-base
+returns-in_err-at-clause-base g c =
+    broken_base c.args.parts.now c.args.host.now c.args.kind c.args.now _ _ _ c.from_residual.ensures.1
 
-pub returns-in-Err : goal.returns-in-Err
-returns-in-Err g c = runs_base_fault c.args.parts.now c.base_of.new.parts c.args.host.now c.args.kind c.args.now c.in-Err.refusal
+pub returns-in-Some-clause-runs : goal.returns-in-Some-clause-runs
+returns-in-Some-clause-runs g c = runs_broken _ _ c.in-Some.rule
+    (refused_by c.args.parts.now c.args.host.now c.args.kind c.args.now c.in_ok-at.at c.index-hosts-at.result c.in_ok-at.ensures.found
+    (index_read _ _ _ _ c.hosts.ensures.hosts c.in_ok-at.ensures.within c.index-hosts-at.is) c.in-Some.rule
+    c.in-Some.ensures)
+
+pub returns-in-Err-clause-runs : goal.returns-in-Err-clause-runs
+returns-in-Err-clause-runs g c = runs_base_fault c.args.parts.now c.base_of.new.parts c.args.host.now c.args.kind c.args.now c.in-Err.refusal
     c.in-Err.ensures.reads c.in-Err.ensures.counted c.in-Err.ensures.fault
 
-pub returns-in-Ok-open_with : goal.returns-in-Ok-open_with
-returns-in-Ok-open_with g c = runs_base_opened c.args.parts.now c.base_of.new.parts c.args.host.now c.args.kind c.args.now
-    c.in-Ok.ensures.reads c.in-Ok.ensures.counted c.in-Some.at c.index-hosts-at.result c.in-Some.ensures.value
-    (index_read _ _ _ _ c.hosts.ensures.hosts c.in-Some.ensures.within c.index-hosts-at.is) c.in-None-broken_rule.ensures
+pub returns-in-Ok-open_with-clause-runs : goal.returns-in-Ok-open_with-clause-runs
+returns-in-Ok-open_with-clause-runs g c = runs_base_opened c.args.parts.now c.base_of.new.parts c.args.host.now c.args.kind c.args.now
+    c.in-Ok.ensures.reads c.in-Ok.ensures.counted c.in_ok-at.at c.index-hosts-at.result c.in_ok-at.ensures.found
+    (index_read _ _ _ _ c.hosts.ensures.hosts c.in_ok-at.ensures.within c.index-hosts-at.is) c.in-None.ensures
     (not_failed _) c.open_with.new.parts c.in-Ok-open_with.name c.in-Ok.base c.in-Ok.ensures.base c.in-Ok-open_with.ensures.ok
 
-pub returns-in-Err-open_with : goal.returns-in-Err-open_with
-returns-in-Err-open_with g c = runs_base_memory c.args.parts.now c.base_of.new.parts c.args.host.now c.args.kind c.args.now
+pub returns-in-Err-open_with-clause-runs : goal.returns-in-Err-open_with-clause-runs
+returns-in-Err-open_with-clause-runs g c = runs_base_memory c.args.parts.now c.base_of.new.parts c.args.host.now c.args.kind c.args.now
     c.in-Ok.ensures.reads c.in-Ok.ensures.counted (not_failed _) c.open_with.new.parts c.in-Err-open_with.ensures.err
+
+pub returns-in-Err-clause-base : goal.returns-in-Err-clause-base
+returns-in-Err-clause-base g c = base_reply c.args.parts.now c.args.host.now c.args.kind c.args.now _ c.in_ok-at.at
+    c.index-hosts-at.result c.in_ok-at.ensures.found
+    (index_read _ _ _ _ c.hosts.ensures.hosts c.in_ok-at.ensures.within c.index-hosts-at.is) c.in-Err.refusal c.in-Err.ensures.damaged
+
+pub returns-in-Ok-open_with-clause-base : goal.returns-in-Ok-open_with-clause-base
+returns-in-Ok-open_with-clause-base g c =
+    let index = index_read _ _ _ _ c.hosts.ensures.hosts c.in_ok-at.ensures.within c.index-hosts-at.is in (
+      c.in-Ok-open_with.name,
+      refl,
+      record {
+        host = record { place = c.in_ok-at.at; index = c.index-hosts-at.result; is_host = c.in_ok-at.ensures.found; is_index = index };
+        rows = c.in-Ok.base;
+        tells = c.in-Ok.ensures.tells c.index-hosts-at.result index;
+        opened = opened_since c.args.parts.now c.base_of.new.parts c.in-Ok.ensures.reads c.in_ok-at.at c.args.kind c.args.now c.in-Ok.base
+            c.in-Ok-open_with.name c.open_with.new.parts.sessions c.in-Ok-open_with.ensures.ok.sessions;
+      },
+    )

@@ -4,26 +4,25 @@ use Rattle.attr_tables.specs.Records.{IsContentOf}
 use Rattle.pool_changes.specs.Kept.{slots_of}
 use Rattle.pool_store.specs.Pools.{Misses}
 use Rattle.store_dumps.specs.Putting.{TakesIn, content_found}
-use Rattle.store_parts.specs.RunLaws.{runs_refused, reads_still, counted_still}
-use Rattle.store_dumps.proofs.Puts.{runs_same, put_refused, put_broken, runs_put, runs_put_back, runs_missed, go_content}
+use Rattle.store_parts.specs.RefusalLaws.{runs_broken_by}
+use Rattle.store_parts.specs.RefusedLaws.{runs_broken, runs_no_dump}
+use Rattle.store_dumps.proofs.Puts.{runs_same, no_dump_put, put_broken, runs_put, runs_put_back, runs_missed, go_content}
 use Rattle.store_dumps.proofs.putting.put.Goals as goal
 
-pub returns-in-None : goal.returns-in-None
-returns-in-None g c = runs_refused _ _ _ _ (reads_still _)
-    (put_refused _ c.args.session c.args.path.now c.args.item.now c.in-None.ensures.index)
-    (counted_still _ _ (λ e. e))
+pub returns-in_err-at : goal.returns-in_err-at
+returns-in_err-at g c = runs_broken_by _ _ _ _ _ _ c.from_residual.ensures.1 c.in_err-at.ensures.rule
+    (runs_no_dump _ _ _ c.in_err-at.ensures.none (no_dump_put c.args.session c.args.path.now c.args.item.now))
 
-pub returns-in-Some-broken_rule : goal.returns-in-Some-broken_rule
-returns-in-Some-broken_rule g c = runs_refused _ _ _ _ (reads_still _)
-    (put_broken _ c.args.session c.args.path.now c.args.item.now c.in-Some.at c.index.result.now c.in-Some.ensures.index
-    (slice_get_read _ _ _ _ refl c.in-Some.ensures.within c.index.ensures) c.in-Some-broken_rule.rule c.in-Some-broken_rule.ensures)
-    (counted_still _ _ (λ e. e))
+pub returns-in-Some : goal.returns-in-Some
+returns-in-Some g c = runs_broken _ _ _
+    (put_broken _ c.args.session c.args.path.now c.args.item.now c.in_ok-at.at c.index.result.now c.in_ok-at.ensures.found
+    (slice_get_read _ _ _ _ refl c.in_ok-at.ensures.within c.index.ensures) c.in-Some.rule c.in-Some.ensures)
 
 pub returns-in-Err : goal.returns-in-Err
-returns-in-Err g c = runs_same _ _ _ _ _ c.refusal_of.ensures
-    (runs_missed c.args.parts.now c.args.session c.args.path.now c.args.item.now c.in-Some.at c.index.result.now c.in-Some.ensures.index
-    (slice_get_read _ _ _ _ refl c.in-Some.ensures.within c.index.ensures) c.stage.new.journal c.stage.new.pool
-    c.in-None-broken_rule.ensures
+returns-in-Err g c = runs_same _ _ _ _ _ c.refusal_of_pool.ensures.value
+    (runs_missed c.args.parts.now c.args.session c.args.path.now c.args.item.now c.in_ok-at.at c.index.result.now c.in_ok-at.ensures.found
+    (slice_get_read _ _ _ _ refl c.in_ok-at.ensures.within c.index.ensures) c.stage.new.journal c.stage.new.pool
+    c.in-None.ensures
     c.in-Err.ensures.form c.in-Err.ensures.stays c.in-Err.ensures.certain c.in-Err.ensures.crash c.in-Err.fault
     (subst (λ (b : List ℕ). 0 < length b) c.bytes_of.ensures c.in-Err.ensures.some)
     (subst (λ (b : List ℕ). Misses g.N.Namer.digest_of (slots_of c.args.parts.now.pool.names) (slots_of c.stage.new.pool.names)
@@ -33,9 +32,9 @@ returns-in-Err g c = runs_same _ _ _ _ _ c.refusal_of.ensures
 
 pub returns-in-Ok-put_item : goal.returns-in-Ok-put_item
 returns-in-Ok-put_item g c =
-    let there = slice_get_read _ _ _ _ refl c.in-Some.ensures.within c.index.ensures in
-    runs_put c.args.parts.now c.args.session c.args.path.now c.args.item.now c.in-Some.at c.index.result.now c.in-Some.ensures.index
-    there c.stage.new.journal c.stage.new.pool c.in-None-broken_rule.ensures
+    let there = slice_get_read _ _ _ _ refl c.in_ok-at.ensures.within c.index.ensures in
+    runs_put c.args.parts.now c.args.session c.args.path.now c.args.item.now c.in_ok-at.at c.index.result.now c.in_ok-at.ensures.found
+    there c.stage.new.journal c.stage.new.pool c.in-None.ensures
     c.in-Ok.ensures.form c.in-Ok.ensures.stays c.in-Ok.ensures.certain c.in-Ok.ensures.crash c.in-Ok.content
     (subst (λ (b : List ℕ). IsContentOf (length b) c.in-Ok.content) c.bytes_of.ensures c.in-Ok.ensures.shape)
     (subst (λ (b : List ℕ). TakesIn g.N.Namer.digest_of (slots_of c.args.parts.now.pool.names) (slots_of c.stage.new.pool.names)
@@ -49,10 +48,10 @@ returns-in-Ok-put_item g c =
 
 pub returns-in-Err-put_item : goal.returns-in-Err-put_item
 returns-in-Err-put_item g c =
-    let there = slice_get_read _ _ _ _ refl c.in-Some.ensures.within c.index.ensures in
+    let there = slice_get_read _ _ _ _ refl c.in_ok-at.ensures.within c.index.ensures in
     runs_same _ _ _ _ _ c.refused_put.ensures
-    (runs_put_back c.args.parts.now c.args.session c.args.path.now c.args.item.now c.in-Some.at c.index.result.now c.in-Some.ensures.index
-    there c.stage.new.journal c.stage.new.pool c.in-None-broken_rule.ensures
+    (runs_put_back c.args.parts.now c.args.session c.args.path.now c.args.item.now c.in_ok-at.at c.index.result.now c.in_ok-at.ensures.found
+    there c.stage.new.journal c.stage.new.pool c.in-None.ensures
     c.in-Ok.ensures.form c.in-Ok.ensures.stays c.in-Ok.ensures.certain c.in-Ok.ensures.crash c.in-Ok.content
     (subst (λ (b : List ℕ). IsContentOf (length b) c.in-Ok.content) c.bytes_of.ensures c.in-Ok.ensures.shape)
     (subst (λ (b : List ℕ). TakesIn g.N.Namer.digest_of (slots_of c.args.parts.now.pool.names) (slots_of c.stage.new.pool.names)

@@ -1,27 +1,29 @@
 use Rattle.std.proofs.Common.{refl, ap, ◌∙◌}
 use Rattle.std.proofs.lemmas.Option.{slice_get_read}
 use Rattle.pool_changes.specs.Kept.{slots_of}
-use Rattle.store_parts.specs.RunLaws.{runs_refused, runs_memory, reads_still, counted_still}
+use Rattle.store_parts.specs.RefusalLaws.{runs_broken_by}
+use Rattle.store_parts.specs.RefusedLaws.{runs_no_dump}
+use Rattle.store_parts.specs.RunLaws.{runs_memory, reads_still, counted_still}
 use Rattle.store_dumps.proofs.Running.{runs_alike_memory, runs_alike_refused}
-use Rattle.store_dumps.proofs.Removes.{remove_refused, no_path, runs_removed, go_alike}
+use Rattle.store_dumps.proofs.Removes.{no_dump_remove, no_path, runs_removed, go_alike}
 use Rattle.store_dumps.proofs.removing.remove.Goals as goal
 
-pub returns-in-None : goal.returns-in-None
-returns-in-None g c = runs_refused _ _ _ _ (reads_still _) (remove_refused _ c.args.session c.args.path.now c.in-None.ensures.index)
-    (counted_still _ _ (λ e. e))
+pub returns-in_err-at : goal.returns-in_err-at
+returns-in_err-at g c = runs_broken_by _ _ _ _ _ _ c.from_residual.ensures.1 c.in_err-at.ensures.rule
+    (runs_no_dump _ _ _ c.in_err-at.ensures.none (no_dump_remove c.args.session c.args.path.now))
 
 pub returns-in-Err : goal.returns-in-Err
 returns-in-Err g c = runs_memory _ _ _ (reads_still _) (counted_still _ _ (λ e. e))
 
 pub returns-in-Ok-remove : goal.returns-in-Ok-remove
-returns-in-Ok-remove g c = runs_removed _ c.args.session c.args.path.now c.in-Some.at c.index.result.now c.in-Some.ensures.index
-    (slice_get_read _ _ _ _ refl c.in-Some.ensures.within c.index.ensures) _
+returns-in-Ok-remove g c = runs_removed _ c.args.session c.args.path.now c.in_ok-at.at c.index.result.now c.in_ok-at.ensures.found
+    (slice_get_read _ _ _ _ refl c.in_ok-at.ensures.within c.index.ensures) _
     (c.in-Ok-remove.ensures.ok c.index.result.now
-    (slice_get_read _ _ _ _ refl c.in-Some.ensures.within c.index.ensures)) refl refl refl refl refl
+    (slice_get_read _ _ _ _ refl c.in_ok-at.ensures.within c.index.ensures)) refl refl refl refl refl
     (go_alike (slots_of c.args.parts.now.pool.names) (slots_of c.release_rows.new.pool.names) _ _
     (c.rows.ensures.rows ∙ c.in-Ok.ensures) c.release_rows.ensures.go)
     c.release_rows.ensures.form
-    (c.in-Ok-remove.ensures.remove c.index.result.now (slice_get_read _ _ _ _ refl c.in-Some.ensures.within c.index.ensures))
+    (c.in-Ok-remove.ensures.remove c.index.result.now (slice_get_read _ _ _ _ refl c.in_ok-at.ensures.within c.index.ensures))
     (ap (λ v. v.items) c.in-Ok-remove.ensures.restores) c.in-Ok-remove.ensures.sequence
 
 pub returns-in-Err-NoPath : goal.returns-in-Err-NoPath
@@ -32,10 +34,10 @@ returns-in-Err-NoPath g c = runs_alike_refused _ _ _ _ refl refl refl refl refl 
           (λ v. v.items) c.in-Err-NoPath.ensures.restores;
       sequence = c.in-Err-NoPath.ensures.sequence;
     })
-    (no_path _ c.args.session c.args.path.now c.in-Some.at c.index.result.now c.in-Some.ensures.index
-    (slice_get_read _ _ _ _ refl c.in-Some.ensures.within c.index.ensures)
+    (no_path _ c.args.session c.args.path.now c.in_ok-at.at c.index.result.now c.in_ok-at.ensures.found
+    (slice_get_read _ _ _ _ refl c.in_ok-at.ensures.within c.index.ensures)
     (c.in-Err-NoPath.ensures.no_path c.index.result.now c.in-Err-NoPath.field-0-is
-    (slice_get_read _ _ _ _ refl c.in-Some.ensures.within c.index.ensures)))
+    (slice_get_read _ _ _ _ refl c.in_ok-at.ensures.within c.index.ensures)))
 
 pub returns : goal.returns
 returns g c = runs_alike_memory _ _ _ refl refl refl refl refl refl

@@ -1,16 +1,21 @@
-use Rattle.std.proofs.Common.{◌∙◌, sym}
-use Rattle.store_reads.proofs.Loading.{on_ok, loaded_backup, refused_host, refused_number}
+use Rattle.backup_views.specs.Kept.{rows_of}
+use Rattle.store_reads.proofs.Loading.{on_ok, if_err, loaded_backup, reads_tree, backup_fault}
 use Rattle.store_reads.proofs.load.load_backup.Goals as goal
 
-pub returns-in-None-clause-refusal : goal.returns-in-None-clause-refusal
-returns-in-None-clause-refusal g c = refused_host c.args.parts.now _ c.args.number (sym c.in-None.is ∙ c.host_at.ensures.value)
-
-pub returns-in-None-line_at-clause-refusal : goal.returns-in-None-line_at-clause-refusal
-returns-in-None-line_at-clause-refusal g c =
-    refused_number c.args.parts.now _ _ c.in-Some.host (sym c.in-Some.is ∙ c.host_at.ensures.value) c.in-None-line_at.ensures.value
-
-pub returns-clause-loaded : goal.returns-clause-loaded
-returns-clause-loaded g c =
+pub returns-in-Ok-clause-loaded : goal.returns-in-Ok-clause-loaded
+returns-in-Ok-clause-loaded g c =
     on_ok c.load.result
-    (loaded_backup c.args.parts.now c.load.new.parts c.args.name.now c.args.number c.in-Some.host c.in-Some-line_at.line
-    (sym c.in-Some.is ∙ c.host_at.ensures.value) c.in-Some-line_at.ensures.value c.load.ensures.reads) c.load.ensures.has
+    (loaded_backup c.args.parts.now c.load.new.parts c.args.name.now c.args.number c.in-Ok.host c.in-Ok.line
+    c.in-Ok.ensures.host c.in-Ok.ensures.line c.load.ensures.reads) c.load.ensures.has
+
+pub returns-in-Ok-clause-read : goal.returns-in-Ok-clause-read
+returns-in-Ok-clause-read g c =
+    on_ok c.load.result
+    (reads_tree c.args.parts.now c.args.name.now c.args.number c.in-Ok.host c.in-Ok.line c.in-Ok.ensures.within
+    c.in-Ok.ensures.host c.in-Ok.ensures.line (rows_of c.load.new.parts.views.kept)) c.load.ensures.read
+
+pub returns-in-Ok-clause-damaged : goal.returns-in-Ok-clause-damaged
+returns-in-Ok-clause-damaged g c =
+    if_err c.load.result
+    (backup_fault c.args.parts.now c.args.name.now c.args.number c.in-Ok.host c.in-Ok.line c.in-Ok.ensures.within
+    c.in-Ok.ensures.host c.in-Ok.ensures.line) c.load.ensures.damaged

@@ -1,15 +1,17 @@
 use Rattle.std.proofs.Common.{refl}
 use Rattle.journal_view.specs.ViewLaws.{Quiet-still}
-use Rattle.store_parts.specs.RunLaws.{runs_refused, reads_still, counted_still}
-use Rattle.store_restores.proofs.Closes.{close_refused, runs_closed}
+use Rattle.store_parts.specs.RefusalLaws.{runs_broken_by}
+use Rattle.store_parts.specs.RefusedLaws.{runs_no_restore}
+use Rattle.store_parts.specs.RunLaws.{counted_still}
+use Rattle.store_restores.proofs.Closes.{no_restore_close, runs_closed}
 use Rattle.store_restores.proofs.closing.close_read.Goals as goal
 
-pub returns-in-None : goal.returns-in-None
-returns-in-None g c = runs_refused _ _ _ _ (reads_still _) (close_refused _ c.args.restore c.in-None.ensures.index)
-    (counted_still _ _ (λ e. e))
+pub returns-in_err-at : goal.returns-in_err-at
+returns-in_err-at g c = runs_broken_by _ _ _ _ _ _ c.from_residual.ensures.1 c.in_err-at.ensures.rule
+    (runs_no_restore _ _ _ c.in_err-at.ensures.none (no_restore_close c.args.restore))
 
 pub returns : goal.returns
-returns g c = runs_closed _ c.args.restore _ c.in-Some.at c.take_restore-closed.result c.in-Some.ensures.index
+returns g c = runs_closed _ c.args.restore _ c.in_ok-at.at c.take_restore-closed.result c.in_ok-at.ensures.found
     c.take_restore-closed.ensures.taken (Quiet-still _) refl refl refl refl _ c.rows.ensures.rows c.release_rows.ensures.go
     c.release_rows.ensures.form c.take_restore-closed.ensures.others c.take_restore-closed.ensures.dumps
     c.take_restore-closed.ensures.sequence (counted_still _ _ (λ e. e)) (λ e. e)

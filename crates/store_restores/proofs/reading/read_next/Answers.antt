@@ -1,29 +1,54 @@
-use Rattle.std.proofs.Common.{refl}
-use Rattle.store_parts.specs.RunLaws.{runs_refused, reads_still, counted_still}
-use Rattle.store_restores.proofs.Nexts.{there_is, next_refused, next_entry, next_memory, next_known}
+use Rattle.std.proofs.Common.{refl, ap}
+use Rattle.office_model.specs.declared.answer.Answer.TheVariants.{Next as NextAnswer}
+use Rattle.store_parts.specs.RefusalLaws.{runs_broken_by}
+use Rattle.store_parts.specs.RefusedLaws.{runs_no_restore}
+use Rattle.store_restores.proofs.Nexts.{there_is, no_restore_next, next_entry, next_memory, next_known, none_found, gives_found}
 use Rattle.store_restores.proofs.reading.read_next.Goals as goal
 
-pub returns-in-None : goal.returns-in-None
-returns-in-None g c = runs_refused _ _ _ _ (reads_still _) (next_refused _ c.args.restore c.in-None.ensures.index)
-    (counted_still _ _ (λ e. e))
+pub returns-in_err-at-clause-runs : goal.returns-in_err-at-clause-runs
+returns-in_err-at-clause-runs g c = runs_broken_by _ _ _ _ _ _ c.from_residual.ensures.1 c.in_err-at.ensures.rule
+    (runs_no_restore _ _ _ c.in_err-at.ensures.none (no_restore_next c.args.restore))
 
-pub returns-in-Ok : goal.returns-in-Ok
-returns-in-Ok g c =
-    let w = there_is c.args.parts.now.sessions.restores.items c.in-Some.at c.in-Some.ensures.within in
-    next_entry c.args.parts.now c.args.restore c.in-Some.at w.0 c.in-Some.ensures.index w.1 _
+pub returns-in-Ok-clause-runs : goal.returns-in-Ok-clause-runs
+returns-in-Ok-clause-runs g c =
+    let w = there_is c.args.parts.now.sessions.restores.items c.in_ok-at.at c.in_ok-at.ensures.within in
+    next_entry c.args.parts.now c.args.restore c.in_ok-at.at w.0 c.in_ok-at.ensures.found w.1 _
     (record { journal = refl; pool = refl; catalog = refl; counts = refl; views = refl; halted = refl })
     c.in-Entry.row (c.in-Entry.ensures.is w.0 w.1) (c.in-Ok.ensures.moves w.0 w.1) c.in-Ok.frame (c.in-Ok.ensures.frame w.0 w.1)
 
-pub returns-in-Err : goal.returns-in-Err
-returns-in-Err g c =
+pub returns-in-Err-clause-runs : goal.returns-in-Err-clause-runs
+returns-in-Err-clause-runs g c =
     next_memory c.args.parts.now c.args.restore _
     (record { journal = refl; pool = refl; catalog = refl; counts = refl; views = refl; halted = refl }) c.in-Err.ensures.err
 
-pub returns-in-Piece : goal.returns-in-Piece
-returns-in-Piece g c = c.give_piece.ensures c.args.restore c.in-Some.ensures.index
+pub returns-in-Piece-clause-runs : goal.returns-in-Piece-clause-runs
+returns-in-Piece-clause-runs g c = c.give_piece.ensures.runs c.args.restore c.in_ok-at.ensures.found
 
-pub returns-in-Wrong : goal.returns-in-Wrong
-returns-in-Wrong g c =
-    let w = there_is c.args.parts.now.sessions.restores.items c.in-Some.at c.in-Some.ensures.within in
-    next_known c.args.parts.now c.args.restore c.in-Some.at w.0 c.in-Some.ensures.index w.1 c.in-Wrong.content c.in-Wrong.digest
+pub returns-in-Wrong-clause-runs : goal.returns-in-Wrong-clause-runs
+returns-in-Wrong-clause-runs g c =
+    let w = there_is c.args.parts.now.sessions.restores.items c.in_ok-at.at c.in_ok-at.ensures.within in
+    next_known c.args.parts.now c.args.restore c.in_ok-at.at w.0 c.in_ok-at.ensures.found w.1 c.in-Wrong.content c.in-Wrong.digest
     (c.in-Wrong.ensures.is w.0 w.1) c.wrong_content.result c.wrong_content.ensures
+
+pub returns-in_err-at-clause-gives : goal.returns-in_err-at-clause-gives
+returns-in_err-at-clause-gives g c = λ at session found there. absurd (none_found c.in_err-at.ensures.none found)
+
+pub returns-in-Ok-clause-gives : goal.returns-in-Ok-clause-gives
+returns-in-Ok-clause-gives g c =
+    gives_found c.args.parts.now _ c.args.restore c.in_ok-at.at c.in_ok-at.ensures.found _ _ (λ session there. c.in-Entry.ensures.is session there)
+    (λ session there. (ap NextAnswer (c.in-Ok.ensures.frame session there), c.in-Ok.ensures.moves session there))
+
+pub returns-in-Err-clause-gives : goal.returns-in-Err-clause-gives
+returns-in-Err-clause-gives g c =
+    gives_found c.args.parts.now _ c.args.restore c.in_ok-at.at c.in_ok-at.ensures.found _ _ (λ session there. c.in-Entry.ensures.is session there)
+    (λ session there. (refl, c.in-Err.ensures.err))
+
+pub returns-in-Piece-clause-gives : goal.returns-in-Piece-clause-gives
+returns-in-Piece-clause-gives g c =
+    gives_found c.args.parts.now _ c.args.restore c.in_ok-at.at c.in_ok-at.ensures.found _ _ (λ session there. c.in-Piece.ensures.is session there)
+    c.give_piece.ensures.gives
+
+pub returns-in-Wrong-clause-gives : goal.returns-in-Wrong-clause-gives
+returns-in-Wrong-clause-gives g c =
+    gives_found c.args.parts.now _ c.args.restore c.in_ok-at.at c.in_ok-at.ensures.found _ _ (λ session there. c.in-Wrong.ensures.is session there)
+    (λ session there. (c.wrong_content.ensures, refl))
