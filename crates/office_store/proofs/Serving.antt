@@ -1,17 +1,20 @@
 -- From what the parts of a store do to what the store promises.
 use Rattle.std.specs.Prelude.{◌||◌}
-use Rattle.std.proofs.Common.{◌≡◌, Bool, false, true, Err, refl, sym, ap, ◌∙◌, subst}
+use Rattle.std.proofs.Common.{◌≡◌, ℕ, Bool, false, true, List, Option, None, Some, Err, refl, sym, ap, ◌∙◌, subst}
 use Rattle.std.proofs.lemmas.Bool.{false≢true, or_parts}
 use Rattle.disk_trait.specs.declared.disk.Disk.{Ghosts as DiskGhosts}
+use Rattle.attr_records.specs.Items.{content_of}
 use Rattle.pool_name.specs.declared.namer.Namer.{Ghosts as NamerGhosts}
 use Rattle.journal_view.specs.View.{FindsOnly}
 use Rattle.journal_view.specs.ViewLaws.{FindsOnly-still}
 use Rattle.office_model.specs.declared.event.Event.{Event}
-use Rattle.office_model.specs.declared.event.Event.TheVariants.{Reopen}
+use Rattle.office_model.specs.declared.event.Event.TheVariants.{Put, Reopen}
 use Rattle.office_model.specs.declared.refusal.Refusal.TheVariants.{Halted as HaltedReply, DiskFault}
 use Rattle.office_model.specs.Meaning.{Reply}
 use Rattle.office_model.specs.Office.{Office, Durable, Names}
-use Rattle.office_model.specs.Step.{State, Running, Halted, IsStep, meaning_of}
+use Rattle.office_model.specs.Step.{State, Running, Halted, IsHaltedReply, IsStep, meaning_of}
+use Rattle.office_model.specs.UsedNames.{AreHaltedNamesAfter}
+use Rattle.office_model.specs.events.Put.{name_change}
 use Rattle.store_parts.specs.States.{IsRunning, InState}
 use Rattle.store_parts.specs.Runs.{Steps, Runs}
 use Rattle.store_parts.specs.RunLaws.{counted_still}
@@ -29,10 +32,18 @@ reopening event e = absurd (false≢true e)
 pub no_reopening : (event : Event) (asked : Bool) → asked ≡ is_reopen event → asked ≡ false → event ≡ Reopen → ⊥
 no_reopening event asked is no_one e = false≢true (sym no_one ∙ is ∙ ap is_reopen e)
 
+-- the names stay, whatever a put holds
+put_stays : (a b : Durable) (names : Names) (content : Option (List ℕ))
+    → IsHaltedReply a b (name_change content) (Err HaltedReply) (Halted a b names)
+    × AreHaltedNamesAfter names (name_change content) (Err HaltedReply) names
+put_stays a b names None = ((refl, refl, refl), refl)
+put_stays a b names (Some content) = ((refl, refl, refl), refl)
+
 -- a halted office stays, and answers Halted
 stays_halted : (a b : Durable) (names : Names) (event : Event) → is_reopen event ≡ false
     → IsStep (Halted a b names) event (Err HaltedReply) (Halted a b names)
 stays_halted a b names Reopen other = absurd (false≢true (sym other))
+stays_halted a b names (Put session path item) other = put_stays a b names (content_of item)
 stays_halted a b names event other = ((refl, refl, refl), refl)
 
 module _ {D N S : Type 0} {d : DiskGhosts D} {n : NamerGhosts N S} where
