@@ -1,6 +1,6 @@
 -- The files after a planned commit stand for the office after it.
 --     stored_after      for the office that the parts hold
-use Rattle.std.specs.Prelude.{◌≡◌, ℕ, ◌≤◌, true, false, not, List, length, Option, Some, None, is_some, slice_get, slice_set}
+use Rattle.std.specs.Prelude.{◌≡◌, ℕ, ◌≤◌, true, false, not, List, ◌++◌, length, Option, Some, None, is_some, slice_get, slice_set}
 use Rattle.std.proofs.Common.{refl, sym, ap, ◌∙◌, subst, arith}
 use Rattle.std.proofs.lemmas.Option.{slice_get_within}
 use Rattle.disk_trait.specs.declared.ids.PoolId.{PoolId}
@@ -48,14 +48,14 @@ use Rattle.store_parts.specs.States.{slots, IsRunning}
 use Rattle.store_parts.specs.StoredLaws.{contents_written}
 use Rattle.store_commits.specs.declared.plan.Plan.{Plan}
 use Rattle.store_commits.specs.AcceptLaws.{with_added}
-use Rattle.store_commits.specs.Ids.{ids_in}
+use Rattle.store_commits.specs.Ids.{ids_in, given_ids, all_given}
 use Rattle.store_commits.specs.Former.{dropped_of, IsFolded}
 use Rattle.store_commits.specs.Planned.{IsPlanned}
-use Rattle.store_commits.specs.Written.{written}
+use Rattle.store_commits.specs.Written.{host_part}
 use Rattle.store_commits.specs.WrittenLaws.{IsFormer, AreOfIndex, at_other, at_pool_index, at_pool_bucket}
-use Rattle.store_commits.specs.CommittedLaws.{number_is, former_is, planned_changes, of_index}
+use Rattle.store_commits.specs.CommittedLaws.{number_is, former_is, index_listed, changes_are, planned_changes, of_index}
 use Rattle.store_commits.specs.HostLaws.{new_stored}
-use Rattle.store_commits.specs.BoundLaws.{length-map_values}
+use Rattle.office_changes.specs.BoundLaws.{length-map_values}
 use Rattle.store_commits.specs.LineLaws.{index_committed}
 use Rattle.store_commits.specs.HostFileLaws.{index_after}
 use Rattle.store_commits.specs.HostAfterLaws.{IsBuiltOf, HostAfter, host_after}
@@ -92,7 +92,7 @@ module _ {D N S : Type 0} {d : DiskGhosts D} {n : NamerGhosts N S} where
         ∙ ap (λ (k : Known). slice_get k.hosts number) at.catalog_is ∙ index_there office.hosts number m.host m.here)
 
     file_is : planned.lines.file ≡ number
-    file_is = planned.judged.file ∙ ap (λ (i : HostIndex). i.host) index_is
+    file_is = planned.judged.file ∙ m.is.host
 
     next_is : planned.lines.line.number ≡ m.host.next
     next_is = number_is parts session now plan planned ∙ ap (λ (i : HostIndex). i.next) index_is
@@ -130,13 +130,17 @@ module _ {D N S : Type 0} {d : DiskGhosts D} {n : NamerGhosts N S} where
     holds = subst (HoldsCatalog at.all) (sym at.catalog_is)
         (stands_catalog n.digest_of (index_of (slots parts)) at.backups at.all office.durable at.stands)
 
-    index_built : IsHostFile (index_of_host number new) (Some planned.built.files.index)
-    index_built = subst (λ (i : HostIndex). IsHostFile i (Some planned.built.files.index))
+    -- what the file of the host's index gets
+    abbrev bytes : Option (List ℕ)
+    bytes = (index_listed parts session now plan planned).0
+
+    index_built : IsHostFile (index_of_host number new) bytes
+    index_built = subst (λ (i : HostIndex). IsHostFile i bytes)
         ((λ j. with_line (line_is j) (not (is_some (dropped_is j))) (index_is j)) ∙ index_committed m.host m.dump now number)
         (index_after at.all parts.catalog session.host (with_line planned.lines.line (not (is_some planned.lines.dropped))) planned.judged.index
-        plan.catalog planned.built.files.index holds planned.judged.here planned.built.proposes planned.built.index)
+        planned.built.listed bytes holds planned.judged.here planned.built.lists (index_listed parts session now plan planned).1)
 
-    built : IsBuiltOf (told parts.journal) number m.host m.dump now rows planned.folding had.0 planned.counts planned.built.files
+    built : IsBuiltOf (told parts.journal) number m.host m.dump now rows planned.folding had.0 planned.counts bytes planned.built.files
     built = record {
       index = index_built;
       table = planned.built.table;
@@ -156,11 +160,11 @@ module _ {D N S : Type 0} {d : DiskGhosts D} {n : NamerGhosts N S} where
     abbrev pooled : List Change
     pooled = planned.built.pooled
 
-    changes_are : plan.changes ≡ written pooled number m.host.next planned.built.files
-    changes_are = planned.built.changes ∙ (λ j. written pooled (file_is j) (next_is j) planned.built.files)
+    all_changes : plan.changes ≡ pooled ++ host_part number m.host.next bytes planned.built.files
+    all_changes = changes_are parts session now plan planned ∙ (λ j. pooled ++ host_part (m.is.host j) (next_is j) bytes planned.built.files)
 
-    image_is : applied (written pooled number m.host.next planned.built.files) at.all ≡ image
-    image_is = ap (λ (changes : List Change). applied changes at.all) (sym changes_are)
+    image_is : applied (pooled ++ host_part number m.host.next bytes planned.built.files) at.all ≡ image
+    image_is = ap (λ (changes : List Change). applied changes at.all) (sym all_changes)
 
     pooled_are : AreOfIndex pooled
     pooled_are = of_index parts.pool.in_one_file (index_of (slots parts)) (index_of (relisted_after plan.index (slots parts))) pooled planned.built.leads
@@ -201,26 +205,30 @@ module _ {D N S : Type 0} {d : DiskGhosts D} {n : NamerGhosts N S} where
     host_then : HostAfter (IsListed next) (contents_of image) image number m.host new planned.counts found.0
     host_then = subst (λ (i : Files). HostAfter (IsListed next) (contents_of image) i number m.host new planned.counts found.0) image_is
         (host_after (IsListed (index_of (slots parts))) (IsListed next) (contents_of at.all) (contents_of image) listed_still (told parts.journal)
-        at.all at.told_is number m.host m.dump now rows planned.folding had.0 planned.counts pooled planned.built.files pooled_are built
+        at.all at.told_is number m.host m.dump now rows planned.folding had.0 planned.counts pooled bytes planned.built.files pooled_are built
         (at.sound.hosts.each number m.host m.here).backups.numbered sound_new.numbers few sound_new.backups.numbered fresh none_else
         found.0 found.2 had_counted)
 
     stays : (file : FileId) → is_metadata file ≡ true → is_of_host number file ≡ false → is_of_index file ≡ false → image file ≡ at.all file
     stays file metadata out none =
         ap (λ (i : Files). i file) (sym image_is)
-        ∙ at_other pooled number m.host.next planned.built.files at.all pooled_are built.is_former file out none
+        ∙ at_other pooled number m.host.next bytes planned.built.files at.all pooled_are built.is_former file out none
 
     tells : TellsBuckets next image
     tells = subst (λ (i : Files). TellsBuckets next i) image_is (record {
-      none = at_pool_index pooled number m.host.next planned.built.files at.all pooled_are built.is_former ∙ was.none;
+      none = at_pool_index pooled number m.host.next bytes planned.built.files at.all pooled_are built.is_former ∙ was.none;
       each = λ byte within.
           subst (TellsByte byte next)
-          (sym (at_pool_bucket pooled number m.host.next planned.built.files at.all pooled_are built.is_former byte)) (was.each byte within);
+          (sym (at_pool_bucket pooled number m.host.next bytes planned.built.files at.all pooled_are built.is_former byte)) (was.each byte within);
       within = was.within;
     })
       where
+        added : plan.index.added.items ≡ ids_in rows
+        added = planned.built.of_ids.added_are
+            ∙ all_given (slots parts) rows (given_ids (slots parts) (contents_of at.all) rows m.is.tree_rows.told)
+
         relisted : relisted_after plan.index (slots parts) ≡ with_added (ids_in rows) (slots parts)
-        relisted = λ j. relisted_by (planned.built.of_ids.added_are j) (planned.built.of_ids.marked_are j) (planned.built.of_ids.unmarked_are j)
+        relisted = λ j. relisted_by (added j) (planned.built.of_ids.marked_are j) (planned.built.of_ids.unmarked_are j)
             (planned.built.of_ids.removed_are j) (slots parts)
 
         was : TellsBuckets next (applied pooled at.all)

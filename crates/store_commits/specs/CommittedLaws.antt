@@ -1,8 +1,9 @@
 -- What a planned commit leads to, for an office that the parts hold.
 --     Found      the dump and the host of the model that a plan is of
 --     if_some      a line that is dropped is the newest, and does not stay filled
+--     index_listed, changes_are      the host's changes among those of a plan
 --     planned_changes      the changes of a plan name metadata files, none twice
-use Rattle.std.specs.Prelude.{◌≡◌, ℕ, zero, suc, ◌+◌, ◌-◌, ◌<◌, Bool, true, false, List, [], ◌∷◌, length, Option, Some, None, slice_get, if◌then◌else◌}
+use Rattle.std.specs.Prelude.{◌≡◌, ℕ, zero, suc, ◌+◌, ◌-◌, ◌<◌, Bool, true, false, List, [], ◌∷◌, ◌++◌, length, Option, Some, None, slice_get, if◌then◌else◌}
 use Rattle.std.proofs.Common.{refl, sym, ap, ◌∙◌, subst, inl, inr, arith}
 use Rattle.disk_trait.specs.declared.ids.FileId.{FileId}
 use Rattle.disk_trait.specs.declared.disk.Disk.{Ghosts as DiskGhosts}
@@ -24,7 +25,8 @@ use Rattle.store_commits.specs.declared.former.Folding.{Folding}
 use Rattle.store_commits.specs.declared.plan.Plan.{Plan}
 use Rattle.store_commits.specs.Former.{last_line, if_dropped, dropped_of, IsFolded}
 use Rattle.store_commits.specs.Planned.{IsFormerFile, IsPlanned}
-use Rattle.store_commits.specs.WrittenLaws.{IsFormer, AreOfIndex, are_written}
+use Rattle.store_commits.specs.Written.{index_change, host_part, written}
+use Rattle.store_commits.specs.WrittenLaws.{IsFormer, AreOfIndex, one_index, written_is, are_written}
 
 -- ---- numbers of lines
 
@@ -89,8 +91,19 @@ module _ {D N S : Type 0} {d : DiskGhosts D} {n : NamerGhosts N S} where
         (dropped_below planned.judged.index.rules planned.judged.index.next planned.judged.index.lines line planned.judged.sound
         (sym planned.judged.dropped ∙ e))))
 
+    -- the change of the host's index
+    pub index_listed : (index : Option (List ℕ)) × (planned.built.listed ≡ index_change session.host index ∷ [])
+    index_listed = one_index planned.built.listed session.host planned.built.lists.named
+
+    pub changes_are : plan.changes
+        ≡ planned.built.pooled ++ host_part session.host planned.lines.line.number index_listed.0 planned.built.files
+    changes_are =
+        planned.built.changes
+        ∙ ap (λ (h : ℕ). written planned.built.pooled planned.built.listed h planned.lines.line.number planned.built.files) planned.judged.file
+        ∙ written_is planned.built.pooled planned.built.listed session.host planned.lines.line.number index_listed.0 planned.built.files index_listed.1
+
     pub planned_changes : AreChanges plan.changes
     planned_changes =
-        subst AreChanges (sym planned.built.changes)
-        (are_written planned.built.pooled planned.lines.file planned.lines.line.number planned.built.files (λ file. None)
+        subst AreChanges (sym changes_are)
+        (are_written planned.built.pooled session.host planned.lines.line.number index_listed.0 planned.built.files (λ file. None)
         (of_index _ _ _ planned.built.pooled planned.built.leads) former_is)

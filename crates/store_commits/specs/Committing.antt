@@ -30,8 +30,9 @@ use Rattle.store_commits.specs.AcceptLaws.{with_added}
 
 -- the dump at a place becomes its host's newest backup
 abbrev pub office_after : Office → ℕ → Dump → Host → ℕ → Office
-office_after office place dump host now = with_dumps (with_pool (with_hosts office (slice_set office.hosts dump.host (with_commit host dump now)))
-    (with_tree office.pool dump.tree)) (remove office.dumps place)
+office_after office place dump host now =
+    with_dumps (with_pool (with_hosts office (slice_set office.hosts dump.host (with_commit host dump now))) (with_tree office.pool dump.tree))
+    (remove office.dumps place)
 
 module _ {D N S : Type 0} {d : DiskGhosts D} {n : NamerGhosts N S} where
   -- the dump of the model that an open dump at a place is, and its host, which has a number left

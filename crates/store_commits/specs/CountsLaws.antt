@@ -18,7 +18,7 @@ use Rattle.ref_counts.specs.CountsFile.{counts_file}
 use Rattle.office_files.specs.Layouts.{IsCountsFile}
 use Rattle.store_parts.specs.Held.{AreCounts}
 use Rattle.store_commits.specs.declared.former.Folding.{Folding}
-use Rattle.store_commits.specs.BoundLaws.{few_occurrences}
+use Rattle.office_changes.specs.BoundLaws.{few_occurrences}
 use Rattle.store_commits.specs.HostLaws.{new_stored}
 use Rattle.store_commits.specs.Planned.{counted_of, IsCountedBy}
 

@@ -1,9 +1,8 @@
 -- A plan that was made, or refused, is no step yet.
 --     planned_read      of parts that were planned with, and are as before but for the journal, the plan is one of theirs
 --     runs_no_session, runs_not_planned      refusals before anything is written
-use Rattle.std.specs.Prelude.{◌≡◌, ◌⊎◌, ℕ, zero, suc, ◌<◌, List, [], ◌∷◌, length, Option, Some, None, Ok, Err, IsErrOf, slice_get}
-use Rattle.std.specs.List.{position_from}
-use Rattle.std.proofs.Common.{refl, sym, ap, ◌∙◌, subst, inl, inr, arith}
+use Rattle.std.specs.Prelude.{◌≡◌, ℕ, zero, suc, ◌<◌, List, [], ◌∷◌, length, Option, Some, None, Err, IsErrOf, slice_get}
+use Rattle.std.proofs.Common.{refl, sym, ◌∙◌, subst, arith}
 use Rattle.fault_counts.specs.Counts.{Counted}
 use Rattle.disk_trait.specs.declared.disk.Disk.{Ghosts as DiskGhosts}
 use Rattle.disk_trait.specs.Files.{Files}
@@ -14,57 +13,31 @@ use Rattle.merge_view.specs.Views.{Rows}
 use Rattle.ref_counts.specs.Numbers.{Items}
 use Rattle.open_sessions.specs.declared.sessions.OpenDump.{OpenDump}
 use Rattle.open_sessions.specs.SessionLaws.{dump_index-sessions}
-use Rattle.office_model.specs.Session.{is_same_session}
 use Rattle.office_model.specs.declared.session.SessionName.{SessionName}
 use Rattle.office_model.specs.declared.event.Event.TheVariants.{Commit}
 use Rattle.office_model.specs.declared.refusal.BrokenRule.TheVariants.{NoSession}
 use Rattle.office_model.specs.declared.refusal.Refusal.{Refusal}
-use Rattle.office_model.specs.declared.refusal.Refusal.TheVariants.{Broken, DiskFault, Memory}
+use Rattle.office_model.specs.declared.refusal.Refusal.TheVariants.{Broken, DiskFault}
 use Rattle.office_model.specs.Office.{Office, Names, dump_index}
-use Rattle.office_model.specs.Meaning.{Carried, Judged, ReadsAndCommits}
-use Rattle.office_model.specs.Step.{Running, IsStep, MayFault, meaning_of}
-use Rattle.office_model.specs.History.{IsUndamaged}
-use Rattle.office_model.specs.UsedNames.{AreDistinct}
 use Rattle.office_files.specs.Pooled.{contents_of}
 use Rattle.store_parts.specs.declared.parts.StoreParts.{StoreParts}
 use Rattle.store_parts.specs.Held.{given}
 use Rattle.store_parts.specs.States.{slots, IsRunning}
 use Rattle.store_parts.specs.Runs.{Runs}
-use Rattle.store_parts.specs.RunLaws.{running_reads, crash_quiet, runs_refused, reads_still, reads_behind, counted_still}
-use Rattle.store_parts.specs.StepLaws.{step_memory}
+use Rattle.store_parts.specs.RunLaws.{reads_behind}
+use Rattle.store_parts.specs.RefusedLaws.{runs_no_dump, runs_not_planned as runs_plan_refused}
 use Rattle.store_commits.specs.declared.former.Folding.{Folding}
 use Rattle.store_commits.specs.declared.judge.Lines.{Lines}
 use Rattle.store_commits.specs.declared.plan.Plan.{Plan}
 use Rattle.store_commits.specs.Former.{IsFolded}
 use Rattle.store_commits.specs.Planned.{IsBuilt, IsPlanned, IsPlanFault}
 use Rattle.store_commits.specs.ReadyLaws.{running_ready}
-
--- where memory looks
-abbrev pub place_of : List OpenDump → SessionName → Option ℕ
-place_of dumps name = position_from (λ dump. is_same_session dump.name name) 0 dumps
+use Rattle.store_commits.specs.Tables.{place_of}
 
 pub there_within : {A : Type 0} (xs : List A) (i : ℕ) → i < length xs → (x : A) × (slice_get xs i ≡ Some x)
 there_within [] i within = absurd (omega (arith, within))
 there_within (x ∷ xs) zero within = (x, refl)
 there_within (x ∷ xs) (suc i) within = there_within xs i (omega (arith, within))
-
--- a fault in reading leaves the office
-may_fault : (judged : Judged Carried) → MayFault ReadsAndCommits judged
-may_fault (Ok carried) = tt
-may_fault (Err rule) = refl
-
-step_planned : (office : Office) (names : Names) (name : SessionName) (now : ℕ) (refusal : Refusal) → AreDistinct names.used
-    → (refusal ≡ DiskFault) ⊎ (refusal ≡ Memory) → IsStep (Running office names) (Commit name now) (Err refusal) (Running office names)
-step_planned office names name now refusal distinct (inl e) =
-    subst (λ (r : Refusal). IsStep (Running office names) (Commit name now) (Err r) (Running office names)) (sym e)
-    ((may_fault ((meaning_of (Commit name now)).carried office names), tt, refl), refl)
-step_planned office names name now refusal distinct (inr e) =
-    subst (λ (r : Refusal). IsStep (Running office names) (Commit name now) (Err r) (Running office names)) (sym e)
-    (step_memory office names (Commit name now) distinct)
-
-undamaged_planned : (refusal : Refusal) → (refusal ≡ DiskFault) ⊎ (refusal ≡ Memory) → IsUndamaged (Err refusal)
-undamaged_planned refusal (inl e) = subst (λ (r : Refusal). IsUndamaged (Err r)) (sym e) tt
-undamaged_planned refusal (inr e) = subst (λ (r : Refusal). IsUndamaged (Err r)) (sym e) tt
 
 module _ {D N S : Type 0} {d : DiskGhosts D} {n : NamerGhosts N S} where
   pub place_is : (old : StoreParts D N S d n) (name : SessionName) (place : Option ℕ) → place ≡ place_of old.sessions.dumps.items name
@@ -74,9 +47,7 @@ module _ {D N S : Type 0} {d : DiskGhosts D} {n : NamerGhosts N S} where
 
   pub runs_no_session : (old : StoreParts D N S d n) (name : SessionName) (now : ℕ) → None ≡ place_of old.sessions.dumps.items name
       → Runs old (Commit name now) (Err (Broken NoSession)) old
-  runs_no_session old name now e =
-      runs_refused old old (Commit name now) NoSession (reads_still old)
-      (λ office names at. rw (place_is old name None e office names at) refl) (counted_still _ _ (λ e. e))
+  runs_no_session old name now e = runs_no_dump old (Commit name now) name e (λ office names none. rw none refl)
 
   built_read : (old : StoreParts D N S d n) (journal : Journal D d) (host : ℕ) (lines : Lines) (folding : Option Folding) (counts : Items)
       (rows : Rows) (plan : Plan) → IsBuilt old host lines folding counts rows plan
@@ -86,15 +57,15 @@ module _ {D N S : Type 0} {d : DiskGhosts D} {n : NamerGhosts N S} where
     host_is = b.host_is;
     rows_are = b.rows_are;
     counts_are = b.counts_are;
-    proposes = b.proposes;
+    after_is = b.after_is;
+    listed = b.listed;
+    lists = b.lists;
     fits = b.fits;
     pooled = b.pooled;
     of_ids = b.of_ids;
-    given = b.given;
     leads = b.leads;
     files = b.files;
     changes = b.changes;
-    index = b.index;
     table = b.table;
     former = b.former;
     counted = b.counted;
@@ -123,20 +94,5 @@ module _ {D N S : Type 0} {d : DiskGhosts D} {n : NamerGhosts N S} where
       → Runs old (Commit name now) (Err refusal) mid
   runs_not_planned old mid name now place refusal within quiet others kind counted =
       let w = there_within old.sessions.dumps.items place within in
-      let reads = reads_behind old mid quiet others in
-      record {
-        steps = λ office names at. record {
-          next = Running office names;
-          step = step_planned office names name now refusal at.used.distinct
-              (kind w.0 w.1 at.all at.told_is (running_ready old place w.0 office names at w.1));
-          undamaged = undamaged_planned refusal (kind w.0 w.1 at.all at.told_is (running_ready old place w.0 office names at w.1));
-          in_state = running_reads old mid office names at reads;
-        };
-        crash = λ office names at. crash_quiet old mid office names at reads ((meaning_of (Commit name now)).carried office names);
-        in_kind = tt;
-        counted = record {
-          later = counted.later;
-          rose = λ e. counted.rose (let same : refusal ≡ DiskFault = cc in ap (λ (r : Refusal). Err r) same);
-          stays = λ not. counted.stays (λ e. not (let same : refusal ≡ DiskFault = cc in ap (λ (r : Refusal). Err r) same));
-        };
-      }
+      runs_plan_refused old mid (Commit name now) refusal (reads_behind old mid quiet others) (λ office names at. refl)
+      (λ office names at. kind w.0 w.1 at.all at.told_is (running_ready old place w.0 office names at w.1)) counted

@@ -1,6 +1,10 @@
 -- What reading the former newest's table comes to.
-use Rattle.std.specs.Prelude.{◌≡◌, ℕ, List, Option, Some}
-use Rattle.std.proofs.Common.{refl, sym, ap, ◌∙◌, subst, inl, inr}
+--     fold_fault, fold_memory      a fault of reading it, and want of memory
+--     folded_line, folded_some      what was read
+use Rattle.std.specs.Prelude.{◌≡◌, ℕ, Option, Some, Result, Ok, Err, IfErr}
+use Rattle.std.specs.Result.{IsErrAnd}
+use Rattle.std.proofs.Common.{refl, sym, ◌∙◌, subst}
+use Rattle.disk_trait.specs.declared.ids.FileId.{FileId}
 use Rattle.disk_trait.specs.declared.ids.FileId.TheVariants.{Table as TableFile}
 use Rattle.disk_trait.specs.Files.{Files}
 use Rattle.backup_rules.specs.declared.lines.Line.{Line}
@@ -10,24 +14,35 @@ use Rattle.backup_views.specs.Faults.{SaysDamaged}
 use Rattle.backup_views.specs.declared.fault.ViewFault.{ViewFault}
 use Rattle.backup_views.specs.declared.fault.ViewFault.TheVariants as V
 use Rattle.office_model.specs.declared.refusal.Refusal.{Refusal}
+use Rattle.office_model.specs.declared.refusal.Refusal.TheVariants as R
+use Rattle.store_parts.specs.Refusals.{refusal_of_view}
 use Rattle.store_commits.specs.declared.former.Folding.{Folding}
-use Rattle.store_commits.specs.Former.{IsFoldedLine, IsFolded, IsReadRefusal, IsFoldFault}
+use Rattle.store_commits.specs.Former.{IsFoldedLine, IsFolded, IsFoldFault}
 
-pub fold_fault : (told : Option Files) (host number : ℕ) (fault : ViewFault) (refusal : Refusal) → IsReadRefusal fault refusal
-    → SaysDamaged told host number fault → IsFoldFault told host number refusal
-fold_fault told host number V.Disk refusal is says = inl is
-fold_fault told host number V.Memory refusal is says = inr (inl is)
-fold_fault told host number (V.Damaged file found) refusal is says =
-    let w = says file found refl in
-    inr (inr (λ all rows e table.
-    w.1.none rows (subst (λ (b : Option (List ℕ)). IsTableFile rows b) (sym (w.1.there all e ∙ ap all w.0)) table)))
+fault_is : (told : Option Files) (host number : ℕ) (fault : ViewFault) → SaysDamaged told host number fault
+    → IsFoldFault told (TableFile host number) (refusal_of_view fault)
+fault_is told host number V.Disk says = tt
+fault_is told host number V.Memory says = tt
+fault_is told host number (V.Damaged file found) says = says file found refl
+
+pub fold_fault : (told : Option Files) (host number : ℕ) (fault : ViewFault) (refusal : Refusal) → refusal ≡ refusal_of_view fault
+    → SaysDamaged told host number fault → IsFoldFault told (TableFile host number) refusal
+fold_fault told host number fault refusal is says =
+    subst (IsFoldFault told (TableFile host number)) (sym is) (fault_is told host number fault says)
+
+pub fold_memory : {T : Type 0} (told : Option Files) (file : FileId) (reply : Result T Refusal) → IsErrAnd reply (λ refusal. refusal ≡ R.Memory)
+    → IfErr reply (IsFoldFault told file)
+fold_memory told file (Ok folding) is = absurd is
+fold_memory told file (Err refusal) is = subst (IsFoldFault told file) (sym is) tt
 
 pub folded_line : (told : Option Files) (host number : ℕ) (newer : Rows) (folding : Folding)
+    → ((all : Files) → told ≡ Some all → IsTableFile folding.rows (all (TableFile host number)))
     → ((all : Files) (rows : Rows) → told ≡ Some all → IsTableFile rows (all (TableFile host number)) → rows ≡ folding.rows)
     → folding.number ≡ number → folding.entries ≡ reverse folding.rows newer → (line : Line) → line.number ≡ number
     → IsFoldedLine told host line newer folding
-folded_line told host number newer folding only is entries line same = record {
+folded_line told host number newer folding there only is entries line same = record {
   number = is ∙ sym same;
+  there = λ all e. subst (λ (k : ℕ). IsTableFile folding.rows (all (TableFile host k))) (sym same) (there all e);
   entries = entries;
   only = λ all other e table.
       only all other e (subst (λ (k : ℕ). IsTableFile other (all (TableFile host k))) same table);

@@ -47,7 +47,7 @@ use Rattle.store_parts.specs.RunLaws.{reads_behind, runs_behind}
 use Rattle.store_parts.specs.WriteLaws.{LeadsTo, Holds, runs_write_refused, runs_written}
 use Rattle.store_dumps.specs.Claims.{LetsGo}
 use Rattle.store_commits.specs.declared.plan.Plan.{Plan}
-use Rattle.store_commits.specs.Ids.{ids_in}
+use Rattle.store_commits.specs.Ids.{ids_in, given_ids, all_given}
 use Rattle.store_commits.specs.Former.{dropped_of}
 use Rattle.store_commits.specs.Judged.{line_of}
 use Rattle.store_commits.specs.AcceptLaws.{with_added, claims_added}
@@ -57,7 +57,8 @@ use Rattle.store_commits.specs.RunningLaws.{running_committed}
 use Rattle.store_commits.specs.Committing.{office_after, IsMeant, meant, IsStoredAfter}
 use Rattle.store_commits.specs.AfterLaws.{stored_after}
 use Rattle.store_commits.specs.KnownLaws.{index_found, catalog_committed}
-use Rattle.store_commits.specs.EventLaws.{place_of, place_is, there_within, planned_read}
+use Rattle.store_commits.specs.Tables.{place_of}
+use Rattle.store_commits.specs.EventLaws.{place_is, there_within, planned_read}
 
 module _ {D N S : Type 0} {d : DiskGhosts D} {n : NamerGhosts N S} where
   -- the parts behind accept_commit
@@ -133,7 +134,7 @@ module _ {D N S : Type 0} {d : DiskGhosts D} {n : NamerGhosts N S} where
     catalog_after : (office : Office) (names : Names) (at : IsRunning old office names) (m : IsMeant old place session office names at)
         → known_after plan.catalog old.catalog ≡ known_of_office (office_after office place m.dump m.host now).durable
     catalog_after office names at m =
-        planned.built.proposes.after_is
+        planned.built.after_is
         ∙ ap (λ (h : ℕ). with_line_at h) m.is.host
         ∙ catalog_committed old.catalog office.durable m.dump.host m.host m.dump now planned.lines.line planned.lines.dropped
         at.catalog_is m.here
@@ -162,16 +163,21 @@ module _ {D N S : Type 0} {d : DiskGhosts D} {n : NamerGhosts N S} where
 
     module _ (mid new : StoreParts D N S d n) (done : Unit {0}) (w : Writes old plan.changes (Ok done) mid)
         (f : IsFinished place plan mid new) where
-      relisted_is : relisted_after plan.index (slots mid) ≡ with_added (ids_in session.tree) (slots old)
-      relisted_is = let o = planned.built.of_ids in
-          λ i. relisted_by (o.added_are i) (o.marked_are i) (o.unmarked_are i) (o.removed_are i) (slots_of (w.pool_same i).names)
+      relisted_is : (office : Office) (names : Names) → IsRunning old office names
+          → relisted_after plan.index (slots mid) ≡ with_added (ids_in session.tree) (slots old)
+      relisted_is office names at =
+          let o = planned.built.of_ids in
+          let m = meant old place session office names at there in
+          let added : plan.index.added.items ≡ ids_in session.tree =
+          o.added_are ∙ all_given (slots old) session.tree (given_ids (slots old) (contents_of at.all) session.tree m.is.tree_rows.told) in
+          λ i. relisted_by (added i) (o.marked_are i) (o.unmarked_are i) (o.removed_are i) (slots_of (w.pool_same i).names)
 
       go : (office : Office) (names : Names) (at : IsRunning old office names)
           → LetsGo (claims_of_dump session) (with_added (ids_in session.tree) (slots old)) (slots new)
       go office names at =
-          subst (λ s. LetsGo (claims_of_dump session) s (slots new)) relisted_is
+          subst (λ s. LetsGo (claims_of_dump session) s (slots new)) (relisted_is office names at)
           (f.pool session (ap (λ (s : Sessions S). slice_get s.dumps.items place) w.sessions_same ∙ there) planned.built.rows_are
-          (λ id. enough id (ap (λ s. claims_of (s id)) relisted_is ∙ claims_added (ids_in session.tree) (slots old) id)))
+          (λ id. enough id (ap (λ s. claims_of (s id)) (relisted_is office names at) ∙ claims_added (ids_in session.tree) (slots old) id)))
         where
           enough : (id : PoolId) → claims_of (relisted_after plan.index (slots mid) id) ≡ claims_of (slots old id)
               → claims_of_dump session id ≤ claims_of (relisted_after plan.index (slots mid) id)

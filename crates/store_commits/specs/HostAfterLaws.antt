@@ -34,11 +34,11 @@ use Rattle.store_commits.specs.declared.files.HostFiles.{HostFiles}
 use Rattle.store_commits.specs.declared.former.Folding.{Folding}
 use Rattle.store_commits.specs.Former.{dropped_of, IsFolded}
 use Rattle.store_commits.specs.Planned.{IsCountedBy, IsFormerFile}
-use Rattle.store_commits.specs.Written.{written}
+use Rattle.store_commits.specs.Written.{host_part}
 use Rattle.store_commits.specs.WrittenLaws.{IsFormer, AreOfIndex, at_host, at_counts}
 use Rattle.store_commits.specs.HostLaws.{HasLast, ends, new_stored, IsWritten, host_further, none_beyond}
 use Rattle.store_commits.specs.LineLaws.{dropped_newest}
-use Rattle.store_commits.specs.BoundLaws.{few_counted}
+use Rattle.office_changes.specs.BoundLaws.{few_counted}
 use Rattle.store_commits.specs.CountsLaws.{IsFormerFolding, counts_first, counts_further, counts_written}
 use Rattle.store_commits.specs.HostFileLaws.{table_after, folding_of, former_after, others_after, others_first}
 
@@ -61,8 +61,8 @@ still_at part (z ∷ xs) x x' y same (suc i) b e = still_at part xs x x' y same 
 
 -- the files of a host for a dump with these rows
 pub record IsBuiltOf (told : Option Files) (number : ℕ) (host : Host) (dump : Dump) (now : ℕ) (rows : Rows) (folding : Option Folding)
-    (old_items items : Items) (files : HostFiles) : Type 0 where
-  pub index : IsHostFile (index_of_host number (with_commit host dump now)) (Some files.index)
+    (old_items items : Items) (bytes : Option (List ℕ)) (files : HostFiles) : Type 0 where
+  pub index : IsHostFile (index_of_host number (with_commit host dump now)) bytes
   pub table : IsTable Second rows × (files.table ≡ table_file Second rows)
   pub counts : IsCounts items × (files.counts ≡ counts_file number items)
   pub former : IsFormerFile folding files.former
@@ -86,28 +86,28 @@ pub record HostAfter (given : PoolId → Type 0) (contents : PoolId → List ℕ
 module _ (given given' : PoolId → Type 0) (contents contents' : PoolId → List ℕ)
     (same : (id : PoolId) → given id → given' id × (contents id ≡ contents' id)) (told : Option Files) (all : Files) (is_told : told ≡ Some all)
     (number : ℕ) (host : Host) (dump : Dump) (now : ℕ) (rows : Rows) (folding : Option Folding)
-    (old_items items : Items) (pooled : List Change)
-    (files : HostFiles) (of_index : AreOfIndex pooled) (built : IsBuiltOf told number host dump now rows folding old_items items files)
+    (old_items items : Items) (pooled : List Change) (bytes : Option (List ℕ))
+    (files : HostFiles) (of_index : AreOfIndex pooled) (built : IsBuiltOf told number host dump now rows folding old_items items bytes files)
     (before : AreNumbered host.next host.backups)
     (limit : (with_commit host dump now).next ≤ number_limit) (few : length rows ≤ 1048576)
     (numbered : AreNumbered (with_commit host dump now).next (with_commit host dump now).backups)
     (fresh : IsShown given' contents' (new_backup host dump now) (new_stored rows))
     (none : (n : ℕ) → is_some (backup_index host.backups n) ≡ false → all (F.Table number n) ≡ None) where
   abbrev image : Files
-  image = applied (written pooled number host.next files) all
+  image = applied (pooled ++ host_part number host.next bytes files) all
 
   abbrev new : Host
   new = with_commit host dump now
 
   index : IsHostFile (index_of_host number new) (image (F.Host number))
-  index = subst (IsHostFile (index_of_host number new)) (sym (at_host pooled number host.next files all of_index built.is_former)) built.index
+  index = subst (IsHostFile (index_of_host number new)) (sym (at_host pooled number host.next bytes files all of_index built.is_former)) built.index
 
   table : IsTableFile rows (image (F.Table number host.next))
-  table = table_after pooled number host.next files all of_index built.is_former rows built.table.0 built.table.1
+  table = table_after pooled number host.next bytes files all of_index built.is_former rows built.table.0 built.table.1
 
   counts_at : (count : PoolId → ℕ) → IsCountsFile number count (Some (counts_file number items)) → IsCountsFile number count (image (F.Counts number))
   counts_at count = subst (IsCountsFile number count)
-      (sym (at_counts pooled number host.next files all of_index built.is_former ∙ ap (λ (b : List ℕ). Some b) built.counts.1))
+      (sym (at_counts pooled number host.next bytes files all of_index built.is_former ∙ ap (λ (b : List ℕ). Some b) built.counts.1))
 
   -- the first backup
   module _ (shown : List StoredBackup) (stands : StandsHost given contents all number host shown) (counted : AreCounts old_items shown)
@@ -146,7 +146,7 @@ module _ (given given' : PoolId → Type 0) (contents contents' : PoolId → Lis
           (counts_written number items (new_stored rows ∷ []) built.counts.0 counted_first));
       counted = counted_first;
       beyond = λ n e.
-          others_first pooled number host.next files all of_index built.is_former folding n none_folded built.former (not_found n e)
+          others_first pooled number host.next bytes files all of_index built.is_former folding n none_folded built.former (not_found n e)
           ∙ none n (ap (λ (b : List Backup). is_some (backup_index b n)) was);
       still = λ i b s e f. nothing i b (ap (λ (b : List Backup). slice_get b i) (sym was) ∙ e);
     }
@@ -210,10 +210,10 @@ module _ (given given' : PoolId → Type 0) (contents contents' : PoolId → Lis
     is_written = record {
       index = index;
       table = table;
-      former = former_after pooled number host.next files all of_index built.is_former told newest.line stays last.rows rows folding table_last
+      former = former_after pooled number host.next bytes files all of_index built.is_former told newest.line stays last.rows rows folding table_last
           built.former folded fold (λ e. omega (arith, e, below));
       others = λ n a b.
-          others_after pooled number host.next files all of_index built.is_former told newest.line stays rows folding n built.former folded a b;
+          others_after pooled number host.next bytes files all of_index built.is_former told newest.line stays rows folding n built.former folded a b;
       counts = counts_at (λ id. total id (stored (with_new olds last stays (new_stored rows))))
           (counts_written number items (with_new olds last stays (new_stored rows)) built.counts.0 counted_further);
     }

@@ -3,9 +3,8 @@
 --     table_after      the new table
 --     folding_of      what becomes of the former newest
 --     former_after, others_after      its table, and those of the other backups
-use Rattle.std.specs.Prelude.{◌≡◌, ◌≢◌, ℕ, zero, suc, Bool, true, false, List, [], ◌∷◌, map, Option, Some, None, slice_get, if◌then◌else◌}
-use Rattle.std.proofs.Common.{refl, sym, ap, ◌∙◌, subst}
-use Rattle.disk_trait.specs.declared.ids.FileId.{FileId}
+use Rattle.std.specs.Prelude.{◌≡◌, ◌≢◌, ℕ, zero, suc, Bool, true, false, List, [], ◌∷◌, ◌++◌, Option, Some, None, slice_get, if◌then◌else◌}
+use Rattle.std.proofs.Common.{sym, ap, ◌∙◌, subst}
 use Rattle.disk_trait.specs.declared.ids.FileId.TheVariants as F
 use Rattle.disk_trait.specs.Files.{Files}
 use Rattle.intent_journal.specs.declared.changes.Change.{Change}
@@ -17,10 +16,9 @@ use Rattle.backup_rules.specs.declared.lines.Line.{Line}
 use Rattle.backup_index.specs.Index.{Index}
 use Rattle.merge_view.specs.Views.{Rows, reverse}
 use Rattle.backup_views.specs.Stored.{IsTableFile as TellsTable}
-use Rattle.office_catalog.specs.declared.edits.CatalogChange.{CatalogChange}
 use Rattle.office_catalog.specs.Held.{HoldsCatalog}
 use Rattle.office_catalog.specs.Known.{Known, with_change, changed_at}
-use Rattle.office_catalog.specs.Changed.{Proposes}
+use Rattle.office_catalog.specs.Changed.{Leads}
 use Rattle.office_files.specs.Layouts.{IsHostFile, IsTableFile}
 use Rattle.office_files.specs.KeptLaws.{IsTableFile-same}
 use Rattle.office_known.specs.KnownLaws.{host_of_catalog}
@@ -28,8 +26,8 @@ use Rattle.office_changes.specs.AppliedLaws.{applied_here}
 use Rattle.store_commits.specs.declared.files.HostFiles.{HostFiles}
 use Rattle.store_commits.specs.declared.former.Folding.{Folding}
 use Rattle.store_commits.specs.Former.{IsFolded}
-use Rattle.store_commits.specs.Planned.{IsFormerFile, IsBytesOf}
-use Rattle.store_commits.specs.Written.{written}
+use Rattle.store_commits.specs.Planned.{IsFormerFile}
+use Rattle.store_commits.specs.Written.{index_change, host_part}
 use Rattle.store_commits.specs.WrittenLaws.{IsFormer, IsNotFormer, AreOfIndex, at_table, at_former, at_other_table}
 use Rattle.store_commits.specs.CountsLaws.{IsFormerFolding}
 
@@ -41,26 +39,17 @@ changed_here f [] host index e = absurd cc
 changed_here f (h ∷ hosts) zero index e = let same : h ≡ index = cc in ap (λ (i : Index). Some (f i)) same
 changed_here f (h ∷ hosts) (suc host) index e = changed_here f hosts host index e
 
-one_change : (changes : List Change) (file : FileId) → map (λ change. change.file) changes ≡ file ∷ []
-    → (change : Change) × (changes ≡ change ∷ []) × (change.file ≡ file)
-one_change [] file e = absurd cc
-one_change (change ∷ []) file e = let same : change.file ≡ file = cc in (change, refl, same)
-one_change (change ∷ other ∷ more) file e = absurd cc
-
 -- the file that the catalog's change writes says the index as it is changed
-pub index_after : (all : Files) (known : Known) (host : ℕ) (f : Index → Index) (index : Index) (change : CatalogChange) (bytes : List ℕ)
+pub index_after : (all : Files) (known : Known) (host : ℕ) (f : Index → Index) (index : Index) (changes : List Change) (bytes : Option (List ℕ))
     → HoldsCatalog all known → slice_get known.hosts host ≡ Some index
-    → Proposes known (with_change known host f) (F.Host host ∷ []) change → IsBytesOf change.changes bytes
-    → IsHostFile (f index) (Some bytes)
-index_after all known host f index change bytes holds here proposes is_bytes =
-    let one = one_change change.changes (F.Host host) proposes.leads.named in
-    let first : slice_get change.changes 0 ≡ Some one.0 = ap (λ (cs : List Change). slice_get cs 0) one.1 in
-    let found : applied change.changes all (F.Host host) ≡ Some bytes =
-    ap (λ (file : FileId). applied change.changes all file) (sym one.2)
-    ∙ applied_here change.changes all proposes.leads.are 0 one.0 first ∙ is_bytes one.0 one.1 in
+    → Leads known (with_change known host f) (F.Host host ∷ []) changes → changes ≡ index_change host bytes ∷ []
+    → IsHostFile (f index) bytes
+index_after all known host f index changes bytes holds here leads is =
+    let first : slice_get changes 0 ≡ Some (index_change host bytes) = ap (λ (cs : List Change). slice_get cs 0) is in
+    let found : applied changes all (F.Host host) ≡ bytes = applied_here changes all leads.are 0 (index_change host bytes) first in
     subst (IsHostFile (f index)) found
-    (host_of_catalog (applied change.changes all) (with_change known host f) host (f index) (changed_here f known.hosts host index here)
-    (proposes.leads.leads all holds))
+    (host_of_catalog (applied changes all) (with_change known host f) host (f index) (changed_here f known.hosts host index here)
+    (leads.leads all holds))
 
 -- ---- tables
 
@@ -84,16 +73,16 @@ folding_named : (told : Option Files) (host : ℕ) (line : Line) (stays : Bool) 
 folding_named told host line true rows folding folded = absurd cc
 folding_named told host line false rows folding folded = folded.number
 
-module _ (pooled : List Change) (host number : ℕ) (files : HostFiles) (all : Files) (of_index : AreOfIndex pooled)
+module _ (pooled : List Change) (host number : ℕ) (index : Option (List ℕ)) (files : HostFiles) (all : Files) (of_index : AreOfIndex pooled)
     (former : IsFormer number files.former) where
   abbrev image : Files
-  image = applied (written pooled host number files) all
+  image = applied (pooled ++ host_part host number index files) all
 
   pub table_after : (rows : Rows) → IsTable Second rows → files.table ≡ table_file Second rows → IsTableFile rows (image (F.Table host number))
   table_after rows fits bytes = record {
     layout = Second;
     fits = fits;
-    is = at_table pooled host number files all of_index former ∙ ap (λ (b : List ℕ). Some b) bytes;
+    is = at_table pooled host number index files all of_index former ∙ ap (λ (b : List ℕ). Some b) bytes;
   }
 
   none_former : (folding : Option Folding) → folding ≡ None → IsFormerFile folding files.former → files.former ≡ None
@@ -106,14 +95,14 @@ module _ (pooled : List Change) (host number : ℕ) (files : HostFiles) (all : F
       → IsTableFile (if stays then last else reverse last rows) (image (F.Table host line.number))
   former_after told line true last rows folding table file folded fold other =
       IsTableFile-same last (all (F.Table host line.number)) (image (F.Table host line.number))
-      (at_other_table pooled host number files all of_index former line.number other
+      (at_other_table pooled host number index files all of_index former line.number other
       (subst (IsNotFormer line.number) (sym (none_former folding fold file)) tt)) table
   former_after told line false last rows None table file folded fold other = absurd fold
   former_after told line false last rows (Some folding) table file folded fold other = record {
     layout = Second;
     fits = subst (IsTable Second) fold.1 file.0;
     is = ap (λ (k : ℕ). image (F.Table host k)) (sym (folding_named told host line false rows folding folded))
-        ∙ at_former pooled host number files all of_index former
+        ∙ at_former pooled host number index files all of_index former
         (record { number = folding.number; table = table_file Second folding.entries }) file.1
         ∙ ap (λ (r : Rows). Some (table_file Second r)) fold.1;
   }
@@ -131,11 +120,11 @@ module _ (pooled : List Change) (host number : ℕ) (files : HostFiles) (all : F
       → IsFormerFile folding files.former → IsFolded told host (if stays then None else Some line) rows folding
       → n ≢ line.number → n ≢ number → image (F.Table host n) ≡ all (F.Table host n)
   others_after told line stays rows folding n file folded other apart =
-      at_other_table pooled host number files all of_index former n apart (not_former told line stays rows folding n file folded other)
+      at_other_table pooled host number index files all of_index former n apart (not_former told line stays rows folding n file folded other)
 
   -- if there was no former newest
   pub others_first : (folding : Option Folding) (n : ℕ) → folding ≡ None → IsFormerFile folding files.former → n ≢ number
       → image (F.Table host n) ≡ all (F.Table host n)
   others_first folding n none file apart =
-      at_other_table pooled host number files all of_index former n apart
+      at_other_table pooled host number index files all of_index former n apart
       (subst (IsNotFormer n) (sym (none_former folding none file)) tt)

@@ -1,10 +1,10 @@
 -- The contents that rows name, and what the pool has of them.
 --     ids_in rows      as often as they are named
---     among_named, given_named      these are the names of the rows, and given ones
-use Rattle.std.specs.Prelude.{◌≡◌, ℕ, Bool, true, false, ◌||◌, ◌&&◌, List, [], ◌∷◌, Option, Some, None}
-use Rattle.std.specs.List.{list_all}
+--     given_in slots rows      those of them that are live or staged
+--     among_named      these are the names of the rows
+--     are_given, all_given      they are given ones; all, if all that the rows name are
+use Rattle.std.specs.Prelude.{◌≡◌, ℕ, Bool, true, false, ◌||◌, List, [], ◌∷◌, Option, Some, None, if◌then◌else◌}
 use Rattle.std.proofs.Common.{refl, sym, ap, ◌∙◌, subst}
-use Rattle.std.proofs.lemmas.Bool.{false≢true}
 use Rattle.disk_trait.specs.declared.ids.PoolId.{PoolId}
 use Rattle.attr_tables.specs.declared.records.Record.{Record}
 use Rattle.attr_tables.specs.declared.records.Record.TheVariants.{File, Dir, Link, Deleted}
@@ -25,24 +25,41 @@ abbrev pub ids_in : Rows → List PoolId
 ids_in [] = []
 ids_in (row ∷ rows) = with_id (content_in row.1) (ids_in rows)
 
--- all of them are live or staged
-abbrev pub are_given : Slots → List PoolId → Bool
-are_given slots ids = list_all (λ id. is_given (slots id)) ids
+abbrev pub given_id : Slots → Option PoolId → Option PoolId
+given_id slots None = None
+given_id slots (Some id) = if is_given (slots id) then Some id else None
+
+abbrev pub given_in : Slots → Rows → List PoolId
+given_in slots [] = []
+given_in slots (row ∷ rows) = with_id (given_id slots (content_in row.1)) (given_in slots rows)
 
 -- ---- laws
 
-both_parts : (a b : Bool) → (a && b) ≡ true → (a ≡ true) × (b ≡ true)
-both_parts true b e = (refl, e)
-both_parts false b e = absurd (false≢true e)
+pub are_given : (slots : Slots) (rows : Rows) → AreGiven slots (given_in slots rows)
+are_given slots [] = tt
+are_given slots (row ∷ rows) = step (content_in row.1) (are_given slots rows)
+  where
+    tested : (id : PoolId) (b : Bool) → is_given (slots id) ≡ b → AreGiven slots (given_in slots rows)
+        → AreGiven slots (with_id (if b then Some id else None) (given_in slots rows))
+    tested id true e rest = (e, rest)
+    tested id false e rest = rest
 
-pub given_tested : (slots : Slots) (ids : List PoolId) → are_given slots ids ≡ true → AreGiven slots ids
-given_tested slots [] e = tt
-given_tested slots (id ∷ ids) e =
-    let parts = both_parts (is_given (slots id)) (are_given slots ids) e in (parts.0, given_tested slots ids parts.1)
+    step : (held : Option PoolId) → AreGiven slots (given_in slots rows) → AreGiven slots (with_id (given_id slots held) (given_in slots rows))
+    step None rest = rest
+    step (Some id) rest = tested id (is_given (slots id)) refl rest
 
-pub tested_given : (slots : Slots) (ids : List PoolId) → AreGiven slots ids → are_given slots ids ≡ true
-tested_given slots [] are = refl
-tested_given slots (id ∷ ids) are = ap (λ (b : Bool). b && are_given slots ids) are.0 ∙ tested_given slots ids are.1
+pub all_given : (slots : Slots) (rows : Rows) → AreGiven slots (ids_in rows) → given_in slots rows ≡ ids_in rows
+all_given slots [] are = refl
+all_given slots (row ∷ rows) are = step (content_in row.1) are (λ rest. all_given slots rows rest)
+  where
+    first : (id : PoolId) → is_given (slots id) ≡ true → given_id slots (Some id) ≡ Some id
+    first id e = rw e refl
+
+    step : (held : Option PoolId) → AreGiven slots (with_id held (ids_in rows)) → (AreGiven slots (ids_in rows) → given_in slots rows ≡ ids_in rows)
+        → with_id (given_id slots held) (given_in slots rows) ≡ with_id held (ids_in rows)
+    step None are rest = rest are
+    step (Some id) are rest =
+        ap (λ (o : Option PoolId). with_id o (given_in slots rows)) (first id are.0) ∙ ap (λ (ids : List PoolId). id ∷ ids) (rest are.1)
 
 module _ (given : PoolId → Type 0) (contents : PoolId → List ℕ) where
   given_content : (node : Record) → IsTold given contents node → (id : PoolId) → content_in node ≡ Some id → given id
@@ -83,14 +100,8 @@ among_named (row ∷ rows) id = step row.1 (among_named rows id)
     step (Link link) rest = rest
     step Deleted rest = rest
 
--- by what a test of the ids of rows says
-module _ (slots : Slots) (ids asked : List PoolId) (rows : Rows) (same : ids ≡ ids_in rows) (tested : asked ≡ ids) where
-  pub not_given : false ≡ are_given slots asked → AreGiven slots (ids_in rows) → ⊥
-  not_given e are =
-      false≢true (e ∙ ap (are_given slots) tested ∙ tested_given slots ids (subst (AreGiven slots) (sym same) are))
-
-  pub given_rows : true ≡ are_given slots asked → AreGiven slots (ids_in rows)
-  given_rows e = subst (AreGiven slots) same (given_tested slots ids (sym (ap (are_given slots) tested) ∙ sym e))
-
-  pub given_again : (other : List PoolId) → other ≡ ids → true ≡ are_given slots asked → AreGiven slots other
-  given_again other again e = subst (AreGiven slots) (sym again) (given_tested slots ids (sym (ap (are_given slots) tested) ∙ sym e))
+-- the contents that are listed are given
+pub listed_given : (slots : Slots) (ids asked : List PoolId) (rows found : Rows) → ids ≡ given_in slots found → found ≡ rows → asked ≡ ids
+    → AreGiven slots asked
+listed_given slots ids asked rows found are same again =
+    subst (AreGiven slots) (sym (again ∙ are)) (are_given slots found)

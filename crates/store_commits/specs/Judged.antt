@@ -1,7 +1,7 @@
 -- The lines of a commit.
 --     line_of      the line of the new backup
 --     IsJudged hosts session now lines      the lines of a commit of an open dump
-use Rattle.std.specs.Prelude.{◌≡◌, ℕ, true, false, List, Some, slice_get}
+use Rattle.std.specs.Prelude.{◌≡◌, ◌<◌, ℕ, true, false, List, Some, slice_get}
 use Rattle.backup_rules.specs.declared.lines.Line.{Line}
 use Rattle.backup_index.specs.Index.{Index}
 use Rattle.backup_index.specs.Lines.{IsSound}
@@ -17,6 +17,7 @@ pub record IsJudged (hosts : List Index) (session : OpenDump) (now : ℕ) (lines
   pub index : Index
   pub here : slice_get hosts session.host ≡ Some index
   pub sound : IsSound index.next index.lines
-  pub file : lines.file ≡ index.host
+  pub number : index.next < 4294967296
+  pub file : lines.file ≡ session.host
   pub line : lines.line ≡ line_of index session now
   pub dropped : lines.dropped ≡ dropped_of index.rules index.lines

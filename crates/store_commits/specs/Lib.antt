@@ -2,12 +2,12 @@ pub mod Ids
 pub mod Written
 pub mod WrittenLaws
 pub mod Counting
-pub mod BoundLaws
 pub mod HostLaws
 pub mod AcceptLaws
 pub mod RunningLaws
 pub mod OfficeLaws
 pub mod Former
+pub mod Tables
 pub mod FormerLaws
 pub mod Planned
 pub mod Judged
@@ -26,3 +26,4 @@ pub mod AfterLaws
 pub mod KnownLaws
 pub mod EventLaws
 pub mod HoldLaws
+pub mod HeedLaws

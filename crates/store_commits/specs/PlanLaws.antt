@@ -1,7 +1,10 @@
 -- What a plan, or its refusal, comes to.
-use Rattle.std.specs.Prelude.{◌≡◌, ◌⊎◌, ◌<◌, ℕ, length, List, Option, Some, Result, Ok, Err, IfOk, IfErr, IsErrOf, slice_get}
-use Rattle.std.proofs.Common.{sym, ◌∙◌, subst, inl, inr}
-use Rattle.fault_counts.specs.Counts.{Counted}
+--     planned_of      what was judged, gathered and built is the plan
+--     gather_refused      a refusal of gathering is one of the plan
+--     gather_heeds, built_heeds, broken_heeds      what is said of the table that is called for
+use Rattle.std.specs.Prelude.{◌≡◌, ◌<◌, ℕ, length, List, Option, Some, slice_get}
+use Rattle.std.proofs.Common.{sym, ap, ◌∙◌, subst}
+use Rattle.disk_trait.specs.declared.ids.FileId.{FileId}
 use Rattle.disk_trait.specs.declared.disk.Disk.{Ghosts as DiskGhosts}
 use Rattle.disk_trait.specs.Files.{Files}
 use Rattle.pool_name.specs.declared.namer.Namer.{Ghosts as NamerGhosts}
@@ -11,19 +14,17 @@ use Rattle.backup_rules.specs.declared.lines.Line.{Line}
 use Rattle.backup_index.specs.Index.{Index}
 use Rattle.merge_view.specs.Views.{Rows}
 use Rattle.ref_counts.specs.Numbers.{Items}
-use Rattle.pool_changes.specs.Indexed.{AreGiven}
 use Rattle.open_sessions.specs.declared.sessions.OpenDump.{OpenDump}
 use Rattle.office_model.specs.declared.refusal.Refusal.{Refusal}
-use Rattle.office_model.specs.declared.refusal.Refusal.TheVariants.{DiskFault, Memory}
+use Rattle.office_model.specs.declared.refusal.Refusal.TheVariants as R
 use Rattle.store_parts.specs.declared.parts.StoreParts.{StoreParts}
-use Rattle.store_parts.specs.States.{slots}
 use Rattle.store_commits.specs.declared.former.Folding.{Folding}
 use Rattle.store_commits.specs.declared.judge.Lines.{Lines}
 use Rattle.store_commits.specs.declared.plan.Plan.{Plan}
-use Rattle.store_commits.specs.Ids.{ids_in}
 use Rattle.store_commits.specs.Former.{dropped_of, IsFolded}
 use Rattle.store_commits.specs.Judged.{IsJudged}
 use Rattle.store_commits.specs.Planned.{AreCounted, IsTold, IsGatherFault, IsBuilt, IsPlanned, IsReady, IsPlanFault}
+use Rattle.store_commits.specs.Tables.{AreThere, IsHeededBy, IsTableOf, IsTableFor}
 
 some_same : {A : Type 0} (x y : A) → Some x ≡ Some y → x ≡ y
 some_same x y e = cc
@@ -42,15 +43,15 @@ module _ {D N S : Type 0} {d : DiskGhosts D} {n : NamerGhosts N S} where
     host_is = b.host_is;
     rows_are = b.rows_are;
     counts_are = b.counts_are;
-    proposes = b.proposes;
+    after_is = b.after_is;
+    listed = b.listed;
+    lists = b.lists;
     fits = b.fits;
     pooled = b.pooled;
     of_ids = b.of_ids;
-    given = b.given;
     leads = b.leads;
     files = b.files;
     changes = b.changes;
-    index = b.index;
     table = b.table;
     former = b.former;
     counted = b.counted;
@@ -59,13 +60,12 @@ module _ {D N S : Type 0} {d : DiskGhosts D} {n : NamerGhosts N S} where
   module _ (parts : StoreParts D N S d n) (journal : Journal D d) (at now : ℕ) (dump : OpenDump)
       (there : slice_get parts.sessions.dumps.items at ≡ Some dump) (lines : Lines) (rows : Rows)
       (judged : IsJudged parts.catalog.hosts dump now lines) (rows_are : rows ≡ dump.tree) where
-    pub planned_of : (folding : Option Folding) (counts : Items) (result : Result Plan Refusal)
+    pub planned_of : (folding : Option Folding) (counts : Items) (plan : Plan)
         → IsFolded (told parts.journal) lines.file lines.dropped rows folding → AreCounted parts.counts dump.host folding rows counts
         → dump.host < length parts.counts
-        → IfOk result (IsBuilt (record parts { journal = journal }) dump.host lines folding counts rows)
-        → IfOk result (λ plan. (session : OpenDump) → slice_get parts.sessions.dumps.items at ≡ Some session → IsPlanned parts session now plan)
-    planned_of folding counts (Err refusal) folded counted within built = tt
-    planned_of folding counts (Ok plan) folded counted within built = λ session e.
+        → IsBuilt (record parts { journal = journal }) dump.host lines folding counts rows plan
+        → (session : OpenDump) → slice_get parts.sessions.dumps.items at ≡ Some session → IsPlanned parts session now plan
+    planned_of folding counts plan folded counted within built session e =
         subst (λ (s : OpenDump). IsPlanned parts s now plan) (one_there parts.sessions.dumps.items at dump session there e) (record {
           lines = lines;
           judged = judged;
@@ -84,7 +84,7 @@ module _ {D N S : Type 0} {d : DiskGhosts D} {n : NamerGhosts N S} where
         let same : ready.index ≡ judged.index = one_there parts.catalog.hosts dump.host ready.index judged.index ready.here judged.here in
         subst (λ (l : Option Line). IsTold all parts.counts dump.host lines.file l) (sym judged.dropped)
         (subst (λ (k : ℕ). IsTold all parts.counts dump.host k (dropped_of judged.index.rules judged.index.lines)) (sym judged.file)
-        (subst (λ (i : Index). IsTold all parts.counts dump.host i.host (dropped_of i.rules i.lines)) same ready.tells))
+        (subst (λ (i : Index). IsTold all parts.counts dump.host dump.host (dropped_of i.rules i.lines)) same ready.tells))
 
     ready_of : (session : OpenDump) → slice_get parts.sessions.dumps.items at ≡ Some session → (all : Files) → IsReady parts session all
         → IsReady parts dump all
@@ -95,23 +95,57 @@ module _ {D N S : Type 0} {d : DiskGhosts D} {n : NamerGhosts N S} where
         → (session : OpenDump) → slice_get parts.sessions.dumps.items at ≡ Some session → IsPlanFault parts session refusal
     gather_refused refusal fault session e all is ready = fault all is (ready_index all (ready_of session e all ready))
 
-    pub build_refused : (result : Result Plan Refusal)
-        → IfErr result (λ refusal. (refusal ≡ Memory) ⊎ (AreGiven (slots parts) (ids_in rows) → ⊥))
-        → IfErr result (λ refusal. (session : OpenDump) → slice_get parts.sessions.dumps.items at ≡ Some session → IsPlanFault parts session refusal)
-    build_refused (Ok plan) refused = tt
-    build_refused (Err refusal) refused = λ session e all is ready. step (ready_of session e all ready) refused
-      where
-        step : {all : Files} → IsReady parts dump all → (refusal ≡ Memory) ⊎ (AreGiven (slots parts) (ids_in rows) → ⊥)
-            → (refusal ≡ DiskFault) ⊎ (refusal ≡ Memory)
-        step ready (inl memory) = inr memory
-        step ready (inr none) = absurd (none (subst (λ (r : Rows). AreGiven (slots parts) (ids_in r)) (sym rows_are) ready.given))
+    -- the table that is called for is that of the line that was judged
+    table_judged : (file : FileId) → IsTableOf lines.file lines.dropped file → IsTableFor parts dump file
+    table_judged file is = record {
+      index = judged.index;
+      here = judged.here;
+      number = judged.number;
+      is = subst (λ (h : ℕ). IsTableOf h (dropped_of judged.index.rules judged.index.lines) file) judged.file
+          (subst (λ (l : Option Line). IsTableOf lines.file l file) judged.dropped is);
+    }
 
--- a call that didn't fail, and a refusal that isn't a fault of the disk
-pub counted_no_fault : {T U : Type 0} {before now : ℕ} (first : Result T Refusal) (second : Result U Refusal)
-    → Counted before now (IsErrOf first DiskFault) → (IsErrOf first DiskFault → ⊥) → (IsErrOf second DiskFault → ⊥)
-    → Counted before now (IsErrOf second DiskFault)
-counted_no_fault first second counted fine not = record {
-  later = counted.later;
-  rose = λ e. absurd (not e);
-  stays = λ e. counted.stays fine;
-}
+    judged_table : (session : OpenDump) → slice_get parts.sessions.dumps.items at ≡ Some session → (file : FileId) → IsTableFor parts session file
+        → IsTableOf lines.file lines.dropped file
+    judged_table session e file calls =
+        let same : calls.index ≡ judged.index =
+        one_there parts.catalog.hosts dump.host calls.index judged.index
+        (subst (λ (s : OpenDump). slice_get parts.catalog.hosts s.host ≡ Some calls.index) (sym (one_there parts.sessions.dumps.items at dump session there e))
+        calls.here) judged.here in
+        subst (λ (l : Option Line). IsTableOf lines.file l file) (sym judged.dropped)
+        (subst (λ (h : ℕ). IsTableOf h (dropped_of judged.index.rules judged.index.lines) file)
+        (sym (judged.file ∙ ap (λ (s : OpenDump). s.host) (one_there parts.sessions.dumps.items at dump session there e)))
+        (subst (λ (i : Index). IsTableOf session.host (dropped_of i.rules i.lines) file) same calls.is))
+
+    there_judged : (session : OpenDump) → slice_get parts.sessions.dumps.items at ≡ Some session
+        → AreThere (told parts.journal) (IsTableOf lines.file lines.dropped) → AreThere (told parts.journal) (IsTableFor parts session)
+    there_judged session e there all file is calls = there all file is (judged_table session e file calls)
+
+    -- what gathering heeds, the plan heeds
+    pub gather_heeds : (refusal : Refusal) → IsHeededBy (told parts.journal) (IsTableOf lines.file lines.dropped) refusal
+        → (session : OpenDump) → slice_get parts.sessions.dumps.items at ≡ Some session
+        → IsHeededBy (told parts.journal) (IsTableFor parts session) refusal
+    gather_heeds (R.Broken rule) heeds session e = there_judged session e heeds
+    gather_heeds (R.Damaged file found) heeds session e = (
+      subst (λ (s : OpenDump). IsTableFor parts s file) (one_there parts.sessions.dumps.items at dump session there e) (table_judged file heeds.0),
+      heeds.1,
+    )
+    gather_heeds R.DiskFault heeds session e = tt
+    gather_heeds R.Memory heeds session e = tt
+    gather_heeds R.Halted heeds session e = absurd heeds
+
+    -- the plan that was built behind it
+    pub built_heeds : AreThere (told parts.journal) (IsTableOf lines.file lines.dropped)
+        → (session : OpenDump) → slice_get parts.sessions.dumps.items at ≡ Some session
+        → AreThere (told parts.journal) (IsTableFor parts session)
+    built_heeds there session e = there_judged session e there
+
+-- a dump that wasn't judged calls for no table
+pub broken_heeds : {D N S : Type 0} {d : DiskGhosts D} {n : NamerGhosts N S} (parts : StoreParts D N S d n) (at : ℕ) (dump : OpenDump)
+    → slice_get parts.sessions.dumps.items at ≡ Some dump
+    → ((index : Index) → slice_get parts.catalog.hosts dump.host ≡ Some index → index.next < 4294967296 → ⊥)
+    → (session : OpenDump) → slice_get parts.sessions.dumps.items at ≡ Some session → AreThere (told parts.journal) (IsTableFor parts session)
+broken_heeds parts at dump there broken session e all file is calls =
+    absurd (broken calls.index
+    (subst (λ (s : OpenDump). slice_get parts.catalog.hosts s.host ≡ Some calls.index) (sym (one_there parts.sessions.dumps.items at dump session there e))
+    calls.here) calls.number)

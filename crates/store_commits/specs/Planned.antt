@@ -2,6 +2,7 @@
 --     counted_of      how often the tables name a content then
 --     AreCounted      the host's counts then, by those in memory
 --     IsBuilt, IsPlanned      the plan of a commit of an open dump
+--     IsGatherFault, IsPlanFault      why it was refused
 use Rattle.std.specs.Prelude.{◌≡◌, ◌⊎◌, ℕ, ◌+◌, ◌-◌, ◌<◌, List, [], ◌∷◌, length, Option, Some, None, is_some, not, slice_get}
 use Rattle.disk_trait.specs.declared.ids.PoolId.{PoolId}
 use Rattle.disk_trait.specs.declared.ids.FileId.TheVariants.{Host as HostFile, Table as TableFile}
@@ -24,10 +25,10 @@ use Rattle.ref_counts.specs.Numbers.{Items, number, capped}
 use Rattle.ref_counts.specs.Layout.{IsCounts}
 use Rattle.ref_counts.specs.CountsFile.{counts_file}
 use Rattle.pool_changes.specs.Listed.{index_of}
-use Rattle.pool_changes.specs.Indexed.{after as relisted_after, IsOf, AreGiven}
+use Rattle.pool_changes.specs.Indexed.{after as relisted_after, IsOf}
 use Rattle.pool_changes.specs.Written.{LeadsIndex}
 use Rattle.office_catalog.specs.Known.{with_change, with_line}
-use Rattle.office_catalog.specs.Changed.{IsFor, Proposes}
+use Rattle.office_catalog.specs.Changed.{after, IsFor, Leads}
 use Rattle.open_sessions.specs.declared.sessions.OpenDump.{OpenDump}
 use Rattle.store_parts.specs.declared.parts.StoreParts.{StoreParts}
 use Rattle.store_parts.specs.States.{slots}
@@ -37,7 +38,7 @@ use Rattle.store_commits.specs.declared.former.Folding.{Folding}
 use Rattle.store_commits.specs.declared.judge.Lines.{Lines}
 use Rattle.store_commits.specs.declared.plan.Plan.{Plan}
 use Rattle.store_commits.specs.Judged.{IsJudged}
-use Rattle.store_commits.specs.Ids.{ids_in}
+use Rattle.store_commits.specs.Ids.{given_in}
 use Rattle.store_commits.specs.Written.{written}
 use Rattle.store_commits.specs.Former.{dropped_of, IsFolded}
 
@@ -61,10 +62,6 @@ IsFormerFile None former = former ≡ None
 IsFormerFile (Some folding) former = IsTable Second folding.entries
     × (former ≡ Some (record { number = folding.number; table = table_file Second folding.entries }))
 
--- the bytes of the one file that a change of the catalog has
-abbrev pub IsBytesOf : List Change → List ℕ → Type 0
-IsBytesOf changes bytes = (change : Change) → changes ≡ change ∷ [] → change.bytes ≡ Some bytes
-
 -- What a fault of reading comes to: if the host's counts are in memory, and the files tell a table for the former newest, it
 -- is one of the disk, or want of memory.
 pub record IsTold (all : Files) (counts : List Items) (place host : ℕ) (dropped : Option Line) : Type 0 where
@@ -84,16 +81,16 @@ module _ {D N S : Type 0} {d : DiskGhosts D} {n : NamerGhosts N S} where
     pub host_is : plan.host ≡ host
     pub rows_are : plan.rows ≡ rows
     pub counts_are : plan.counts ≡ counts
-    pub proposes : Proposes parts.catalog (with_change parts.catalog host (with_line lines.line (not (is_some lines.dropped))))
-        (HostFile host ∷ []) plan.catalog
+    pub after_is : after plan.catalog parts.catalog ≡ with_change parts.catalog host (with_line lines.line (not (is_some lines.dropped)))
+    pub listed : List Change
+    pub lists : Leads parts.catalog (with_change parts.catalog host (with_line lines.line (not (is_some lines.dropped))))
+        (HostFile host ∷ []) listed
     pub fits : IsFor parts.catalog plan.catalog
     pub pooled : List Change
-    pub of_ids : IsOf plan.index (ids_in rows) [] [] []
-    pub given : AreGiven (slots parts) (ids_in rows)
+    pub of_ids : IsOf plan.index (given_in (slots parts) rows) [] [] []
     pub leads : LeadsIndex parts.pool.in_one_file (index_of (slots parts)) (index_of (relisted_after plan.index (slots parts))) pooled
     pub files : HostFiles
-    pub changes : plan.changes ≡ written pooled lines.file lines.line.number files
-    pub index : IsBytesOf plan.catalog.changes files.index
+    pub changes : plan.changes ≡ written pooled listed lines.file lines.line.number files
     pub table : IsTable Second rows × (files.table ≡ table_file Second rows)
     pub former : IsFormerFile folding files.former
     pub counted : IsCounts counts × (files.counts ≡ counts_file lines.file counts)
@@ -109,14 +106,13 @@ module _ {D N S : Type 0} {d : DiskGhosts D} {n : NamerGhosts N S} where
     pub within : session.host < length parts.counts
     pub built : IsBuilt parts session.host lines folding counts session.tree plan
 
-  -- What a refusal of a plan comes to: if the dump's host is there with a number left, the files tell what is read, and the
-  -- contents are given, it is a fault of the disk, or want of memory.
+  -- What a refusal of a plan comes to: if the dump's host is there with a number left, and the files tell what is read, it is a
+  -- fault of the disk, or want of memory.
   pub record IsReady (parts : StoreParts D N S d n) (session : OpenDump) (all : Files) : Type 0 where
     pub index : Index
     pub here : slice_get parts.catalog.hosts session.host ≡ Some index
     pub number : index.next < 4294967296
-    pub tells : IsTold all parts.counts session.host index.host (dropped_of index.rules index.lines)
-    pub given : AreGiven (slots parts) (ids_in session.tree)
+    pub tells : IsTold all parts.counts session.host session.host (dropped_of index.rules index.lines)
 
   abbrev pub IsPlanFault : StoreParts D N S d n → OpenDump → Refusal → Type 0
   IsPlanFault parts session refusal =

@@ -27,7 +27,6 @@ use Rattle.open_sessions.specs.declared.sessions.OpenDump.{OpenDump}
 use Rattle.store_parts.specs.declared.parts.StoreParts.{StoreParts}
 use Rattle.store_parts.specs.States.{slots, IsRunning}
 use Rattle.store_commits.specs.Former.{last_line, dropped_of}
-use Rattle.store_commits.specs.Ids.{given_ids}
 use Rattle.store_commits.specs.Planned.{IsTold, IsReady}
 use Rattle.store_commits.specs.CommittedLaws.{if_some}
 use Rattle.store_commits.specs.Committing.{meant}
@@ -96,7 +95,7 @@ module _ {D N S : Type 0} {d : DiskGhosts D} {n : NamerGhosts N S} where
         here = ap (slice_get parts.catalog.hosts) m.is.host ∙ ap (λ (k : Known). slice_get k.hosts m.dump.host) at.catalog_is
             ∙ index_there office.hosts m.dump.host m.host m.here;
         number = m.number;
-        tells = host_told (IsListed (index_of (slots parts))) (contents_of at.all) at.all m.dump.host m.host pair.0 pair.2 parts.counts
-            session.host counts.0 (ap (slice_get parts.counts) m.is.host ∙ counts.1);
-        given = given_ids (slots parts) (contents_of at.all) session.tree m.is.tree_rows.told;
+        tells = subst (λ (h : ℕ). IsTold at.all parts.counts session.host h (dropped_of m.host.rules (lines_of m.host.backups))) (sym m.is.host)
+            (host_told (IsListed (index_of (slots parts))) (contents_of at.all) at.all m.dump.host m.host pair.0 pair.2 parts.counts
+            session.host counts.0 (ap (slice_get parts.counts) m.is.host ∙ counts.1));
       }

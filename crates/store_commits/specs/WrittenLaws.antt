@@ -1,87 +1,25 @@
 -- What stands in the files after the changes of a commit.
+--     one_index, written_is      the host's index is one change, and all of the host stand together
 --     are_written      they name metadata files, none twice
 --     at_index, at_table, at_counts, at_former      each file of the host has its new bytes
 --     at_other      another file of metadata stays, but those of the pool's index
 --     at_pool_index      those are as the changes of the index leave them
-use Rattle.std.specs.Prelude.{◌≡◌, ◌≢◌, ◌==◌, ℕ, Bool, true, false, List, [], ◌∷◌, ◌++◌, Option, Some, None, IfSome, slice_get, if◌then◌else◌}
-use Rattle.std.proofs.Common.{refl, sym, ap, ◌∙◌, inl, inr}
-use Rattle.std.proofs.lemmas.Bool.{true≢false, false≢true, eq-eqb}
+use Rattle.std.specs.Prelude.{◌≡◌, ◌≢◌, ◌==◌, ℕ, true, false, List, [], ◌∷◌, ◌++◌, map, Option, Some, None, IfSome, slice_get}
+use Rattle.std.proofs.Common.{refl, sym, ap, ◌∙◌, append_assoc, inl, inr}
+use Rattle.std.proofs.lemmas.Bool.{false≢true, eq-eqb}
 use Rattle.disk_trait.specs.declared.ids.FileId.{FileId}
 use Rattle.disk_trait.specs.declared.ids.FileId.TheVariants as F
-use Rattle.disk_trait.specs.Names.{is_same_file, same_file, is_same_file-itself}
-use Rattle.disk_trait.specs.Files.{Files, with_bytes}
+use Rattle.disk_trait.specs.Names.{is_same_file}
+use Rattle.disk_trait.specs.Files.{Files}
 use Rattle.intent_journal.specs.declared.changes.Change.{Change}
 use Rattle.intent_journal.specs.Changes.{applied, names, AreChanges}
 use Rattle.intent_journal.specs.ChangesLaws.{either, applied_other}
 use Rattle.office_changes.specs.AppliedLaws.{applied_here}
 use Rattle.office_changes.specs.ChangeLaws.{is_of_host, is_of_index}
+use Rattle.office_changes.specs.JoinedLaws.{applied_both, are_both, other_table, not_hosts}
 use Rattle.store_commits.specs.declared.files.Former.{Former}
 use Rattle.store_commits.specs.declared.files.HostFiles.{HostFiles}
-use Rattle.store_commits.specs.Written.{change_of, former_part, host_part, written}
-
--- ---- lists of changes, one behind the other
-
-pub applied_both : (xs ys : List Change) (files : Files) → applied (xs ++ ys) files ≡ applied ys (applied xs files)
-applied_both [] ys files = refl
-applied_both (x ∷ xs) ys files = applied_both xs ys (with_bytes files x.file x.bytes)
-
-names_both : (xs ys : List Change) (file : FileId) → names xs file ≡ false → names (xs ++ ys) file ≡ names ys file
-names_both [] ys file none = refl
-names_both (x ∷ xs) ys file none = step (is_same_file file x.file) refl none (names_both xs ys file)
-  where
-    step : (b : Bool) → is_same_file file x.file ≡ b → (if b then true else names xs file) ≡ false
-        → (names xs file ≡ false → names (xs ++ ys) file ≡ names ys file)
-        → (if is_same_file file x.file then true else names (xs ++ ys) file) ≡ names ys file
-    step true e f rest = absurd (true≢false f)
-    step false e f rest = rw e (rest f)
-
-are_both : (xs ys : List Change) → AreChanges xs → AreChanges ys → ((file : FileId) → names xs file ≡ true → names ys file ≡ false)
-    → AreChanges (xs ++ ys)
-are_both [] ys one two apart = two
-are_both (x ∷ xs) ys one two apart = (
-  one.0,
-  names_both xs ys x.file one.1 ∙ apart x.file first,
-  are_both xs ys one.2 two (λ file e. apart file (later file e)),
-)
-  where
-    first : names (x ∷ xs) x.file ≡ true
-    first = rw (is_same_file-itself x.file) refl
-
-    later : (file : FileId) → names xs file ≡ true → names (x ∷ xs) file ≡ true
-    later file e = step (is_same_file file x.file)
-      where
-        step : (b : Bool) → (if b then true else names xs file) ≡ true
-        step true = refl
-        step false = e
-
--- ---- names of files
-
-table_number : FileId → ℕ
-table_number (F.Table host number) = number
-table_number F.Head = 0
-table_number F.Intent = 0
-table_number F.Gate = 0
-table_number (F.Host host) = 0
-table_number (F.Counts host) = 0
-table_number F.PoolIndex = 0
-table_number (F.PoolBucket byte) = 0
-table_number (F.Partial host) = 0
-table_number (F.Pool id) = 0
-table_number (F.Stage number) = 0
-
-pub other_table : (host n m : ℕ) → n ≢ m → is_same_file (F.Table host n) (F.Table host m) ≡ false
-unfolding table_number
-other_table host n m other = elim (either (is_same_file (F.Table host n) (F.Table host m))) [
-  | inl same ↦ absurd (other (ap table_number (same_file (F.Table host n) (F.Table host m) same)))
-  | inr apart ↦ apart
-]
-
--- a file of metadata that is neither the host's nor the index's isn't another file that is the host's
-not_hosts : (host : ℕ) (asked file : FileId) → is_of_host host asked ≡ false → is_of_host host file ≡ true → is_same_file asked file ≡ false
-not_hosts host asked file out is = elim (either (is_same_file asked file)) [
-  | inl same ↦ absurd (false≢true (sym out ∙ ap (is_of_host host) (same_file asked file same) ∙ is))
-  | inr apart ↦ apart
-]
+use Rattle.store_commits.specs.Written.{change_of, former_part, other_part, index_change, host_part, written}
 
 -- ---- the changes of a commit
 
@@ -93,7 +31,7 @@ IsFormer number former = IfSome former (λ f. f.number ≢ number)
 abbrev pub IsNotFormer : ℕ → Option Former → Type 0
 IsNotFormer number former = IfSome former (λ f. number ≢ f.number)
 
-module _ (host number : ℕ) (files : HostFiles) where
+module _ (host number : ℕ) (index : Option (List ℕ)) (files : HostFiles) where
   are_former : (former : Option Former) → IsFormer number former
       → AreChanges (change_of (F.Table host number) files.table ∷ change_of (F.Counts host) files.counts ∷ former_part host former)
   unfolding is_same_file
@@ -107,7 +45,7 @@ module _ (host number : ℕ) (files : HostFiles) where
   index_apart None = refl
   index_apart (Some former) = refl
 
-  pub are_host_part : IsFormer number files.former → AreChanges (host_part host number files)
+  pub are_host_part : IsFormer number files.former → AreChanges (host_part host number index files)
   are_host_part other = (refl, index_apart files.former, are_former files.former other)
 
   former_out : (former : Option Former) (asked : FileId) → is_of_host host asked ≡ false → names (former_part host former) asked ≡ false
@@ -118,7 +56,7 @@ module _ (host number : ℕ) (files : HostFiles) where
       itself = eq-eqb host host refl
 
   -- another file
-  pub host_part_out : (asked : FileId) → is_of_host host asked ≡ false → names (host_part host number files) asked ≡ false
+  pub host_part_out : (asked : FileId) → is_of_host host asked ≡ false → names (host_part host number index files) asked ≡ false
   host_part_out asked out =
       rw (
         not_hosts host asked (F.Host host) out itself,
@@ -134,7 +72,7 @@ module _ (host number : ℕ) (files : HostFiles) where
   table_out_former (Some former) other out = rw (other_table host other former.number out) refl
 
   -- another table of the host
-  pub table_out : (other : ℕ) → other ≢ number → IsNotFormer other files.former → names (host_part host number files) (F.Table host other) ≡ false
+  pub table_out : (other : ℕ) → other ≢ number → IsNotFormer other files.former → names (host_part host number index files) (F.Table host other) ≡ false
   unfolding is_same_file
   table_out other apart out = rw (other_table host other number apart) (table_out_former files.former other out)
 
@@ -156,28 +94,42 @@ pub record AreOfIndex (index : List Change) : Type 0 where
   pub are : AreChanges index
   pub only : (file : FileId) → names index file ≡ true → is_of_index file ≡ true
 
-module _ (index : List Change) (host number : ℕ) (files : HostFiles) (all : Files) (of_index : AreOfIndex index)
+-- the change of the host's index is one
+pub one_index : (changes : List Change) (host : ℕ) → map (λ change. change.file) changes ≡ F.Host host ∷ []
+    → (index : Option (List ℕ)) × (changes ≡ index_change host index ∷ [])
+one_index [] host e = absurd cc
+one_index (change ∷ []) host e =
+    let same : change.file ≡ F.Host host = cc in (change.bytes, λ i. record { file = same i; bytes = change.bytes } ∷ [])
+one_index (change ∷ other ∷ more) host e = absurd cc
+
+pub written_is : (pooled listed : List Change) (host number : ℕ) (index : Option (List ℕ)) (files : HostFiles) → listed ≡ index_change host index ∷ []
+    → written pooled listed host number files ≡ pooled ++ host_part host number index files
+written_is pooled listed host number index files is =
+    ap (λ (l : List Change). (pooled ++ l) ++ other_part host number files) is
+    ∙ append_assoc pooled (index_change host index ∷ []) (other_part host number files)
+
+module _ (pooled : List Change) (host number : ℕ) (index : Option (List ℕ)) (files : HostFiles) (all : Files) (of_index : AreOfIndex pooled)
     (former : IsFormer number files.former) where
   abbrev image : Files
-  image = applied (written index host number files) all
+  image = applied (pooled ++ host_part host number index files) all
 
-  out_of_index : (file : FileId) → is_of_index file ≡ false → names index file ≡ false
-  out_of_index file out = elim (either (names index file)) [
+  out_of_index : (file : FileId) → is_of_index file ≡ false → names pooled file ≡ false
+  out_of_index file out = elim (either (names pooled file)) [
     | inl named ↦ absurd (false≢true (sym out ∙ of_index.only file named))
     | inr none ↦ none
   ]
 
-  pub are_written : AreChanges (written index host number files)
-  are_written = are_both index (host_part host number files) of_index.are (are_host_part host number files former)
-      (λ file e. host_part_out host number files file (index_not_hosts host file (of_index.only file e)))
+  pub are_written : AreChanges (pooled ++ host_part host number index files)
+  are_written = are_both pooled (host_part host number index files) of_index.are (are_host_part host number index files former)
+      (λ file e. host_part_out host number index files file (index_not_hosts host file (of_index.only file e)))
 
-  here : (i : ℕ) (change : Change) → slice_get (host_part host number files) i ≡ Some change → image change.file ≡ change.bytes
+  here : (i : ℕ) (change : Change) → slice_get (host_part host number index files) i ≡ Some change → image change.file ≡ change.bytes
   here i change e =
-      (λ j. applied_both index (host_part host number files) all j change.file)
-      ∙ applied_here (host_part host number files) (applied index all) (are_host_part host number files former) i change e
+      (λ j. applied_both pooled (host_part host number index files) all j change.file)
+      ∙ applied_here (host_part host number index files) (applied pooled all) (are_host_part host number index files former) i change e
 
-  pub at_host : image (F.Host host) ≡ Some files.index
-  at_host = here 0 (change_of (F.Host host) files.index) refl
+  pub at_host : image (F.Host host) ≡ index
+  at_host = here 0 (index_change host index) refl
 
   pub at_table : image (F.Table host number) ≡ Some files.table
   at_table = here 1 (change_of (F.Table host number) files.table) refl
@@ -189,21 +141,21 @@ module _ (index : List Change) (host number : ℕ) (files : HostFiles) (all : Fi
   at_former f e = here 3 (change_of (F.Table host f.number) f.table)
       (ap (λ (o : Option Former). slice_get (former_part host o) 0) e)
 
-  outside : (file : FileId) → names (host_part host number files) file ≡ false → image file ≡ applied index all file
+  outside : (file : FileId) → names (host_part host number index files) file ≡ false → image file ≡ applied pooled all file
   outside file none =
-      (λ j. applied_both index (host_part host number files) all j file)
-      ∙ applied_other (host_part host number files) (applied index all) file none
+      (λ j. applied_both pooled (host_part host number index files) all j file)
+      ∙ applied_other (host_part host number index files) (applied pooled all) file none
 
   pub at_other : (file : FileId) → is_of_host host file ≡ false → is_of_index file ≡ false → image file ≡ all file
-  at_other file out none = outside file (host_part_out host number files file out) ∙ applied_other index all file (out_of_index file none)
+  at_other file out none = outside file (host_part_out host number index files file out) ∙ applied_other pooled all file (out_of_index file none)
 
   pub at_other_table : (other : ℕ) → other ≢ number → IsNotFormer other files.former → image (F.Table host other) ≡ all (F.Table host other)
   at_other_table other apart out =
-      outside (F.Table host other) (table_out host number files other apart out)
-      ∙ applied_other index all (F.Table host other) (out_of_index (F.Table host other) refl)
+      outside (F.Table host other) (table_out host number index files other apart out)
+      ∙ applied_other pooled all (F.Table host other) (out_of_index (F.Table host other) refl)
 
-  pub at_pool_index : image F.PoolIndex ≡ applied index all F.PoolIndex
-  at_pool_index = outside F.PoolIndex (host_part_out host number files F.PoolIndex refl)
+  pub at_pool_index : image F.PoolIndex ≡ applied pooled all F.PoolIndex
+  at_pool_index = outside F.PoolIndex (host_part_out host number index files F.PoolIndex refl)
 
-  pub at_pool_bucket : (byte : ℕ) → image (F.PoolBucket byte) ≡ applied index all (F.PoolBucket byte)
-  at_pool_bucket byte = outside (F.PoolBucket byte) (host_part_out host number files (F.PoolBucket byte) refl)
+  pub at_pool_bucket : (byte : ℕ) → image (F.PoolBucket byte) ≡ applied pooled all (F.PoolBucket byte)
+  at_pool_bucket byte = outside (F.PoolBucket byte) (host_part_out host number index files (F.PoolBucket byte) refl)

@@ -1,10 +1,11 @@
 //! An open dump becomes its host's next backup.
 
-ghost use Rattle.std.specs.Prelude.{◌≡◌, ◌⊎◌, ◌<◌, false, Some, length, IfOk, IfErr, IsErrOf, slice_get};
+ghost use Rattle.std.specs.Prelude.{◌≡◌, ◌<◌, false, Some, length, IfOk, IfErr, IsErrOf, slice_get};
 ghost use Rattle.fault_counts.specs.Counts.{Counted};
-ghost use Rattle.journal_view.specs.View.{Quiet};
+ghost use Rattle.journal_view.specs.View.{told, Quiet};
 ghost use Rattle.open_sessions.specs.declared.sessions.OpenDump.{OpenDump};
 ghost use Rattle.store_commits.specs.Planned.{IsPlanned, IsPlanFault};
+ghost use Rattle.store_commits.specs.Tables.{IsTableFor, Heeds};
 
 use crate::build::build;
 use crate::gather::gather;
@@ -17,7 +18,9 @@ use std::alloc::Global;
 use store_parts::StoreParts;
 use stream_traits::Moment;
 
-/// Plans the commit of the open dump at a place. Tables are read; nothing changes.
+/// Plans the commit of the open dump at a place. The table of the former newest backup is read, if it doesn't stay filled; nothing
+/// changes. After Ok that table was there in its grammar, whatever else the disk has; `Damaged` names it if it wasn't, with what
+/// was found of it.
 pub fn plan_commit<D: Disk, N: Namer>(
     parts: &mut StoreParts<D, N>,
     alloc: Global,
@@ -30,6 +33,8 @@ pub fn plan_commit<D: Disk, N: Namer>(
         → IsPlanned parts.old session now plan) }
     ensures refused { IfErr result (λ refusal. (session : OpenDump) → slice_get parts.old.sessions.dumps.items at ≡ Some session
         → IsPlanFault parts.old session refusal) }
+    ensures tables { (session : OpenDump) → slice_get parts.old.sessions.dumps.items at ≡ Some session
+        → Heeds (told parts.old.journal) (IsTableFor parts.old session) result }
     ensures quiet { Quiet parts.old.journal parts.new.journal }
     ensures others { parts.new ≡ record parts.old { journal = parts.new.journal } }
     ensures counted { Counted (D.fault_count parts.old.journal.disk) (D.fault_count parts.new.journal.disk) (IsErrOf result Refusal.DiskFault) }
@@ -38,13 +43,13 @@ pub fn plan_commit<D: Disk, N: Namer>(
     let host = dump.host;
     let lines = match judge(parts, dump, now) {
         Ok(lines) => lines,
-        Err(refusal) => return Err(refusal),
+        Err(rule) => return Err(Refusal::Broken(rule)),
     };
     let rows = match dump.tree.tree(alloc) {
         Ok(rows) => rows,
         Err(_) => return Err(Refusal::Memory),
     };
-    match gather(
+    let gathered = match gather(
         alloc,
         &mut parts.journal,
         &parts.counts,
@@ -53,7 +58,11 @@ pub fn plan_commit<D: Disk, N: Namer>(
         lines.dropped,
         &rows,
     ) {
-        Ok(gathered) => build(parts, alloc, host, lines, rows, gathered),
-        Err(refusal) => Err(refusal),
+        Ok(gathered) => gathered,
+        Err(refusal) => return Err(refusal),
+    };
+    match build(parts, alloc, host, lines, rows, gathered) {
+        Ok(plan) => Ok(plan),
+        Err(_) => Err(Refusal::Memory),
     }
 }

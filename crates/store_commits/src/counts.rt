@@ -1,15 +1,13 @@
 //! The counts of a host after a commit.
 
-ghost use Rattle.std.specs.Prelude.{◌≡◌, ◌<◌, ◌+◌, ◌-◌, length, Some, IfOk, IfErr, OnOk, IsErrOf, slice_get};
+ghost use Rattle.std.specs.Prelude.{◌≡◌, ◌+◌, ◌-◌, IfOk};
 ghost use Rattle.disk_trait.specs.declared.ids.PoolId.{PoolId};
-ghost use Rattle.ref_counts.specs.Numbers.{Items, number, capped};
+ghost use Rattle.ref_counts.specs.Numbers.{number, capped};
 ghost use Rattle.stored_trees.specs.Occurrences.{occurrences};
-ghost use Rattle.store_commits.specs.Planned.{counted_of, AreCounted};
+ghost use Rattle.store_commits.specs.Planned.{counted_of};
 
 use crate::former::Folding;
 use attr_tables::Table;
-use host_counts::HostCounts;
-use office_model::{BrokenRule, Refusal};
 use ref_counts::{Counts, Tally, add, take};
 use std::alloc::{AllocError, Global};
 
@@ -23,7 +21,7 @@ fn count_one(alloc: Global, table: &Table) -> Result<Counts, AllocError>
 }
 
 /// The counts with those of a further table.
-pub(crate) fn counted_with(alloc: Global, old: &Counts, rows: &Table) -> Result<Counts, AllocError>
+fn counted_with(alloc: Global, old: &Counts, rows: &Table) -> Result<Counts, AllocError>
     ensures { IfOk result (λ counts. (id : PoolId) → number counts id ≡ capped (number old.now id + capped (occurrences id rows.now))) }
 {
     let more = count_one(alloc, rows)?;
@@ -31,11 +29,7 @@ pub(crate) fn counted_with(alloc: Global, old: &Counts, rows: &Table) -> Result<
 }
 
 /// The counts without those of a table.
-pub(crate) fn counted_without(
-    alloc: Global,
-    old: &Counts,
-    rows: &Table,
-) -> Result<Counts, AllocError>
+fn counted_without(alloc: Global, old: &Counts, rows: &Table) -> Result<Counts, AllocError>
     ensures { IfOk result (λ counts. (id : PoolId) → number counts id ≡ number old.now id - capped (occurrences id rows.now)) }
 {
     let less = count_one(alloc, rows)?;
@@ -52,7 +46,7 @@ fn counted_folded(alloc: Global, old: &Counts, folding: &Folding) -> Result<Coun
 }
 
 /// The counts after a commit, by those before it.
-fn counts_after(
+pub(crate) fn counts_after(
     alloc: Global,
     old: &Counts,
     folding: &Option<Folding>,
@@ -66,29 +60,5 @@ fn counts_after(
             let kept = counted_folded(alloc, old, folding)?;
             counted_with(alloc, &kept, rows)
         }
-    }
-}
-
-/// The counts of a host after a commit, by those in memory. Without counts of the host it is refused: a store at work has
-/// them.
-pub(crate) fn next_counts(
-    alloc: Global,
-    held: &HostCounts,
-    place: usize,
-    folding: &Option<Folding>,
-    rows: &Table,
-) -> Result<Counts, Refusal>
-    ensures counts { IfOk result (AreCounted held.now place folding.now rows.now) }
-    ensures within { OnOk result (place < length held.now) }
-    ensures kind { IfErr result (λ refusal. (olds : Items) → slice_get held.now place ≡ Some olds → refusal ≡ Refusal.Memory) }
-    ensures no_fault { IsErrOf result Refusal.DiskFault → ⊥ }
-{
-    let old = match held.of_host(place) {
-        Some(old) => old,
-        None => return Err(Refusal::Broken(BrokenRule::NoHost)),
-    };
-    match counts_after(alloc, old, folding, rows) {
-        Ok(counts) => Ok(counts),
-        Err(_) => Err(Refusal::Memory),
     }
 }

@@ -6,14 +6,13 @@ ghost use Rattle.attr_tables.specs.Layout.{IsTable};
 ghost use Rattle.attr_tables.specs.Tables.{table_file};
 ghost use Rattle.ref_counts.specs.Layout.{IsCounts};
 ghost use Rattle.ref_counts.specs.CountsFile.{counts_file};
-ghost use Rattle.store_commits.specs.Planned.{IsBytesOf, IsFormerFile};
+ghost use Rattle.store_commits.specs.Planned.{IsFormerFile};
 ghost use Rattle.store_commits.specs.Written.{change_of, former_part, host_part, written};
 
 use crate::former::Folding;
 use attr_tables::{Table, TableLayout, write_table};
 use disk_trait::{Bytes, FileId};
 use intent_journal::{Change, Changes};
-use office_catalog::CatalogChange;
 use ref_counts::{Counts, write_counts};
 use std::alloc::{AllocError, Global};
 
@@ -24,10 +23,9 @@ pub struct Former {
     pub table: Bytes,
 }
 
-/// The files of a host after a commit, each in its layout.
+/// The files of a host after a commit but for its index, each in its layout.
 #[derive(Debug, Drop)]
 pub struct HostFiles {
-    pub index: Bytes,
     /// The new backup's table.
     pub table: Bytes,
     pub counts: Bytes,
@@ -45,17 +43,47 @@ fn push(changes: &mut Changes, file: FileId, bytes: Bytes) -> Result<(), AllocEr
     Ok(())
 }
 
-/// The changes of a commit: those of the pool's index, and behind them those of the host.
-pub fn assemble(
-    index: Changes,
+/// A copy of a change.
+fn copy_of(alloc: Global, change: &Change) -> Result<Change, AllocError>
+    ensures { IfOk result (λ copy. copy ≡ change.now) }
+{
+    let file = change.file;
+    match &change.bytes {
+        None => Ok(Change { file, bytes: None }),
+        Some(bytes) => {
+            let bytes = bytes.copy(alloc)?;
+            Ok(Change {
+                file,
+                bytes: Some(bytes),
+            })
+        }
+    }
+}
+
+/// Puts copies of changes behind others.
+fn push_copies(alloc: Global, changes: &mut Changes, others: &[Change]) -> Result<(), AllocError>
+    ensures { OnOk result (changes.new ≡ changes.old ++ others.now) }
+{
+    for change in others {
+        let copy = copy_of(alloc, change)?;
+        changes.push(copy)?;
+    }
+    Ok(())
+}
+
+/// The changes of a commit: those of the pool's index, behind them that of the host's index, and then the host's other files.
+pub(crate) fn assemble(
+    alloc: Global,
+    pooled: Changes,
+    listed: &Changes,
     host: u32,
     number: u32,
     files: HostFiles,
 ) -> Result<Changes, AllocError>
-    ensures { IfOk result (λ changes. changes ≡ written index host number files) }
+    ensures { IfOk result (λ changes. changes ≡ written pooled listed.now host number files) }
 {
-    let mut changes = index;
-    push(&mut changes, FileId::Host(host), files.index)?;
+    let mut changes = pooled;
+    push_copies(alloc, &mut changes, listed.as_slice())?;
     push(&mut changes, FileId::Table(host, number), files.table)?;
     push(&mut changes, FileId::Counts(host), files.counts)?;
     match files.former {
@@ -67,19 +95,6 @@ pub fn assemble(
         None => {}
     }
     Ok(changes)
-}
-
-/// The bytes of the one file that a change of the catalog has. Such a change always has one file with bytes.
-fn index_bytes(alloc: Global, change: &CatalogChange) -> Result<Bytes, AllocError>
-    ensures { IfOk result (IsBytesOf change.now.changes) }
-{
-    match change.changes().as_slice() {
-        [one] => match &one.bytes {
-            Some(bytes) => bytes.copy(alloc),
-            None => Err(AllocError),
-        },
-        _ => Err(AllocError),
-    }
 }
 
 /// The file of the former newest's entries.
@@ -98,26 +113,22 @@ fn former_file(alloc: Global, folding: &Option<Folding>) -> Result<Option<Former
     }
 }
 
-/// The files of a host after a commit.
+/// The files of a host after a commit but for its index.
 pub(crate) fn host_files(
     alloc: Global,
     host: u32,
-    change: &CatalogChange,
     rows: &Table,
     counts: &Counts,
     folding: &Option<Folding>,
 ) -> Result<HostFiles, AllocError>
-    ensures index { IfOk result (λ files. IsBytesOf change.now.changes files.index) }
     ensures table { IfOk result (λ files. IsTable TableLayout.Second rows.now × (files.table ≡ table_file TableLayout.Second rows.now)) }
     ensures former { IfOk result (λ files. IsFormerFile folding.now files.former) }
     ensures counts { IfOk result (λ files. IsCounts counts.now × (files.counts ≡ counts_file host counts.now)) }
 {
-    let index = index_bytes(alloc, change)?;
     let table = write_table(alloc, rows)?;
     let counts = Bytes::from_vec(write_counts(alloc, host, counts)?);
     let former = former_file(alloc, folding)?;
     Ok(HostFiles {
-        index,
         table,
         counts,
         former,

@@ -1,20 +1,22 @@
 //! The former newest backup of a host.
 
-ghost use Rattle.std.specs.Prelude.{◌≡◌, ◌⊎◌, ℕ, false, true, Some, is_some, IfOk, IfErr, IsErrOf};
+ghost use Rattle.std.specs.Prelude.{◌≡◌, false, IfOk, IfErr, IsErrOf};
 ghost use Rattle.fault_counts.specs.Counts.{Counted};
 ghost use Rattle.journal_view.specs.View.{told, Quiet};
+ghost use Rattle.disk_trait.specs.declared.ids.FileId.TheVariants.{Table as TableFile};
 ghost use Rattle.backup_rules.specs.declared.lines.Line.{Line as LineValue};
-ghost use Rattle.store_commits.specs.Former.{dropped_of, IsFolded, IsFoldedLine, IsReadRefusal, IsFoldFault, IsFoldFaultOf};
+ghost use Rattle.store_commits.specs.Former.{dropped_of, IsFolded, IsFoldedLine, IsFoldFault, IsFoldFaultOf};
 
 use attr_tables::Table;
 use backup_index::HostIndex;
 use backup_rules::{Line, fill_rule};
-use backup_views::{ViewFault, read_entries};
+use backup_views::read_entries;
 use disk_trait::Disk;
 use intent_journal::Journal;
 use merge_view::reverse;
 use office_model::Refusal;
 use std::alloc::Global;
+use store_parts::refusal_of_view;
 
 /// The rows of a backup that isn't filled any more, and the entries that are stored in their place.
 #[derive(Debug, Drop)]
@@ -40,21 +42,8 @@ pub(crate) fn dropped_line(index: &HostIndex) -> Option<Line>
     }
 }
 
-/// What a fault of reading a table is to a caller.
-fn refusal_of(fault: ViewFault) -> Refusal
-    ensures disk { fault ≡ ViewFault.Disk → result ≡ Refusal.DiskFault }
-    ensures memory { fault ≡ ViewFault.Memory → result ≡ Refusal.Memory }
-    ensures no_other { result ≡ Refusal.DiskFault → fault ≡ ViewFault.Disk }
-    ensures kind { IsReadRefusal fault result }
-{
-    match fault {
-        ViewFault::Disk => Refusal::DiskFault,
-        ViewFault::Memory => Refusal::Memory,
-        ViewFault::Damaged { file, found } => Refusal::Damaged { file, found },
-    }
-}
-
-/// The rows of a backup that isn't filled any more, out of its table, and the entries that differ from a newer tree. A
+/// The rows of a backup that isn't filled any more, out of its table, and the entries that differ from a newer tree. After Ok the
+/// table was there in its grammar, whatever else the disk has; `Damaged` names it if it wasn't, with what was found of it. A
 /// refusal changes nothing.
 fn fold<D: Disk>(
     alloc: Global,
@@ -65,13 +54,13 @@ fn fold<D: Disk>(
 ) -> Result<Folding, Refusal>
     requires { journal.old.halted ≡ false }
     ensures folded { IfOk result (λ folding. (line : LineValue) → line.number ≡ number → IsFoldedLine (told journal.old) host line newer.now folding) }
-    ensures kind { IfErr result (IsFoldFault (told journal.old) host number) }
+    ensures kind { IfErr result (IsFoldFault (told journal.old) (TableFile host number)) }
     ensures quiet { Quiet journal.old journal.new }
     ensures counted { Counted (D.fault_count journal.old.disk) (D.fault_count journal.new.disk) (IsErrOf result Refusal.DiskFault) }
 {
     let rows = match read_entries(alloc, journal, host, number) {
         Ok(rows) => rows,
-        Err(fault) => return Err(refusal_of(fault)),
+        Err(fault) => return Err(refusal_of_view(fault)),
     };
     let entries = reverse(alloc, &rows, newer)?;
     Ok(Folding {

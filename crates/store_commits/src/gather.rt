@@ -1,19 +1,20 @@
 //! What a commit reads and counts.
 
-ghost use Rattle.std.specs.Prelude.{◌≡◌, ◌⊎◌, ◌<◌, ℕ, false, length, Some, IfOk, IfErr, OnOk, IsErrOf};
+ghost use Rattle.std.specs.Prelude.{◌≡◌, ◌<◌, false, length, IfOk, IfErr, OnOk, IsErrOf};
 ghost use Rattle.fault_counts.specs.Counts.{Counted};
 ghost use Rattle.journal_view.specs.View.{told, Quiet};
 ghost use Rattle.store_commits.specs.Former.{IsFolded};
+ghost use Rattle.store_commits.specs.Tables.{IsTableOf, Heeds};
 ghost use Rattle.store_commits.specs.Planned.{AreCounted, IsGatherFault};
 
-use crate::counts::next_counts;
+use crate::counts::counts_after;
 use crate::former::{Folding, fold_former};
 use attr_tables::Table;
 use backup_rules::Line;
 use disk_trait::Disk;
 use host_counts::HostCounts;
 use intent_journal::Journal;
-use office_model::Refusal;
+use office_model::{BrokenRule, Refusal};
 use ref_counts::Counts;
 use std::alloc::Global;
 
@@ -25,7 +26,7 @@ pub struct Gathered {
 }
 
 /// Reads the former newest's table, if it doesn't stay filled, and makes of it and of the host's counts what they are after
-/// the commit of a new tree. A refusal changes nothing.
+/// the commit of a new tree. Without counts of the host it is refused: a store at work has them. A refusal changes nothing.
 pub(crate) fn gather<D: Disk>(
     alloc: Global,
     journal: &mut Journal<D>,
@@ -40,6 +41,7 @@ pub(crate) fn gather<D: Disk>(
     ensures counts { IfOk result (λ gathered. AreCounted held.now place gathered.folding rows.now gathered.counts) }
     ensures within { OnOk result (place < length held.now) }
     ensures kind { IfErr result (IsGatherFault (told journal.old) held.now place host dropped) }
+    ensures tables { Heeds (told journal.old) (IsTableOf host dropped) result }
     ensures quiet { Quiet journal.old journal.new }
     ensures counted { Counted (D.fault_count journal.old.disk) (D.fault_count journal.new.disk) (IsErrOf result Refusal.DiskFault) }
 {
@@ -47,9 +49,11 @@ pub(crate) fn gather<D: Disk>(
         Ok(folding) => folding,
         Err(refusal) => return Err(refusal),
     };
-    let counts = match next_counts(alloc, held, place, &folding, rows) {
-        Ok(counts) => counts,
-        Err(refusal) => return Err(refusal),
+    let Some(old) = held.of_host(place) else {
+        return Err(Refusal::Broken(BrokenRule::NoHost));
     };
-    Ok(Gathered { folding, counts })
+    match counts_after(alloc, old, &folding, rows) {
+        Ok(counts) => Ok(Gathered { folding, counts }),
+        Err(_) => Err(Refusal::Memory),
+    }
 }

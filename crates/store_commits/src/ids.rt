@@ -1,19 +1,18 @@
-//! The contents that rows name.
+//! The contents that a commit lists in the pool's index.
 
-ghost use Rattle.std.specs.Prelude.{◌≡◌, true, false, IfOk};
+ghost use Rattle.std.specs.Prelude.{◌≡◌, IfOk};
 ghost use Rattle.pool_changes.specs.Kept.{slots_of};
-ghost use Rattle.pool_changes.specs.Slots.{is_given};
 ghost use Rattle.stored_trees.specs.Resolved.{content_in};
-ghost use Rattle.store_commits.specs.Ids.{ids_in, are_given};
+ghost use Rattle.store_commits.specs.Ids.{given_id, given_in};
 
 use attr_tables::{Record, Row};
 use disk_trait::PoolId;
 use pool_name::Namer;
-use pool_store::{Pool, Slot};
+use pool_store::Pool;
 use std::alloc::{AllocError, Global};
 
 /// The content that a record names, if it names one.
-pub fn content_of(node: &Record) -> Option<PoolId>
+fn content_of(node: &Record) -> Option<PoolId>
     ensures { result ≡ content_in node.now }
 {
     match node {
@@ -24,35 +23,31 @@ pub fn content_of(node: &Record) -> Option<PoolId>
     }
 }
 
-/// The contents that rows name, as often as they are named, in the order of the rows.
-pub fn ids_of(alloc: Global, rows: &[Row]) -> Result<Vec<PoolId>, AllocError>
-    ensures { IfOk result (λ ids. ids.items ≡ ids_in rows.now) }
+/// The content that a record names, if it names one that is live or staged.
+fn given_of<N: Namer>(pool: &Pool<N>, node: &Record) -> Option<PoolId>
+    ensures { result ≡ given_id (slots_of pool.now.names) (content_in node.now) }
+{
+    match content_of(node) {
+        Some(id) if pool.has(id) => Some(id),
+        _ => None,
+    }
+}
+
+/// The contents that rows name and that are live or staged, as often as they are named, in the order of the rows. Of a store at
+/// work they are all that the rows of an open dump name.
+pub(crate) fn ids_of<N: Namer>(
+    alloc: Global,
+    pool: &Pool<N>,
+    rows: &[Row],
+) -> Result<Vec<PoolId>, AllocError>
+    ensures { IfOk result (λ ids. ids.items ≡ given_in (slots_of pool.now.names) rows.now) }
 {
     let mut ids = Vec::new(alloc);
     for row in rows {
-        match content_of(row.node()) {
+        match given_of(pool, row.node()) {
             Some(id) => ids.push(id)?,
             None => {}
         }
     }
     Ok(ids)
-}
-
-/// Whether a content is live or staged.
-fn is_given<N: Namer>(pool: &Pool<N>, id: PoolId) -> bool
-    ensures { result ≡ is_given (slots_of pool.now.names id) }
-{
-    match pool.slot(id) {
-        Some(Slot::Live { .. }) => true,
-        Some(Slot::Staged { .. }) => true,
-        Some(Slot::Doomed) => false,
-        None => false,
-    }
-}
-
-/// Whether all of these contents are live or staged.
-pub(crate) fn are_given<N: Namer>(pool: &Pool<N>, ids: &[PoolId]) -> bool
-    ensures { result ≡ are_given (slots_of pool.now.names) ids.now }
-{
-    ids.iter().all(|id| is_given(pool, *id))
 }

@@ -1,6 +1,6 @@
 //! The line of the new backup, and whether the former newest stays filled.
 
-ghost use Rattle.std.specs.Prelude.{◌≡◌, ◌<◌, ℕ, true, false, length, Some, OnOk, IfOk, IfErr, IsErrOf, slice_get};
+ghost use Rattle.std.specs.Prelude.{◌≡◌, ◌<◌, ℕ, true, false, length, Some, OnOk, IfOk, IfErr, slice_get};
 ghost use Rattle.backup_index.specs.Index.{Index};
 ghost use Rattle.open_sessions.specs.declared.sessions.OpenDump.{OpenDump as Dump};
 ghost use Rattle.store_commits.specs.Judged.{IsJudged};
@@ -9,7 +9,7 @@ use crate::former::dropped_line;
 use backup_index::HostIndex;
 use backup_rules::Line;
 use disk_trait::Disk;
-use office_model::{BrokenRule, Refusal};
+use office_model::BrokenRule;
 use open_sessions::OpenDump;
 use pool_name::Namer;
 use store_parts::StoreParts;
@@ -44,18 +44,17 @@ pub(crate) fn judge<D: Disk, N: Namer>(
     parts: &StoreParts<D, N>,
     dump: &OpenDump,
     now: Moment,
-) -> Result<Lines, Refusal>
+) -> Result<Lines, BrokenRule>
     ensures judged { IfOk result (IsJudged parts.now.catalog.hosts dump.now now) }
     ensures within { OnOk result (dump.now.host < length parts.now.catalog.hosts) }
-    ensures no_fault { IsErrOf result Refusal.DiskFault → ⊥ }
-    ensures refused { IfErr result (λ refusal. (index : Index) → slice_get parts.now.catalog.hosts dump.now.host ≡ Some index
+    ensures broken { IfErr result (λ rule. (index : Index) → slice_get parts.now.catalog.hosts dump.now.host ≡ Some index
         → index.next < 4294967296 → ⊥) }
 {
-    let Some(index) = parts.catalog.index(dump.host) else {
-        return Err(Refusal::Broken(BrokenRule::NoHost));
+    let Some(index) = parts.catalog.hosts().get(dump.host) else {
+        return Err(BrokenRule::NoHost);
     };
     let Ok(number) = u32::try_from(index.next()) else {
-        return Err(Refusal::Broken(BrokenRule::NumbersSpent));
+        return Err(BrokenRule::NumbersSpent);
     };
     let _sound = index.lines();
     Ok(Lines {

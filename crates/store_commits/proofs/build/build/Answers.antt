@@ -1,19 +1,30 @@
 -- The plan is built of its parts.
-use Rattle.std.proofs.Common.{refl}
+use Rattle.std.proofs.Common.{List, [], ◌∙◌, subst}
+use Rattle.disk_trait.specs.declared.ids.PoolId.{PoolId}
+use Rattle.pool_changes.specs.Indexed.{IsOf}
 use Rattle.store_commits.specs.BuildLaws.{built_of}
+use Rattle.store_commits.specs.Ids.{listed_given}
 use Rattle.store_commits.proofs.build.build.Goals as goal
 
-pub returns-in-Ok-assemble-clause-built : goal.returns-in-Ok-assemble-clause-built
-returns-in-Ok-assemble-clause-built g c =
-    built_of c.args.parts.now c.args.host c.args.lines c.args.gathered.folding c.args.gathered.counts c.args.rows c.args.rows
-    c.is_none.result c.in_ok-catalog.catalog c.in-Ok.index c.take_changes.new.self c.take_changes.result c.in-Ok-assemble.changes c.in-Ok-host_files.files
-    c.is_none.ensures c.in_ok-catalog.ensures.proposes c.in_ok-catalog.ensures.fits refl c.in-Ok.ensures.of c.in-Ok.ensures.given
-    c.in-Ok.ensures.leads
+pub settle-requires : goal.settle-requires
+settle-requires g c =
+    listed_given _ c.in_ok-ids.ids.items c.deref.result.now c.args.rows c.rows-2.result.now c.in_ok-ids.ensures c.rows-2.ensures.rows c.deref.ensures.value
+
+pub returns : goal.returns
+returns g c =
+    built_of c.args.parts.now c.args.host c.args.lines c.args.gathered.folding c.args.gathered.counts c.args.rows c.rows-2.result.now
+    c.is_none.result c.in_ok-catalog.catalog c.in_ok-index.index c.take_changes-pooled.new.self c.take_changes-pooled.result c.changes.result.now
+    c.in_ok-changes.changes c.in_ok-files.files
+    c.is_none.ensures c.in_ok-catalog.ensures.proposes c.in_ok-catalog.ensures.fits c.rows-2.ensures.rows
+    (subst (λ (ids : List PoolId). IsOf c.in_ok-index.index ids [] [] []) (c.deref.ensures.value ∙ c.in_ok-ids.ensures)
+    c.in_ok-index.ensures.added)
+    c.in_ok-index.ensures.leads
     (record {
-      changes = c.take_changes.ensures.changes;
-      added = c.take_changes.ensures.added;
-      marked = c.take_changes.ensures.marked;
-      unmarked = c.take_changes.ensures.unmarked;
-      removed = c.take_changes.ensures.removed;
+      changes = c.take_changes-pooled.ensures.changes;
+      added = c.take_changes-pooled.ensures.added;
+      marked = c.take_changes-pooled.ensures.marked;
+      unmarked = c.take_changes-pooled.ensures.unmarked;
+      removed = c.take_changes-pooled.ensures.removed;
     })
-    c.in-Ok-host_files.ensures.index c.in-Ok-host_files.ensures.table c.in-Ok-host_files.ensures.former c.in-Ok-host_files.ensures.counts c.in-Ok-assemble.ensures
+    c.changes.ensures
+    c.in_ok-files.ensures.table c.in_ok-files.ensures.former c.in_ok-files.ensures.counts c.in_ok-changes.ensures

@@ -1,43 +1,47 @@
 -- The event is a reading that plans, and a commit behind it.
+use Rattle.store_parts.specs.RefusalLaws.{runs_broken_by}
 use Rattle.store_commits.specs.EventLaws.{runs_no_session, runs_not_planned}
 use Rattle.store_commits.specs.HoldLaws.{changes_planned, fits_planned, within_planned, runs_not_written, runs_committed}
+use Rattle.store_commits.specs.HeedLaws.{heeds_no_session, heeds_not_planned, heeds_not_written, heeds_committed}
 use Rattle.store_commits.proofs.event.commit_dump.Goals as goal
 
-pub returns-in-None : goal.returns-in-None
-returns-in-None g c = runs_no_session c.args.parts.now c.args.session c.args.now c.in-None.ensures.index
+pub returns-in_err-at-clause-runs : goal.returns-in_err-at-clause-runs
+returns-in_err-at-clause-runs g c =
+    runs_broken_by _ _ _ _ _ _ c.from_residual.ensures.1 c.in_err-at.ensures.rule
+    (runs_no_session c.args.parts.now c.args.session c.args.now c.in_err-at.ensures.none)
 
-pub returns-in-Err : goal.returns-in-Err
-returns-in-Err g c =
-    runs_not_planned c.args.parts.now c.plan_commit.new.parts c.args.session c.args.now c.in-Some.at c.in-Err.refusal
-    c.in-Some.ensures.within c.in-Err.ensures.quiet c.in-Err.ensures.others c.in-Err.ensures.refused c.in-Err.ensures.counted
+pub returns-in-Err-clause-runs : goal.returns-in-Err-clause-runs
+returns-in-Err-clause-runs g c =
+    runs_not_planned c.args.parts.now c.plan_commit.new.parts c.args.session c.args.now c.in_ok-at.at c.in-Err.refusal
+    c.in_ok-at.ensures.within c.in-Err.ensures.quiet c.in-Err.ensures.others c.in-Err.ensures.refused c.in-Err.ensures.counted
 
 pub write-requires-clause-changes : goal.write-requires-clause-changes
 write-requires-clause-changes g c =
-    changes_planned c.args.parts.now c.plan_commit.new.parts c.args.session c.args.now c.in-Some.at c.in-Ok.plan c.in-Some.ensures.index
-    c.in-Some.ensures.within c.in-Ok.ensures.quiet c.in-Ok.ensures.others c.in-Ok.ensures.planned
+    changes_planned c.args.parts.now c.plan_commit.new.parts c.args.session c.args.now c.in_ok-at.at c.in-Ok.plan c.in_ok-at.ensures.found
+    c.in_ok-at.ensures.within c.in-Ok.ensures.quiet c.in-Ok.ensures.others c.in-Ok.ensures.planned
 
-pub returns-in-Err-write : goal.returns-in-Err-write
-returns-in-Err-write g c =
-    runs_not_written c.args.parts.now c.plan_commit.new.parts c.args.session c.args.now c.in-Some.at c.in-Ok.plan c.in-Some.ensures.index
-    c.in-Some.ensures.within c.in-Ok.ensures.quiet c.in-Ok.ensures.others c.in-Ok.ensures.planned
+pub returns-in-Err-write-clause-runs : goal.returns-in-Err-write-clause-runs
+returns-in-Err-write-clause-runs g c =
+    runs_not_written c.args.parts.now c.plan_commit.new.parts c.args.session c.args.now c.in_ok-at.at c.in-Ok.plan c.in_ok-at.ensures.found
+    c.in_ok-at.ensures.within c.in-Ok.ensures.quiet c.in-Ok.ensures.others c.in-Ok.ensures.planned
     (c.in-Ok.ensures.counted.stays (λ e. absurd cc)) c.write.new.self c.in-Err-write.refusal c.in-Err-write.ensures
 
 pub accept_commit-requires-clause-fits : goal.accept_commit-requires-clause-fits
 accept_commit-requires-clause-fits g c =
-    fits_planned c.args.parts.now c.plan_commit.new.parts c.args.session c.args.now c.in-Some.at c.in-Ok.plan c.in-Some.ensures.index
-    c.in-Some.ensures.within c.in-Ok.ensures.quiet c.in-Ok.ensures.others c.in-Ok.ensures.planned c.write.new.self.catalog
+    fits_planned c.args.parts.now c.plan_commit.new.parts c.args.session c.args.now c.in_ok-at.at c.in-Ok.plan c.in_ok-at.ensures.found
+    c.in_ok-at.ensures.within c.in-Ok.ensures.quiet c.in-Ok.ensures.others c.in-Ok.ensures.planned c.write.new.self.catalog
     c.in-Ok-write.ensures.catalog_same
 
 pub accept_commit-requires-clause-counted : goal.accept_commit-requires-clause-counted
 accept_commit-requires-clause-counted g c =
-    within_planned c.args.parts.now c.plan_commit.new.parts c.args.session c.args.now c.in-Some.at c.in-Ok.plan c.in-Some.ensures.index
-    c.in-Some.ensures.within c.in-Ok.ensures.quiet c.in-Ok.ensures.others c.in-Ok.ensures.planned c.write.new.self.counts
+    within_planned c.args.parts.now c.plan_commit.new.parts c.args.session c.args.now c.in_ok-at.at c.in-Ok.plan c.in_ok-at.ensures.found
+    c.in_ok-at.ensures.within c.in-Ok.ensures.quiet c.in-Ok.ensures.others c.in-Ok.ensures.planned c.write.new.self.counts
     c.in-Ok-write.ensures.counts_same
 
-pub returns : goal.returns
-returns g c =
-    runs_committed c.args.parts.now c.plan_commit.new.parts c.args.session c.args.now c.in-Some.at c.in-Ok.plan c.in-Some.ensures.index
-    c.in-Some.ensures.within c.in-Ok.ensures.quiet c.in-Ok.ensures.others c.in-Ok.ensures.planned
+pub returns-clause-runs : goal.returns-clause-runs
+returns-clause-runs g c =
+    runs_committed c.args.parts.now c.plan_commit.new.parts c.args.session c.args.now c.in_ok-at.at c.in-Ok.plan c.in_ok-at.ensures.found
+    c.in_ok-at.ensures.within c.in-Ok.ensures.quiet c.in-Ok.ensures.others c.in-Ok.ensures.planned
     (c.in-Ok.ensures.counted.stays (λ e. absurd cc))
     c.write.new.self c.accept_commit.new.parts c.in-Ok-write.field-0 c.in-Ok-write.ensures (record {
       pool = c.accept_commit.ensures.pool;
@@ -51,3 +55,24 @@ returns g c =
       views = c.accept_commit.ensures.views;
       halted = c.accept_commit.ensures.halted;
     })
+
+-- ---- the table that is called for
+
+pub returns-in_err-at-clause-tables : goal.returns-in_err-at-clause-tables
+returns-in_err-at-clause-tables g c =
+    heeds_no_session c.args.parts.now c.args.session _ _ c.from_residual.ensures.1 c.in_err-at.ensures.rule c.in_err-at.ensures.none
+
+pub returns-in-Err-clause-tables : goal.returns-in-Err-clause-tables
+returns-in-Err-clause-tables g c =
+    heeds_not_planned c.args.parts.now c.args.session c.in_ok-at.at c.in_ok-at.ensures.found c.in_ok-at.ensures.within c.plan_commit.new.parts
+    c.in-Err.refusal c.in-Err.ensures.quiet c.in-Err.ensures.others c.in-Err.ensures.tables
+
+pub returns-in-Err-write-clause-tables : goal.returns-in-Err-write-clause-tables
+returns-in-Err-write-clause-tables g c =
+    heeds_not_written c.args.parts.now c.args.session c.in_ok-at.at c.in_ok-at.ensures.found c.in_ok-at.ensures.within c.in-Ok.ensures.tables
+    c.plan_commit.new.parts c.write.new.self c.in-Ok.plan.changes c.in-Err-write.refusal c.in-Err-write.ensures
+
+pub returns-clause-tables : goal.returns-clause-tables
+returns-clause-tables g c =
+    heeds_committed c.args.parts.now c.args.session c.in_ok-at.at c.in_ok-at.ensures.found c.in_ok-at.ensures.within c.in-Ok.ensures.tables _
+    c.accept_commit.new.parts

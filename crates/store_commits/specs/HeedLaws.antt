@@ -1,0 +1,111 @@
+-- What a commit answers for the table that it calls for.
+--     heeds_no_session, heeds_not_planned, heeds_not_written, heeds_committed      at each of its answers
+use Rattle.std.specs.Prelude.{◌≡◌, ℕ, ◌<◌, List, Option, Some, None, Ok, Err, IsErrOf, length, slice_get}
+use Rattle.std.specs.Result.{IsErrAnd}
+use Rattle.std.proofs.Common.{sym, ◌∙◌, subst}
+use Rattle.disk_trait.specs.declared.ids.FileId.{FileId}
+use Rattle.disk_trait.specs.declared.disk.Disk.{Ghosts as DiskGhosts}
+use Rattle.pool_name.specs.declared.namer.Namer.{Ghosts as NamerGhosts}
+use Rattle.intent_journal.specs.declared.changes.Change.{Change}
+use Rattle.journal_view.specs.View.{told, Quiet}
+use Rattle.open_sessions.specs.declared.sessions.OpenDump.{OpenDump}
+use Rattle.office_model.specs.declared.answer.Answer.{Answer}
+use Rattle.office_model.specs.declared.session.SessionName.{SessionName}
+use Rattle.office_model.specs.declared.refusal.BrokenRule.{BrokenRule}
+use Rattle.office_model.specs.declared.refusal.BrokenRule.TheVariants.{NoSession}
+use Rattle.office_model.specs.declared.refusal.Refusal.{Refusal}
+use Rattle.office_model.specs.declared.refusal.Refusal.TheVariants as R
+use Rattle.office_model.specs.Meaning.{Reply}
+use Rattle.store_parts.specs.declared.parts.StoreParts.{StoreParts}
+use Rattle.store_parts.specs.Writes.{IsWriteFault, Writes}
+use Rattle.store_parts.specs.RefusalLaws.{broken_by}
+use Rattle.store_commits.specs.Tables.{AreThere, IsHeededBy, IsTableFor, place_of, IsTableForName, HeedsTables}
+use Rattle.store_commits.specs.PlanLaws.{one_there}
+use Rattle.store_commits.specs.EventLaws.{there_within}
+
+some_same : {A : Type 0} (x y : A) → Some x ≡ Some y → x ≡ y
+some_same x y e = cc
+
+not_damaged : (refusal : Refusal) (file : FileId) (found : Option (List ℕ)) → IsWriteFault refusal → refusal ≡ R.Damaged file found → ⊥
+not_damaged R.DiskFault file found kind e = cc
+not_damaged R.Memory file found kind e = cc
+not_damaged (R.Broken rule) file found kind e = kind
+not_damaged (R.Damaged other bytes) file found kind e = kind
+not_damaged R.Halted file found kind e = kind
+
+refusal_is : (refusal other : Refusal) → IsErrOf {T = Answer} (Err refusal) other → refusal ≡ other
+refusal_is refusal other e = cc
+
+module _ {D N S : Type 0} {d : DiskGhosts D} {n : NamerGhosts N S} where
+  pub heeds_no_session : (old : StoreParts D N S d n) (name : SessionName) (reply : Reply) (rule : BrokenRule)
+      → IsErrAnd reply (λ refusal. refusal ≡ R.Broken rule) → rule ≡ NoSession → None ≡ place_of old.sessions.dumps.items name
+      → HeedsTables old name reply old
+  heeds_no_session old name reply rule is same none =
+      subst (λ (r : Reply). HeedsTables old name r old) (sym (broken_by reply rule NoSession is same)) (record {
+        tables = λ all file is calls. absurd (apart calls.place (none ∙ sym calls.found));
+        undone = λ file found e. absurd cc;
+      })
+    where
+      apart : (place : ℕ) → None ≡ Some place → ⊥
+      apart place e = cc
+
+  module _ (old : StoreParts D N S d n) (name : SessionName) (place : ℕ) (found : Some place ≡ place_of old.sessions.dumps.items name)
+      (within : place < length old.sessions.dumps.items) where
+    abbrev session : OpenDump
+    session = (there_within old.sessions.dumps.items place within).0
+
+    there : slice_get old.sessions.dumps.items place ≡ Some session
+    there = (there_within old.sessions.dumps.items place within).1
+
+    of_name : (file : FileId) → IsTableForName old name file → IsTableFor old session file
+    of_name file calls =
+        let same : calls.place ≡ place = some_same calls.place place (calls.found ∙ sym found) in
+        subst (λ (s : OpenDump). IsTableFor old s file)
+        (one_there old.sessions.dumps.items place calls.session session
+        (subst (λ (p : ℕ). slice_get old.sessions.dumps.items p ≡ Some calls.session) same calls.there) there) calls.calls
+
+    named_there : AreThere (told old.journal) (IsTableFor old session) → AreThere (told old.journal) (IsTableForName old name)
+    named_there are all file is calls = are all file is (of_name file calls)
+
+    named_refused : (refusal : Refusal) → IsHeededBy (told old.journal) (IsTableFor old session) refusal
+        → IsHeededBy (told old.journal) (IsTableForName old name) refusal
+    named_refused (R.Broken rule) heeds = named_there heeds
+    named_refused (R.Damaged file bytes) heeds = (
+      record { place = place; session = session; found = found; there = there; calls = heeds.0 },
+      heeds.1,
+    )
+    named_refused R.DiskFault heeds = tt
+    named_refused R.Memory heeds = tt
+    named_refused R.Halted heeds = absurd heeds
+
+    pub heeds_not_planned : (mid : StoreParts D N S d n) (refusal : Refusal) → Quiet old.journal mid.journal
+        → mid ≡ record old { journal = mid.journal }
+        → ((session : OpenDump) → slice_get old.sessions.dumps.items place ≡ Some session
+        → IsHeededBy (told old.journal) (IsTableFor old session) refusal)
+        → HeedsTables old name (Err refusal) mid
+    heeds_not_planned mid refusal quiet others heeds = record {
+      tables = named_refused refusal (heeds session there);
+      undone = λ file bytes e. (quiet, others);
+    }
+
+    module _ (are : (session : OpenDump) → slice_get old.sessions.dumps.items place ≡ Some session
+        → AreThere (told old.journal) (IsTableFor old session)) where
+      written_refused : (refusal : Refusal) → IsWriteFault refusal → IsHeededBy (told old.journal) (IsTableForName old name) refusal
+      written_refused R.DiskFault kind = tt
+      written_refused R.Memory kind = tt
+      written_refused (R.Broken rule) kind = absurd kind
+      written_refused (R.Damaged file bytes) kind = absurd kind
+      written_refused R.Halted kind = absurd kind
+
+      pub heeds_not_written : (start new : StoreParts D N S d n) (changes : List Change) (refusal : Refusal)
+          → Writes start changes (Err refusal) new → HeedsTables old name (Err refusal) new
+      heeds_not_written start new changes refusal w = record {
+        tables = written_refused refusal w.kind;
+        undone = λ file bytes e. absurd (not_damaged refusal file bytes w.kind (refusal_is refusal (R.Damaged file bytes) e));
+      }
+
+      pub heeds_committed : (answer : Answer) (new : StoreParts D N S d n) → HeedsTables old name (Ok answer) new
+      heeds_committed answer new = record {
+        tables = named_there (are session there);
+        undone = λ file bytes e. absurd cc;
+      }

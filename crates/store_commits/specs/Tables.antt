@@ -1,0 +1,72 @@
+-- What a commit answers for the table that it calls for, over whatever the disk tells.
+--     AreThere told Calls      each file that is called for has a table, in its grammar
+--     Heeds told Calls reply      after Ok they are there
+--     IsHeededBy told Calls refusal      one that isn't there is named, with what was found of it
+--     IsTableFor parts session file      the table that the commit of an open dump calls for
+--     HeedsTables old name reply new      what a commit answers for it; if it is damaged, nothing was done
+use Rattle.std.specs.Prelude.{⊤, ◌≡◌, ◌<◌, ℕ, List, Option, Some, None, Result, Ok, Err, slice_get}
+use Rattle.std.specs.List.{position_from}
+use Rattle.disk_trait.specs.declared.ids.FileId.{FileId}
+use Rattle.disk_trait.specs.declared.ids.FileId.TheVariants.{Table as TableFile}
+use Rattle.disk_trait.specs.declared.disk.Disk.{Ghosts as DiskGhosts}
+use Rattle.disk_trait.specs.Files.{Files}
+use Rattle.pool_name.specs.declared.namer.Namer.{Ghosts as NamerGhosts}
+use Rattle.journal_view.specs.View.{told, Quiet}
+use Rattle.backup_rules.specs.declared.lines.Line.{Line}
+use Rattle.backup_index.specs.Index.{Index}
+use Rattle.backup_views.specs.Stored.{IsTableFile}
+use Rattle.backup_views.specs.Faults.{IsNoTable}
+use Rattle.merge_view.specs.Views.{Rows}
+use Rattle.open_sessions.specs.declared.sessions.OpenDump.{OpenDump}
+use Rattle.office_model.specs.declared.session.SessionName.{SessionName}
+use Rattle.office_model.specs.Session.{is_same_session}
+use Rattle.office_model.specs.declared.refusal.Refusal.{Refusal}
+use Rattle.office_model.specs.declared.refusal.Refusal.TheVariants as R
+use Rattle.office_model.specs.Meaning.{Reply}
+use Rattle.store_parts.specs.declared.parts.StoreParts.{StoreParts}
+use Rattle.store_commits.specs.Former.{dropped_of}
+
+abbrev pub AreThere : Option Files → (FileId → Type 0) → Type 0
+AreThere told Calls = (all : Files) (file : FileId) → told ≡ Some all → Calls file → (rows : Rows) × IsTableFile rows (all file)
+
+-- a rule is only broken if they are there, or none is called for
+abbrev pub IsHeededBy : Option Files → (FileId → Type 0) → Refusal → Type 0
+IsHeededBy told Calls (R.Broken rule) = AreThere told Calls
+IsHeededBy told Calls (R.Damaged file found) = Calls file × IsNoTable told file found
+IsHeededBy told Calls R.DiskFault = ⊤
+IsHeededBy told Calls R.Memory = ⊤
+IsHeededBy told Calls R.Halted = ⊥
+
+abbrev pub Heeds : {T : Type 0} → Option Files → (FileId → Type 0) → Result T Refusal → Type 0
+Heeds told Calls (Ok done) = AreThere told Calls
+Heeds told Calls (Err refusal) = IsHeededBy told Calls refusal
+
+-- the table of a backup's line that is dropped
+abbrev pub IsTableOf : ℕ → Option Line → FileId → Type 0
+IsTableOf host None file = ⊥
+IsTableOf host (Some line) file = file ≡ TableFile host line.number
+
+-- where the open dump of a name is in memory
+abbrev pub place_of : List OpenDump → SessionName → Option ℕ
+place_of dumps name = position_from (λ dump. is_same_session dump.name name) 0 dumps
+
+module _ {D N S : Type 0} {d : DiskGhosts D} {n : NamerGhosts N S} where
+  -- that of its host's newest backup, if it doesn't stay filled, and the host has a number left
+  pub record IsTableFor (parts : StoreParts D N S d n) (session : OpenDump) (file : FileId) : Type 0 where
+    pub index : Index
+    pub here : slice_get parts.catalog.hosts session.host ≡ Some index
+    pub number : index.next < 4294967296
+    pub is : IsTableOf session.host (dropped_of index.rules index.lines) file
+
+  -- of the open dump of a name
+  pub record IsTableForName (parts : StoreParts D N S d n) (name : SessionName) (file : FileId) : Type 0 where
+    pub place : ℕ
+    pub session : OpenDump
+    pub found : Some place ≡ place_of parts.sessions.dumps.items name
+    pub there : slice_get parts.sessions.dumps.items place ≡ Some session
+    pub calls : IsTableFor parts session file
+
+  pub record HeedsTables (old : StoreParts D N S d n) (name : SessionName) (reply : Reply) (new : StoreParts D N S d n) : Type 0 where
+    pub tables : Heeds (told old.journal) (IsTableForName old name) reply
+    pub undone : (file : FileId) (found : Option (List ℕ)) → reply ≡ Err (R.Damaged file found)
+        → Quiet old.journal new.journal × (new ≡ record old { journal = new.journal })
