@@ -3,6 +3,7 @@
 one folder, and looks whether each backup whose commit was answered is read back whole by the next run: tests/crash.py PROGRAM [KILLS [TERMS [STARTS]]]. The last line is
 'N passed, M failed'."""
 import contextlib
+import hashlib
 import os
 import random
 import resource
@@ -38,18 +39,23 @@ def response(stream):
     return (int(first.split()[1]), body) if len(body) == length else None
 
 
-def limit_files(size):
-    """Lets this process write no file beyond a size: a write fails there, and no signal ends the process."""
-    signal.signal(signal.SIGXFSZ, signal.SIG_IGN)
-    resource.setrlimit(resource.RLIMIT_FSIZE, (size, size))
+def limit_files(size, count):
+    """Lets this process write no file beyond a size, if one is given: a write fails there, and no signal ends the process; and lets
+    it have no more files open than a count, if one is given."""
+    if size is not None:
+        signal.signal(signal.SIGXFSZ, signal.SIG_IGN)
+        resource.setrlimit(resource.RLIMIT_FSIZE, (size, size))
+    if count is not None:
+        resource.setrlimit(resource.RLIMIT_NOFILE, (count, count))
 
 
 class Run:
-    """A run of the program on a store; with no file above a size if a limit is given, and under another program's words."""
+    """A run of the program on a store; with no file above a size, and no more of them open than a count, if these are given, and
+    under another program's words."""
 
-    def __init__(self, program, store, limit=None, under=()):
+    def __init__(self, program, store, limit=None, under=(), count=None):
         words = [*under, program, "pipe", "--store", store]
-        before = None if limit is None else lambda: limit_files(limit)
+        before = None if (limit, count) == (None, None) else lambda: limit_files(limit, count)
         pipe = subprocess.PIPE
         self.run = subprocess.Popen(words, stdin=pipe, stdout=pipe, stderr=pipe, preexec_fn=before)
 
@@ -184,13 +190,15 @@ def fill(program, store, limit=None, under=()):
     return run, kept, backup_again(run, kept, 1)
 
 
-def ended_full(run, refused, reasons=(27, 28)):
-    """What is wrong with the end of a run whose disk failed: its last line names the file or folder, and the reason."""
+def ended_full(run, refused, reasons=(27, 28), name=""):
+    """What is wrong with the end of a run whose disk failed: its last line names the file (this one, if one is given) or
+    folder, and the reason."""
     status, said = run.end()
     if refused not in (None, 500, 503):
         return f"a disk that failed was answered by {refused}"
     lines = said.splitlines()
-    if lines and lines[-1].endswith(tuple(f"(os error {reason})" for reason in reasons)):
+    ends = tuple(f"{name}: {os.strerror(reason)} (os error {reason})" for reason in reasons)
+    if lines and lines[-1].endswith(ends):
         if status == 4 and lines[:-1] == ["disk failed"] or status == 8 and refused is None:
             return None
         if status == 0 and refused is not None and len(lines) == 1:
@@ -288,6 +296,36 @@ def failing_syncs(score, program, room):
     print(f"80 syncs that failed, after {calls} commits", flush=True)
 
 
+def commit_beside(run, bodies):
+    """Commits a dump of files with these bodies, and gives the status of the last answer."""
+    found = run.ask(request("PUT /hosts/pc1"))
+    found = found and run.ask(request("POST /hosts/pc1/dumps?kind=full"))
+    dump = found and found[1].decode().split('"')[3]
+    for at, body in enumerate(bodies):
+        found = found and run.ask(request(f"PUT /dumps/{dump}/entry?path=f{at}&kind=file", body))
+    found = found and run.ask(request(f"POST /dumps/{dump}/commit"))
+    return found and found[0]
+
+
+def failing_parts(score, program, room):
+    """In a commit of many new files, which are made durable side by side, each of them fails in one run: the commit is refused,
+    and this file is named. In every other run so few files may be open that most are made durable early."""
+    bodies = [f"content {at} ".encode() * 100 for at in range(48)]
+    for at, body in enumerate(bodies):
+        store = os.path.join(room, f"part-{at}")
+        name = f"pool-{hashlib.md5(body).hexdigest()}-0"
+        of_file = ["-P", os.path.join(os.path.realpath(room), f"part-{at}", name)]
+        count = 48 if at % 2 else None
+        run = Run(program, store, under=[*traced(["fsync,fdatasync:error=EIO"]), *of_file], count=count)
+        refused = commit_beside(run, bodies)
+        again = run.ask(request("PUT /hosts/pc2"))
+        fault = None if again and again[0] in (500, 503) else f"after a sync that failed {again} was answered"
+        fault = fault or ended_full(run, refused, [5], name) or reopened(program, store, {}, [])
+        score.count(f"file {at} of a commit fails", fault)
+        shutil.rmtree(store, ignore_errors=True)
+    print(f"{len(bodies)} commits of {len(bodies)} files, of which one fails", flush=True)
+
+
 def interrupted(run, kept):
     """Ten dumps with a commit each, and reading them back: what is wrong with an answer."""
     found = run.ask(request("PUT /hosts/pc1"))
@@ -327,6 +365,7 @@ def calls_that_fail(score, program, room):
         print("skipped: syncs that fail and calls that are interrupted, since strace isn't there or may not trace", flush=True)
         return
     failing_syncs(score, program, room)
+    failing_parts(score, program, room)
     interrupts(score, program, room)
 
 

@@ -5,44 +5,48 @@ ghost use Rattle.backup_server.specs.Untold.{untold};
 
 use crate::disk_fault::DiskFault;
 use crate::fault_count::FaultCount;
+use crate::open_files::most_handles;
 use crate::pending::Pending;
 use crate::store_folder::{Access, make_folder, open_file};
 use disk_trait::{Bytes, Disk, DiskError, Failed, FileId, FileList};
 use file_names::file_named;
 use std::alloc::{AllocError, Global};
-use std::fs::{Files, OpenFile};
+use std::fs::File;
 use std::io::{ErrorKind, Read, Seek, SeekFrom, Write};
+use std::thread::Threads;
 use std::{fs, io};
 
 /// The disk that keeps its files in a folder of the system, each under its real name; other names in the folder are
 /// passed over. It tells nothing of its files.
 ///
-/// A file that was written keeps the handle that wrote it until a sync makes it durable by that handle; where there
-/// are many, the oldest are made durable early. A sync then makes durable which files the folder has: so a crash of
+/// A file that was written keeps the handle that wrote it until a sync makes it durable by that handle; where as many are kept
+/// as may be, they are made durable early. A sync then makes durable which files the folder has: so a crash of
 /// the machine after a sync keeps each file as it was. After a sync that failed each later one fails, since the
-/// system may then take for durable what it has lost.
+/// system may then take for durable what it has lost. Many files are made durable side by side.
 #[derive(Drop)]
-pub struct FolderDisk<R: Files> {
-    rt: R,
+pub struct FolderDisk<H: Threads + Drop> {
+    rt: HostRuntime,
+    threads: H,
     path: String,
-    folder: R::File,
-    pending: Pending<R>,
+    folder: File,
+    pending: Pending,
     is_doubtful: bool,
     fault: Option<DiskFault>,
     faults: FaultCount,
 }
 
-impl<R: Files + AllocGlobal + Clone + Drop> FolderDisk<R> {
+impl<H: Threads + Drop> FolderDisk<H> {
     /// The disk over the folder at this path, which is made where it isn't there.
-    pub fn open(rt: R, path: &str) -> io::Result<FolderDisk<R>> {
+    pub fn open(rt: HostRuntime, threads: H, path: &str) -> io::Result<FolderDisk<H>> {
         let alloc = rt.alloc();
         make_folder(&rt, alloc, path)?;
         let folder = fs::open(&rt, path)?;
         Ok(FolderDisk {
             rt,
+            threads,
             path: String::from_str(alloc, path)?,
             folder,
-            pending: Pending::new(alloc),
+            pending: Pending::new(alloc, most_handles()),
             is_doubtful: false,
             fault: None,
             faults: FaultCount::new(),
@@ -61,7 +65,7 @@ impl<R: Files + AllocGlobal + Clone + Drop> FolderDisk<R> {
     }
 
     /// A handle to a file.
-    fn open_file(&self, file: FileId, access: Access) -> io::Result<R::File> {
+    fn open_file(&self, file: FileId, access: Access) -> io::Result<File> {
         let path = self.path_of(file)?;
         open_file(&self.rt, path.as_str(), access)
     }
@@ -130,10 +134,10 @@ impl<R: Files + AllocGlobal + Clone + Drop> FolderDisk<R> {
     }
 
     /// Keeps the handle that wrote a file. What was to be made durable early and isn't fails the next sync.
-    fn keep(&mut self, file: FileId, handle: R::File)
+    fn keep(&mut self, file: FileId, handle: File)
         ensures { self.new.faults ≡ self.old.faults }
     {
-        match self.pending.keep(file, handle) {
+        match self.pending.keep(&self.threads, file, handle) {
             Ok(()) => {}
             Err(fault) => {
                 self.is_doubtful = true;
@@ -163,7 +167,7 @@ impl<R: Files + AllocGlobal + Clone + Drop> FolderDisk<R> {
     fn settle(&mut self) -> Result<(), DiskFault>
         ensures { self.new.faults ≡ self.old.faults }
     {
-        self.pending.settle()?;
+        self.pending.settle(&self.threads)?;
         match self.folder.sync_all() {
             Ok(()) => Ok(()),
             Err(error) => Err(DiskFault::of_folder(error)),
@@ -200,7 +204,7 @@ fn answer_of<T>(answer: io::Result<T>) -> Found<T> {
     }
 }
 
-impl<R: Files + AllocGlobal + Clone + Drop> Disk for FolderDisk<R> {
+impl<H: Threads + Drop> Disk for FolderDisk<H> {
     ghost use Rattle.disk_trait.specs.Images.{nothing};
 
     ghost files = { λ _. None };

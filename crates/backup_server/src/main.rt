@@ -4,6 +4,7 @@
 mod disk_fault;
 mod fault_count;
 mod folder_disk;
+mod open_files;
 mod pending;
 mod serving;
 mod standard_streams;
@@ -60,7 +61,7 @@ fn obey<H: Threads + Wait + Sync>(rt: &HostRuntime, threads: &H, words: &[String
         Err(status) => return status,
     };
     let folder = line.store.as_str();
-    match FolderDisk::open(*rt, folder) {
+    match FolderDisk::open(*rt, threads, folder) {
         Ok(disk) => obey_alone(rt, threads, words, settings.as_slice(), &line, disk),
         Err(error) => not_made(
             rt,
@@ -92,7 +93,7 @@ fn obey_alone<H: Threads + Wait + Sync>(
     words: &[String],
     settings: &[u8],
     line: &CommandLine,
-    disk: FolderDisk<HostRuntime>,
+    disk: FolderDisk<&H>,
 ) -> u8 {
     let folder = line.store.as_str();
     match lock_folder(rt, folder) {
@@ -120,7 +121,7 @@ fn obey_work<H: Threads + Wait + Sync>(
     words: &[String],
     settings: &[u8],
     line: &CommandLine,
-    disk: FolderDisk<HostRuntime>,
+    disk: FolderDisk<&H>,
 ) -> u8 {
     let folder = line.store.as_str();
     let (listen, connections) = match &line.work {
@@ -162,7 +163,7 @@ fn do_asked<H: Threads + Wait + Sync>(
     words: &[String],
     settings: &[u8],
     folder: &str,
-    disk: FolderDisk<HostRuntime>,
+    disk: FolderDisk<&H>,
     workers: Vec<TcpWorker<'_>>,
 ) -> u8 {
     let link = match link_of(rt) {
@@ -198,7 +199,7 @@ fn do_asked<H: Threads + Wait + Sync>(
 
 /// Says on standard error, behind the note if there is one, which folder has a foreign file, and where and why the disk
 /// failed last if it did: also where that refused a request alone, and the run went on.
-fn explain(rt: &HostRuntime, folder: &str, note: Note, disk: &FolderDisk<HostRuntime>) {
+fn explain<H: Threads>(rt: &HostRuntime, folder: &str, note: Note, disk: &FolderDisk<&H>) {
     if let Note::Foreign(_) = note {
         let _ = eprintln!(rt; "in the folder {folder}");
     }
