@@ -273,6 +273,29 @@ def full_disks(score, program, room):
     print(f"{len(sizes)} disks that got full", flush=True)
 
 
+def last_room(score, program, room):
+    """A content that doesn't fit leaves the disk as much room as before it, so that the store can be opened again."""
+    place = os.path.join(room, "last_room")
+    if not mount(place, "size=1m"):
+        print("skipped: the last room of a disk, since no tmpfs can be mounted here", flush=True)
+        return
+    try:
+        store = os.path.join(place, "store")
+        run, kept = Run(program, store), {0: b"1" * 900_000}
+        answers = [run.ask(request("PUT /hosts/pc1"))]
+        for dump, body in (("1-0", kept[0]), ("1-1", b"2" * 900_000)):
+            answers.append(run.ask(request("POST /hosts/pc1/dumps?kind=full")))
+            answers.append(run.ask(request(f"PUT /dumps/{dump}/entry?path=f&kind=file", body)))
+            if body == kept[0]:
+                answers.append(run.ask(request(f"POST /dumps/{dump}/commit")))
+        found = [answer and answer[0] for answer in answers]
+        fault = None if found == [201, 201, 200, 201, 201, 500] else f"answered by {found}"
+        fault = fault or ended_full(run, 500)
+        score.count("the last room of a disk", fault or reopened(program, store, kept, [0]))
+    finally:
+        subprocess.run(["umount", place], check=True)
+
+
 def traced(rules):
     """The words that have strace inject these errors into the calls of a program."""
     return ["strace", "-f", "-qq", "-o", "/dev/null", *(word for rule in rules for word in ("-e", f"inject={rule}"))]
@@ -376,6 +399,7 @@ def main():
     with tempfile.TemporaryDirectory() as room:
         limits(score, program, room)
         full_disks(score, program, room)
+        last_room(score, program, room)
         calls_that_fail(score, program, room)
         starts(score, program, room, pairs)
         stops(score, program, room, signal.SIGTERM, terms)

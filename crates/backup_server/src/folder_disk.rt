@@ -115,7 +115,7 @@ impl<H: Threads + Drop> FolderDisk<H> {
         ensures { self.new.faults ≡ self.old.faults }
     {
         let mut handle = self.open_file(file, Access::Replace)?;
-        let written = handle.write_all(bytes);
+        let written = write_or_empty(&mut handle, bytes);
         self.keep(file, handle);
         written
     }
@@ -128,7 +128,7 @@ impl<H: Threads + Drop> FolderDisk<H> {
             Some(handle) => handle,
             None => self.open_file(file, Access::Append)?,
         };
-        let written = handle.write_all(bytes);
+        let written = write_or_empty(&mut handle, bytes);
         self.keep(file, handle);
         written
     }
@@ -182,6 +182,15 @@ impl<H: Threads + Drop> FolderDisk<H> {
             self.fault = Some(fault);
         }
     }
+}
+
+/// Writes these bytes. A file that doesn't take them is emptied, so that what it took doesn't hold a disk's last room.
+fn write_or_empty(handle: &mut File, bytes: &[u8]) -> io::Result<()> {
+    let written = handle.write_all(bytes);
+    if written.is_err() && handle.set_len(0).is_ok() {
+        let _ = handle.rewind();
+    }
+    written
 }
 
 /// The answer to a read.
