@@ -29,6 +29,12 @@ attempt() {
     status=$?
 }
 
+# attempt_soon WORD..: does so, and stops it after ten seconds.
+attempt_soon() {
+    timeout 10 "$program" "$@" <in >out 2>err
+    status=$?
+}
+
 # expect NAME: counts the result of the command before it.
 expect() {
     if [ $? = 0 ]; then
@@ -224,13 +230,15 @@ judge 'standard output that takes nothing' 3 'link failed'
 
 mkdir -p away/head
 attempt pipe --store away
-judge 'a head that cannot be read' 4 'disk failed
+judge 'a head that is a folder' 4 'disk failed
 away/head: Is a directory (os error 21)'
 
 mkdir -p linked
 echo kept >target
 ln -s ../target linked/head
 attempt pipe --store linked
+judge 'a symbolic link in the place of a head' 4 'disk failed
+linked/head: Too many levels of symbolic links (os error 40)'
 [ "$(cat target)" = kept ] && [ -L linked/head ]
 expect 'a symbolic link in the place of a head is not written through'
 mkdir -p dangling
@@ -244,6 +252,26 @@ mkdir -p lock_linked
 ln -s ../nowhere lock_linked/lock
 attempt pipe --store lock_linked
 judge 'a symbolic link in the place of the lock' 8 "the folder lock_linked can't be locked: Too many levels of symbolic links (os error 40)"
+
+# What would wait if it were opened is refused before that.
+mkdir -p piped gated lock_piped
+mkfifo piped/head gated/intent lock_piped/lock
+attempt_soon pipe --store piped
+judge 'a FIFO in the place of a head' 4 'disk failed
+piped/head: not a regular file'
+attempt_soon pipe --store gated
+judge 'a FIFO in the place of the journal' 4 'disk failed
+gated/intent: not a regular file'
+attempt_soon pipe --store lock_piped
+judge 'a FIFO in the place of the lock' 8 "the folder lock_piped can't be locked: not a regular file"
+mkdir -p devices
+if mknod devices/head c 1 3 2>/dev/null; then
+    attempt_soon pipe --store devices
+    judge 'a device in the place of a head' 4 'disk failed
+devices/head: not a regular file'
+else
+    echo "skipped: a device in the place of a head, since none can be made here"
+fi
 
 # Root meets no file without permission, so the program runs as another user then, if it can.
 as_user=

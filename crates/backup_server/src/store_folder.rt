@@ -1,9 +1,9 @@
 //! A store's folder and the files in it: both are made for their owner alone, since a backup holds everybody's files.
 
 use std::alloc::Global;
-use std::fs::{DirBuilder, File, Files, OpenFile, OpenOptions, TryLockError};
+use std::fs::{DirBuilder, File, Files, Metadata, OpenFile, OpenOptions, TryLockError};
 use std::io::ErrorKind;
-use std::os::unix::fs::{DirBuilderExt, OpenOptionsExt};
+use std::os::unix::fs::{DirBuilderExt, MetadataExt, OpenOptionsExt};
 use std::path::Path;
 use std::{fs, io};
 
@@ -12,6 +12,9 @@ const FILE_MODE: u32 = 0o600;
 
 /// The mode of its folder.
 const FOLDER_MODE: u32 = 0o700;
+
+/// The system's number for a folder in the place of a file (EISDIR).
+const FOLDER: i32 = 21;
 
 /// The system's number for a symbolic link in a place where none may be (ELOOP).
 const SYMBOLIC_LINK: i32 = 40;
@@ -26,35 +29,65 @@ pub enum Access {
     Append,
 }
 
-/// A handle to a file, which is made if it is to be written and isn't there.
+/// A handle to a regular file, which is made if it is to be written and isn't there. What else stands in its place is refused
+/// before it is opened, since that may wait, or be felt elsewhere.
 pub fn open_file<R: Files>(rt: &R, path: &str, access: Access) -> io::Result<R::File> {
-    if access == Access::Read {
-        return fs::open(rt, path);
-    }
-    let is_there = is_there(rt, path)?;
     let mut options = OpenOptions::new();
-    options.mode(FILE_MODE).create_new(!is_there);
     match access {
+        Access::Read => options.read(true),
+        Access::Replace => options.write(true),
         Access::Append => options.append(true),
-        _ => options.write(true).truncate(is_there),
     };
-    rt.open_file(&options, path)
+    match regular_file(rt, path)? {
+        Some(found) => open_found(rt, path, access, &options, &found),
+        None => match access {
+            Access::Read => Err(io::Error::from(ErrorKind::NotFound)),
+            _ => rt.open_file(options.mode(FILE_MODE).create_new(true), path),
+        },
+    }
 }
 
-/// Whether a file is there. A symbolic link is refused, so that nothing is written through it.
-fn is_there<R: Files>(rt: &R, path: &str) -> io::Result<bool> {
+/// What the system says of the regular file there, if something is there.
+fn regular_file<R: Files>(rt: &R, path: &str) -> io::Result<Option<Metadata>> {
     match rt.symlink_metadata(path) {
-        Ok(found) => {
-            if found.is_symlink() {
-                return Err(io::Error::from_raw_os_error(SYMBOLIC_LINK));
-            }
-            Ok(true)
-        }
+        Ok(found) if found.is_file() => Ok(Some(found)),
+        Ok(found) => Err(irregular(&found)),
         Err(error) => match error.kind() {
-            ErrorKind::NotFound => Ok(false),
+            ErrorKind::NotFound => Ok(None),
             _ => Err(error),
         },
     }
+}
+
+/// Why this is refused in the place of a file.
+fn irregular(found: &Metadata) -> io::Error {
+    if found.is_symlink() {
+        return io::Error::from_raw_os_error(SYMBOLIC_LINK);
+    }
+    if found.is_dir() {
+        return io::Error::from_raw_os_error(FOLDER);
+    }
+    io::Error::new(ErrorKind::InvalidInput, "not a regular file")
+}
+
+/// A handle to the file that was found there, emptied if it is to be replaced. One that came into its place meanwhile is refused
+/// as it is.
+fn open_found<R: Files>(
+    rt: &R,
+    path: &str,
+    access: Access,
+    options: &OpenOptions,
+    found: &Metadata,
+) -> io::Result<R::File> {
+    let handle = rt.open_file(options, path)?;
+    let opened = handle.metadata()?;
+    if opened.dev() != found.dev() || opened.ino() != found.ino() {
+        return Err(io::Error::new(ErrorKind::Other, "another file came into its place"));
+    }
+    if access == Access::Replace {
+        handle.set_len(0)?;
+    }
+    Ok(handle)
 }
 
 /// Makes the folder, and those above it, where they aren't there, so that a crash keeps them.
