@@ -73,7 +73,7 @@ impl<H: Threads + Drop> FolderDisk<H> {
     /// The bytes of a file.
     fn bytes_of(&self, alloc: Global, file: FileId) -> io::Result<Vec<u8>> {
         let mut handle = self.open_file(file, Access::Read)?;
-        let mut bytes = Vec::new(alloc);
+        let mut bytes = room_for(alloc, handle.metadata()?.len())?;
         handle.read_to_end(&mut bytes)?;
         Ok(bytes)
     }
@@ -81,10 +81,11 @@ impl<H: Threads + Drop> FolderDisk<H> {
     /// `room` bytes of a file from an offset on, or all that are left.
     fn piece_of(&self, alloc: Global, file: FileId, from: u64, room: usize) -> io::Result<Vec<u8>> {
         let mut handle = self.open_file(file, Access::Read)?;
-        let mut bytes = Vec::new(alloc);
-        if handle.metadata()?.len() <= from {
-            return Ok(bytes);
+        let left = handle.metadata()?.len().saturating_sub(from);
+        if left == 0 {
+            return Ok(Vec::new(alloc));
         }
+        let mut bytes = room_for(alloc, left.min(room as u64))?;
         handle.seek(SeekFrom::Start(from))?;
         handle.take(room as u64).read_to_end(&mut bytes)?;
         Ok(bytes)
@@ -181,6 +182,14 @@ impl<H: Threads + Drop> FolderDisk<H> {
         if self.fault.is_none() {
             self.fault = Some(fault);
         }
+    }
+}
+
+/// Room for this number of bytes, and for the one more with which a reader sees that none follows.
+fn room_for(alloc: Global, count: u64) -> io::Result<Vec<u8>> {
+    match usize::try_from(count.saturating_add(1)) {
+        Ok(room) => Ok(Vec::with_capacity(alloc, room)?),
+        Err(_) => Err(io::Error::from(ErrorKind::OutOfMemory)),
     }
 }
 
