@@ -191,17 +191,17 @@ def fill(program, store, limit=None, under=()):
 
 
 def ended_full(run, refused, reasons=(27, 28), name=""):
-    """What is wrong with the end of a run whose disk failed: its last line names the file (this one, if one is given) or
-    folder, and the reason."""
+    """What is wrong with the end of a run whose disk failed: a line for each cause has the file (of this name, if one is given)
+    or the folder, and the reason; the note comes behind them."""
     status, said = run.end()
     if refused not in (None, 500, 503):
         return f"a disk that failed was answered by {refused}"
     lines = said.splitlines()
-    ends = tuple(f"{name}: {os.strerror(reason)} (os error {reason})" for reason in reasons)
-    if lines and lines[-1].endswith(ends):
-        if status == 4 and lines[:-1] == ["disk failed"] or status == 8 and refused is None:
-            return None
-        if status == 0 and refused is not None and len(lines) == 1:
+    if status == 4 and lines[-1:] == ["disk failed"]:
+        lines.pop()
+    ends = tuple(f"{name}: {text} (os error {reason})" for reason in reasons for text in [os.strerror(reason)])
+    if lines and all(line.endswith(ends) for line in lines) and len(lines) <= len(reasons):
+        if status == 4 or status == 8 and refused is None or status == 0 and refused is not None:
             return None
     return f"a run whose disk failed, refused by {refused}, ended with {status}: {said}"
 

@@ -230,22 +230,22 @@ judge 'standard output that takes nothing' 3 'link failed'
 
 mkdir -p away/head
 attempt pipe --store away
-judge 'a head that is a folder' 4 'disk failed
-away/head: Is a directory (os error 21)'
+judge 'a head that is a folder' 4 'away/head: Is a directory (os error 21)
+disk failed'
 
 mkdir -p linked
 echo kept >target
 ln -s ../target linked/head
 attempt pipe --store linked
-judge 'a symbolic link in the place of a head' 4 'disk failed
-linked/head: Too many levels of symbolic links (os error 40)'
+judge 'a symbolic link in the place of a head' 4 'linked/head: Too many levels of symbolic links (os error 40)
+disk failed'
 [ "$(cat target)" = kept ] && [ -L linked/head ]
 expect 'a symbolic link in the place of a head is not written through'
 mkdir -p dangling
 ln -s ../nowhere dangling/head
 attempt pipe --store dangling
-judge 'a dangling symbolic link in the place of a head' 4 'disk failed
-dangling/head: Too many levels of symbolic links (os error 40)'
+judge 'a dangling symbolic link in the place of a head' 4 'dangling/head: Too many levels of symbolic links (os error 40)
+disk failed'
 [ ! -e nowhere ]
 expect 'a dangling symbolic link is not written through'
 mkdir -p lock_linked
@@ -257,18 +257,18 @@ judge 'a symbolic link in the place of the lock' 8 "the folder lock_linked can't
 mkdir -p piped gated lock_piped
 mkfifo piped/head gated/intent lock_piped/lock
 attempt_soon pipe --store piped
-judge 'a FIFO in the place of a head' 4 'disk failed
-piped/head: not a regular file'
+judge 'a FIFO in the place of a head' 4 'piped/head: not a regular file
+disk failed'
 attempt_soon pipe --store gated
-judge 'a FIFO in the place of the journal' 4 'disk failed
-gated/intent: not a regular file'
+judge 'a FIFO in the place of the journal' 4 'gated/intent: not a regular file
+disk failed'
 attempt_soon pipe --store lock_piped
 judge 'a FIFO in the place of the lock' 8 "the folder lock_piped can't be locked: not a regular file"
 mkdir -p devices
 if mknod devices/head c 1 3 2>/dev/null; then
     attempt_soon pipe --store devices
-    judge 'a device in the place of a head' 4 'disk failed
-devices/head: not a regular file'
+    judge 'a device in the place of a head' 4 'devices/head: not a regular file
+disk failed'
 else
     echo "skipped: a device in the place of a head, since none can be made here"
 fi
@@ -294,8 +294,8 @@ else
     [ -z "$as_user" ] || chown -R 65534:65534 closed shut
     $as_user ./copy pipe --store closed <in >out 2>err
     status=$?
-    judge 'a head without permission' 4 'disk failed
-closed/head: Permission denied (os error 13)'
+    judge 'a head without permission' 4 'closed/head: Permission denied (os error 13)
+disk failed'
     $as_user ./copy pipe --store shut <in >out 2>err
     status=$?
     judge 'a folder that takes no file' 8 "the folder shut can't be locked: Permission denied (os error 13)"
@@ -342,6 +342,31 @@ start=$(sed -n 's/.*"start":\([0-9]*\)}.*/\1/p' out)
 end=$(sed -n 's/.*{"end":\([0-9]*\),.*/\1/p' out)
 [ "$before" -le "${start:-0}" ] && [ "${start:-0}" -le "${end:-0}" ] && [ "${end:-0}" -le "$after" ]
 expect 'a backup starts and ends by the clock of the system'
+
+# A content whose file is a FIFO is refused, and told at once, a cause once a minute, while the run goes on.
+mv kept/$pool content
+mkfifo kept/$pool door
+timeout 20 "$program" pipe --store kept <door >out 2>err &
+running=$!
+exec 3>door
+ask GET '/hosts/pc1/backups/0/file?path=a.txt' >&3
+ask GET '/hosts/pc1/backups/0/file?path=a.txt' >&3
+tries=0
+until [ "$(grep -c '^HTTP/1.1 500 ' out)" = 2 ] || [ "$tries" = 100 ]; do
+    tries=$((tries + 1))
+    sleep 0.1
+done
+[ "$(cat err)" = "kept/$pool: not a regular file" ] && kill -0 "$running"
+expect 'a failing disk is told while the run goes on, a cause once a minute'
+rm kept/$pool
+mv content kept/$pool
+ask GET '/hosts/pc1/backups/0/file?path=a.txt' >&3
+exec 3>&-
+wait "$running"
+status=$?
+has hello && [ "$status" = 0 ] && [ "$(cat err)" = "kept/$pool: not a regular file" ]
+expect 'a content whose file is regular again is read again'
+rm door
 
 # Deletion, two cleanings of the content's bucket, a sweep.
 {
@@ -407,8 +432,8 @@ fi
 ask PUT /hosts/pc1 >in
 : >want
 said=$(trap '' XFSZ; ulimit -f 0; "$program" pipe --store full_disk <in 2>&1; echo "status $?")
-[ "$said" = 'disk failed
-full_disk/intent: File too large (os error 27)
+[ "$said" = 'full_disk/intent: File too large (os error 27)
+disk failed
 status 4' ]
 expect "no room at the first opening: $said"
 attempt pipe --store full_disk

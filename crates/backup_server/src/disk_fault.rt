@@ -21,6 +21,11 @@ impl DiskFault {
     pub fn of_folder(error: io::Error) -> DiskFault {
         DiskFault { file: None, error }
     }
+
+    /// The system's number of the reason. What isn't the system's has none.
+    pub fn cause(&self) -> Option<i32> {
+        self.error.raw_os_error()
+    }
 }
 
 /// `/FILE: REASON`, or `: REASON` of the folder: what follows the folder's name.

@@ -8,6 +8,7 @@ use crate::fault_count::FaultCount;
 use crate::open_files::most_handles;
 use crate::pending::Pending;
 use crate::store_folder::{Access, make_folder, open_file};
+use crate::told::Told;
 use disk_trait::{Bytes, Disk, DiskError, Failed, FileId, FileList};
 use file_names::file_named;
 use std::alloc::{AllocError, Global};
@@ -31,7 +32,7 @@ pub struct FolderDisk<H: Threads + Drop> {
     folder: File,
     pending: Pending,
     is_doubtful: bool,
-    fault: Option<DiskFault>,
+    told: Told,
     faults: FaultCount,
 }
 
@@ -48,14 +49,9 @@ impl<H: Threads + Drop> FolderDisk<H> {
             folder,
             pending: Pending::new(alloc, most_handles()),
             is_doubtful: false,
-            fault: None,
+            told: Told::new(alloc),
             faults: FaultCount::new(),
         })
-    }
-
-    /// What failed first, if a call failed.
-    pub fn fault(&self) -> Option<&DiskFault> {
-        self.fault.as_ref()
     }
 
     /// The path of a file.
@@ -175,12 +171,14 @@ impl<H: Threads + Drop> FolderDisk<H> {
         }
     }
 
-    /// Keeps what failed, if it is the first.
+    /// Says on standard error what failed, and why: a cause at most once a minute.
     fn note(&mut self, fault: DiskFault)
         ensures { self.new.faults ≡ self.old.faults }
     {
-        if self.fault.is_none() {
-            self.fault = Some(fault);
+        if self.told.is_due(&self.rt, fault.cause()) {
+            let rt = &self.rt;
+            let folder = self.path.as_str();
+            let _ = eprintln!(rt; "{folder}{fault}");
         }
     }
 }

@@ -12,6 +12,7 @@ mod store_folder;
 mod system_clock;
 mod tcp_door;
 mod tcp_link;
+mod told;
 
 use crate::folder_disk::FolderDisk;
 use crate::serving::{TcpWorker, explain_doors, listen_on, workers_at};
@@ -177,7 +178,7 @@ fn do_asked<H: Threads + Wait + Sync>(
     let mut clock = SystemClock::new(*rt);
     let Done {
         note,
-        disk,
+        disk: _,
         link: _,
         workers,
     } = run(
@@ -192,20 +193,11 @@ fn do_asked<H: Threads + Wait + Sync>(
         workers,
     );
     let status = end(rt, note);
-    explain(rt, folder, note, &disk);
-    explain_doors(rt, workers.as_slice());
-    status
-}
-
-/// Says on standard error, behind the note if there is one, which folder has a foreign file, and where and why the disk
-/// failed last if it did: also where that refused a request alone, and the run went on.
-fn explain<H: Threads>(rt: &HostRuntime, folder: &str, note: Note, disk: &FolderDisk<&H>) {
     if let Note::Foreign(_) = note {
         let _ = eprintln!(rt; "in the folder {folder}");
     }
-    if let Some(fault) = disk.fault() {
-        let _ = eprintln!(rt; "{folder}{fault}");
-    }
+    explain_doors(rt, workers.as_slice());
+    status
 }
 
 /// Standard input and output.
