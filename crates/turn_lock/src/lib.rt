@@ -27,6 +27,7 @@
 mod asking;
 mod lock;
 mod object;
+mod patience;
 mod steps;
 
 pub use asking::{ask_all, ask_both};

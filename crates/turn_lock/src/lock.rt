@@ -8,6 +8,7 @@ ghost use Rattle.turn_lock.specs.History.{stands_from, Fits, StoodIn, Extends, M
 ghost use Rattle.turn_lock.specs.Rule.{waits, has_turn};
 
 use crate::object::{Object, View};
+use crate::patience::wait_a_little;
 use crate::steps::{
     DrawTicket, FindLonger, Held, JoinPasses, PassOn, SplitPass, TakeTurn, TicketRule,
 };
@@ -212,7 +213,7 @@ impl<O: Object> Turn<O> {
         unreachable!()
     }
 
-    // Looks until the ticket is served.
+    // Looks until the ticket is served, and waits a little between two looks.
     fn wait_for_turn<R: Wait>(&self, rt: &R, pass: &mut PassSeat<O>, ticket: u64)
         requires own { pass.old.table_id ≡ self.now.table.shared.table_id }
         requires waiting { pass.old.me ≡ (waits pass.old.me.0.opening ticket pass.old.me.0.seen pass.old.me.0.callers, []) }
@@ -227,10 +228,13 @@ impl<O: Object> Turn<O> {
             × stands_from O.stands pass.old.me.0.opening o (pass.old.me.0.seen ++ between)
             × Fits (pass.old.me.0.seen ++ between) pass.old.me.0.callers }
     {
+        let mut looks = 0;
         for _ in rt.forever() {
             if self.try_turn(pass, ticket) {
                 return;
             }
+            wait_a_little(rt, looks);
+            looks = looks.saturating_add(1);
         }
         unreachable!()
     }
