@@ -274,7 +274,7 @@ def full_disks(score, program, room):
 
 
 def last_room(score, program, room):
-    """A content that doesn't fit leaves the disk as much room as before it, so that the store can be opened again."""
+    """A content that doesn't fit leaves the disk as much room as before it: the run goes on, and the store can be opened again."""
     place = os.path.join(room, "last_room")
     if not mount(place, "size=1m"):
         print("skipped: the last room of a disk, since no tmpfs can be mounted here", flush=True)
@@ -288,8 +288,9 @@ def last_room(score, program, room):
             answers.append(run.ask(request(f"PUT /dumps/{dump}/entry?path=f&kind=file", body)))
             if body == kept[0]:
                 answers.append(run.ask(request(f"POST /dumps/{dump}/commit")))
+        answers.append(run.ask(request("PUT /hosts/pc2")))
         found = [answer and answer[0] for answer in answers]
-        fault = None if found == [201, 201, 200, 201, 201, 500] else f"answered by {found}"
+        fault = None if found == [201, 201, 200, 201, 201, 500, 201] else f"answered by {found}"
         fault = fault or ended_full(run, 500)
         score.count("the last room of a disk", fault or reopened(program, store, kept, [0]))
     finally:
