@@ -1,177 +1,148 @@
--- A path of the form of a route is found as this route.
-use Rattle.std.proofs.Common.{◌≡◌, ◌≢◌, ℕ, ◌<◌, List, [], ◌∷◌, ◌++◌, Option, Some, None, true, false, ◌==◌, refl, sym, ◌∙◌, subst, arith, codes, All}
-use Rattle.std.proofs.lemmas.Bool.{ne_eqb}
-use Rattle.std.proofs.lemmas.List.Elements.{All-head, All-tail}
+-- A path that the tokens of a row take is found.
+use Rattle.std.proofs.Common.{◌≡◌, ◌⊎◌, inl, inr, ℕ, List, [], ◌∷◌, ◌++◌, length, Option, Some, None, Bool, true, false, cond, ◌==◌, refl, sym, ap, ◌∙◌, subst, arith, append-nil}
+use Rattle.std.proofs.lemmas.Bool.{eqb-true, eqb-false}
 use Rattle.matchit.specs.Rows.{RowsOf}
-use Rattle.matchit.specs.Seek.{seek, step, own, longest_suffix, with_suffix, first}
-use Rattle.http_routes.specs.Forms.{IsWhole, IsPiece, IsPieceBehind, IsPieceBetween, IsBackup, IsOfBackup, HasForm}
-use Rattle.http_routes.specs.Table.{patterns}
-use Rattle.http_routes.specs.declared.route.Route.{Route}
-use Rattle.http_routes.specs.declared.route.Route.TheVariants.{Hosts, Host, Rules, Dumps, Entry, Commit, Dump, Backups, Backup, BackupList, BackupEntry, BackupFile, Restores, Keep, Next, Restore, Expire, Contacts, Due, Clean, Sweep, Stats, Reopen}
-use Rattle.http_routes.proofs.PathLemmas.{cuts-slash, cuts-end, seek-piece, seek-last, seek-bytes, seek-all, steps, is_plain_along}
+use Rattle.matchit.specs.Seek.{seek, step, own, or_else, segment, longest_from, longest_suffix, with_suffix, same_text}
+use Rattle.matchit.proofs.ParamLemmas.{same_text-self}
+use Rattle.http_routes.specs.Forms.{IsWhole, IsPiece, Takes, done, byte, param, rest, Has}
+use Rattle.http_routes.proofs.PathLemmas.{cuts-slash, cuts-end, param-piece, param-last, seek-skip, seek-skip_end, one_less}
+use Rattle.http_routes.proofs.SoundLemmas.{step-has, suffix-has}
+use Rattle.http_routes.proofs.TakesLemmas.{takes_byte, takes_none, at_end, is_cut, cut_tail, cut_end}
 
-abbrev pub AreBytes : List ℕ → Type 0
-AreBytes bytes = All (λ b. b < 256) bytes
+-- tokens that end, or go on with a slash
+segment-cut : (t : List ℕ) → at_end t ≡ true → (segment t ≡ []) ⊎ (segment t ≡ 47 ∷ [])
+segment-cut [] e = inl refl
+segment-cut (b ∷ t) e = let is : b ≡ 47 = eqb-true b 47 e in inr (rw is refl)
 
-bytes_dropped : (w more : List ℕ) → AreBytes (w ++ more) → AreBytes more
-bytes_dropped [] more all = all
-bytes_dropped (x ∷ w) more all = bytes_dropped w more (All-tail (λ c. c < 256) x (w ++ more) all)
+module _ {K : Type 0} where
+  abbrev pub AreCut : RowsOf K → Type 0
+  AreCut rs = (t : List ℕ) (k : K) → Has t k rs → is_cut t ≡ true
 
--- the rows behind a piece and the slash after it
-abbrev at_slash : RowsOf Route → RowsOf Route
-at_slash rs = with_suffix (47 ∷ []) (step 256 rs)
+  abbrev AtEnds : RowsOf K → Type 0
+  AtEnds rs = (t : List ℕ) (k : K) → Has t k rs → at_end t ≡ true
 
--- a piece comes next in each row, and behind it a slash or the end
-record AtPiece (rs : RowsOf Route) : Type 0 where
-  no_byte : (b : ℕ) → b < 256 → step b rs ≡ []
-  no_rest : own (step 257 rs) ≡ None
-  cut : (b : ℕ) (h : List ℕ) → longest_suffix ((b ∷ h) ++ 47 ∷ []) (step 256 rs) ≡ 47 ∷ []
-  end : (b : ℕ) (h : List ℕ) → IsWhole (b ∷ h) → longest_suffix (b ∷ h) (step 256 rs) ≡ []
+  cut-step : (b : ℕ) (rs : RowsOf K) → AreCut rs → AreCut (step b rs)
+  cut-step b rs cut t k h = cut_tail b t (cut (b ∷ t) k (step-has b t k rs h))
 
-module _ (rs : RowsOf Route) (at : AtPiece rs) where
-  piece_then : (piece rest : List ℕ) → IsPiece piece → AreBytes (piece ++ 47 ∷ rest)
-      → seek 0 rs (piece ++ 47 ∷ rest) ≡ seek 0 (at_slash rs) (47 ∷ rest)
-  piece_then [] rest ok all = absurd (omega (arith, ok.0))
-  piece_then (b ∷ h) rest ok all =
-      seek-piece rs b h rest ok.1 (at.no_byte b (All-head (λ c. c < 256) b (h ++ 47 ∷ rest) all)) at.no_rest (at.cut b h)
+  cut-suffix : (s : List ℕ) (rs : RowsOf K) → AreCut rs → AreCut (with_suffix s rs)
+  cut-suffix s rs cut t k h = cut t k (suffix-has s t k rs h)
 
-  piece_last : (piece : List ℕ) → IsPiece piece → AreBytes piece → seek 0 rs piece ≡ own (step 256 rs)
-  piece_last [] ok all = absurd (omega (arith, ok.0))
-  piece_last (b ∷ h) ok all =
-      seek-last rs b h ok.1 (at.no_byte b (All-head (λ c. c < 256) b h all)) at.no_rest (at.end b h ok.1)
+  ends-step : (rs : RowsOf K) → AreCut rs → AtEnds (step 256 rs)
+  ends-step rs cut t k h = cut_end t (cut (256 ∷ t) k (step-has 256 t k rs h))
 
--- a word, and what is found behind it
-module _ (w : List ℕ) (plain : is_plain_along w patterns ≡ true) (at : AtPiece (steps w patterns)) where
-  between : (end path : List ℕ) → AreBytes path → IsPieceBetween w (47 ∷ end) path
-      → first patterns path ≡ seek 0 (at_slash (steps w patterns)) (47 ∷ end)
-  between end path all f =
-      let bytes = bytes_dropped w (f.0 ++ 47 ∷ end) (subst AreBytes f.2 all) in
-      subst (λ p. first patterns p ≡ seek 0 (at_slash (steps w patterns)) (47 ∷ end)) (sym f.2)
-      (seek-bytes w patterns (f.0 ++ 47 ∷ end) plain ∙ piece_then (steps w patterns) at f.0 end f.1 bytes)
+  -- a row goes on behind its first token, and ends where it has none
+  has-step : (b : ℕ) (t : List ℕ) (k : K) (rs : RowsOf K) → Has (b ∷ t) k rs → Has t k (step b rs)
+  has-step b t k [] h = h
+  has-step b t k (([], l) ∷ rs) (inl same) = absurd (cc same.0)
+  has-step b t k (([], l) ∷ rs) (inr h) = has-step b t k rs h
+  has-step b t k ((x ∷ u, l) ∷ rs) h = by (x == b) refl (has-step b t k rs) h
+    where
+      by : (v : Bool) → (x == b) ≡ v → (Has (b ∷ t) k rs → Has t k (step b rs)) → Has (b ∷ t) k ((x ∷ u, l) ∷ rs)
+          → Has t k (cond v ((u, l) ∷ step b rs) (step b rs))
+      by true e more (inl same) = let later : u ≡ t = cc same.0 in inl (later, same.1)
+      by true e more (inr has) = inr (more has)
+      by false e more (inl same) = let first : x ≡ b = cc same.0 in absurd (eqb-false x b e first)
+      by false e more (inr has) = more has
 
-  behind : (path : List ℕ) → AreBytes path → IsPieceBehind w path → first patterns path ≡ own (step 256 (steps w patterns))
-  behind path all f =
-      let bytes = bytes_dropped w f.0 (subst AreBytes f.2 all) in
-      subst (λ p. first patterns p ≡ own (step 256 (steps w patterns))) (sym f.2)
-      (seek-bytes w patterns f.0 plain ∙ piece_last (steps w patterns) at f.0 f.1 bytes)
+  own-some : (k : K) (rs : RowsOf K) → Has [] k rs → (found : K) × (own rs ≡ Some found)
+  own-some k [] h = absurd h
+  own-some k (([], l) ∷ rs) h = (l, refl)
+  own-some k ((x ∷ t, l) ∷ rs) (inl same) = absurd (cc same.0)
+  own-some k ((x ∷ t, l) ∷ rs) (inr h) = own-some k rs h
 
-abbrev host_rows : RowsOf Route
-host_rows = steps (codes "/hosts/") patterns
+  has-suffix : (t : List ℕ) (k : K) (rs : RowsOf K) → Has t k rs → Has t k (with_suffix (segment t) rs)
+  has-suffix t k [] h = h
+  has-suffix t k ((u, l) ∷ rs) h = by (same_text (segment u) (segment t)) refl (has-suffix t k rs) h
+    where
+      by : (v : Bool) → same_text (segment u) (segment t) ≡ v → (Has t k rs → Has t k (with_suffix (segment t) rs)) → Has t k ((u, l) ∷ rs)
+          → Has t k (cond v ((u, l) ∷ with_suffix (segment t) rs) (with_suffix (segment t) rs))
+      by true e more (inl same) = inl same
+      by true e more (inr has) = inr (more has)
+      by false e more (inl same) =
+          let itself : same_text (segment t) (segment t) ≡ false = subst (λ w. same_text (segment w) (segment t) ≡ false) same.0 e in
+          absurd (cc (sym itself ∙ same_text-self (segment t)))
+      by false e more (inr has) = more has
 
-abbrev dump_rows : RowsOf Route
-dump_rows = steps (codes "/dumps/") patterns
+  -- the longest suffix of rows behind a parameter is a slash, if one goes on with it and the piece does
+  longest-kept : (b : ℕ) (h : List ℕ) (rs : RowsOf K) → AtEnds rs → longest_from ((b ∷ h) ++ 47 ∷ []) (47 ∷ []) rs ≡ 47 ∷ []
+  longest-kept b h [] ends = refl
+  longest-kept b h ((u, l) ∷ rs) ends =
+      let more = longest-kept b h rs (λ t k has. ends t k (inr has)) in
+      elim (segment-cut u (ends u l (inl (refl, refl)))) [ inl none ↦ rw none more | inr slash ↦ rw slash more ]
 
-abbrev restore_rows : RowsOf Route
-restore_rows = steps (codes "/restores/") patterns
+  longest-slash : (b : ℕ) (h t : List ℕ) (k : K) (rs : RowsOf K) → AtEnds rs → Has (47 ∷ t) k rs
+      → longest_suffix ((b ∷ h) ++ 47 ∷ []) rs ≡ 47 ∷ []
+  longest-slash b h t k [] ends has = absurd has
+  longest-slash b h t k ((u, l) ∷ rs) ends has =
+      elim (segment-cut u (ends u l (inl (refl, refl)))) [
+        | inl none ↦ rw none (longest-slash b h t k rs (λ v m at. ends v m (inr at)) (later none has))
+        | inr slash ↦ rw (slash, cuts-slash b h) (longest-kept b h rs (λ v m at. ends v m (inr at)))
+      ]
+    where
+      later : segment u ≡ [] → Has (47 ∷ t) k ((u, l) ∷ rs) → Has (47 ∷ t) k rs
+      later none (inl same) = absurd (cc (sym none ∙ ap segment same.0))
+      later none (inr has) = has
 
-abbrev backup_rows : RowsOf Route
-backup_rows = steps (codes "/backups/") (at_slash host_rows)
+  longest-end : (b : ℕ) (h : List ℕ) (rs : RowsOf K) → IsWhole (b ∷ h) → AtEnds rs → longest_suffix (b ∷ h) rs ≡ []
+  longest-end b h [] whole ends = refl
+  longest-end b h ((u, l) ∷ rs) whole ends =
+      let more = longest-end b h rs whole (λ t k has. ends t k (inr has)) in
+      elim (segment-cut u (ends u l (inl (refl, refl)))) [ inl none ↦ rw none more | inr slash ↦ rw (slash, cuts-end b h whole) more ]
 
-not_piece : (b : ℕ) → b < 256 → (256 == b) ≡ false
-not_piece b small = ne_eqb 256 b (λ e. omega (arith, small, e))
+  abbrev Found : RowsOf K → List ℕ → Type 0
+  Found rs path = (found : K) × (seek 0 rs path ≡ Some found)
 
-hosts_at : AtPiece host_rows
-hosts_at = record {
-  no_byte = λ b small. rw (not_piece b small) refl;
-  no_rest = refl;
-  cut = λ b h. rw (cuts-slash b h) refl;
-  end = λ b h ok. rw (cuts-end b h ok) refl;
-}
+  some_first : (a c : Option K) (k : K) → a ≡ Some k → (found : K) × (or_else a c ≡ Some found)
+  some_first a c k e = (k, rw e refl)
 
-dumps_at : AtPiece dump_rows
-dumps_at = record {
-  no_byte = λ b small. rw (not_piece b small) refl;
-  no_rest = refl;
-  cut = λ b h. rw (cuts-slash b h) refl;
-  end = λ b h ok. rw (cuts-end b h ok) refl;
-}
+  some_next : (a c d : Option K) (k : K) → c ≡ Some k → (found : K) × (or_else a (or_else c d) ≡ Some found)
+  some_next None c d k e = (k, rw e refl)
+  some_next (Some x) c d k e = (x, refl)
 
-restores_at : AtPiece restore_rows
-restores_at = record {
-  no_byte = λ b small. rw (not_piece b small) refl;
-  no_rest = refl;
-  cut = λ b h. rw (cuts-slash b h) refl;
-  end = λ b h ok. rw (cuts-end b h ok) refl;
-}
+  -- a piece, and a slash behind it
+  piece_found : (rs : RowsOf K) (b : ℕ) (h later : List ℕ) (k : K) → IsWhole (b ∷ h)
+      → longest_suffix ((b ∷ h) ++ 47 ∷ []) (step 256 rs) ≡ 47 ∷ []
+      → seek 0 (with_suffix (47 ∷ []) (step 256 rs)) (47 ∷ later) ≡ Some k → Found rs ((b ∷ h) ++ 47 ∷ later)
+  unfolding seek
+  piece_found rs b h later k ok longest e =
+      let at = param-piece (step 256 rs) (b ∷ h) later ok longest in
+      let go = seek-skip h (with_suffix (47 ∷ []) (step 256 rs)) (47 ∷ later) in
+      some_next (seek 0 (step b rs) (h ++ 47 ∷ later)) _ (own (step 257 rs)) k (rw (at, one_less (length h)) (go ∙ e))
 
-backups_at : AtPiece backup_rows
-backups_at = record {
-  no_byte = λ b small. rw (not_piece b small) refl;
-  no_rest = refl;
-  cut = λ b h. rw (cuts-slash b h) refl;
-  end = λ b h ok. rw (cuts-end b h ok) refl;
-}
+  -- a piece that ends the path
+  last_found : (rs : RowsOf K) (b : ℕ) (h : List ℕ) (k : K) → IsWhole (b ∷ h) → longest_suffix (b ∷ h) (step 256 rs) ≡ []
+      → own (step 256 rs) ≡ Some k → Found rs (b ∷ h)
+  unfolding seek
+  last_found rs b h k ok longest e =
+      let at = param-last (step 256 rs) (b ∷ h) ok longest in
+      some_next (seek 0 (step b rs) h) _ (own (step 257 rs)) k (rw (at, one_less (length h)) (seek-skip_end h (step 256 rs) ∙ e))
 
--- a host, and what is found of its backups
-to_backups : (host rest path : List ℕ) → AreBytes path → IsPiece host → path ≡ codes "/hosts/" ++ (host ++ (codes "/backups/" ++ rest))
-    → (first patterns path ≡ seek 0 backup_rows rest) × AreBytes rest
-to_backups host rest path all ok e =
-    let later = codes "/backups/" ++ rest in
-    let bytes = bytes_dropped host later (bytes_dropped (codes "/hosts/") (host ++ later) (subst AreBytes e all)) in (
-      between (codes "/hosts/") refl hosts_at (codes "backups/" ++ rest) path all (host, ok, e)
-          ∙ seek-bytes (codes "/backups/") (at_slash host_rows) rest refl,
-      bytes_dropped (codes "/backups/") rest bytes,
-    )
+  after_piece : (u piece after : List ℕ) (k : K) (rs : RowsOf K) → AreCut rs → Has (256 ∷ u) k rs → IsPiece piece → Takes u after
+      → Found (with_suffix (segment u) (step 256 rs)) after → Found rs (piece ++ after)
+  after_piece u [] after k rs cut has ok takes found = absurd (omega (arith, ok.0))
+  after_piece [] (b ∷ h) after k rs cut has ok takes found =
+      let is = own-some k (step 256 rs) (has-step 256 [] k rs has) in
+      let none = takes_none after takes in
+      subst (λ p. Found rs ((b ∷ h) ++ p)) (sym none)
+      (subst (Found rs) (sym (append-nil (b ∷ h))) (last_found rs b h is.0 ok.1 (longest-end b h (step 256 rs) ok.1 (ends-step rs cut)) is.1))
+  after_piece (c ∷ u) (b ∷ h) after k rs cut has ok takes found =
+      let is : c ≡ 47 = eqb-true c 47 (cut_end (c ∷ u) (cut (256 ∷ c ∷ u) k has)) in
+      let at : Has (47 ∷ u) k (step 256 rs) = subst (λ n. Has (n ∷ u) k (step 256 rs)) is (has-step 256 (c ∷ u) k rs has) in
+      let next = takes_byte 47 u after (omega arith) (subst (λ n. Takes (n ∷ u) after) is takes) in
+      let there : Found (with_suffix (47 ∷ []) (step 256 rs)) (47 ∷ next.0) =
+      subst (Found (with_suffix (47 ∷ []) (step 256 rs))) next.1 (subst (λ n. Found (with_suffix (segment (n ∷ u)) (step 256 rs)) after) is found) in
+      subst (λ p. Found rs ((b ∷ h) ++ p)) (sym next.1)
+      (piece_found rs b h next.0 there.0 ok.1 (longest-slash b h u k (step 256 rs) (ends-step rs cut) at) there.1)
 
-of_backup : (end path : List ℕ) → AreBytes path → IsOfBackup (47 ∷ end) path
-    → first patterns path ≡ seek 0 (at_slash backup_rows) (47 ∷ end)
-of_backup end path all f =
-    let x = to_backups f.0 (f.1 ++ 47 ∷ end) path all f.2 f.4 in
-    x.0 ∙ piece_then backup_rows backups_at f.1 end f.3 x.1
-
-backup : (path : List ℕ) → AreBytes path → IsBackup path → first patterns path ≡ own (step 256 backup_rows)
-backup path all f =
-    let x = to_backups f.0 f.1 path all f.2 f.4 in
-    x.0 ∙ piece_last backup_rows backups_at f.1 f.3 x.1
-
--- bytes that are a route as they stand
-whole : (w path : List ℕ) → is_plain_along w patterns ≡ true → path ≡ w → first patterns path ≡ own (steps w patterns)
-whole w path plain e = subst (λ p. first patterns p ≡ own (steps w patterns)) (sym e) (seek-all w patterns plain)
-
--- the rows behind a slash have this word alone for the route
-abbrev IsLast : List ℕ → RowsOf Route → Route → Type 0
-IsLast word rs route = (is_plain_along word rs ≡ true) × (own (steps word rs) ≡ Some route)
-
-last_found : (word : List ℕ) (rs : RowsOf Route) (route : Route) → IsLast word rs route → seek 0 rs word ≡ Some route
-last_found word rs route is = seek-all word rs is.0 ∙ is.1
-
--- the last word of a path of a host, of a dump, of a backup
-host_end : (end path : List ℕ) (route : Route) → IsLast (47 ∷ end) (at_slash host_rows) route
-    → AreBytes path → IsPieceBetween (codes "/hosts/") (47 ∷ end) path → first patterns path ≡ Some route
-host_end end path route is all f =
-    between (codes "/hosts/") refl hosts_at end path all f ∙ last_found (47 ∷ end) (at_slash host_rows) route is
-
-dump_end : (end path : List ℕ) (route : Route) → IsLast (47 ∷ end) (at_slash dump_rows) route
-    → AreBytes path → IsPieceBetween (codes "/dumps/") (47 ∷ end) path → first patterns path ≡ Some route
-dump_end end path route is all f =
-    between (codes "/dumps/") refl dumps_at end path all f ∙ last_found (47 ∷ end) (at_slash dump_rows) route is
-
-backup_end : (end path : List ℕ) (route : Route) → IsLast (47 ∷ end) (at_slash backup_rows) route
-    → AreBytes path → IsOfBackup (47 ∷ end) path → first patterns path ≡ Some route
-backup_end end path route is all f = of_backup end path all f ∙ last_found (47 ∷ end) (at_slash backup_rows) route is
-
-pub found_first : (route : Route) (path : List ℕ) → AreBytes path → HasForm route path → first patterns path ≡ Some route
-found_first Hosts path all f = whole (codes "/hosts") path refl f
-found_first Host path all f = behind (codes "/hosts/") refl hosts_at path all f
-found_first Rules path all f = host_end (codes "rules") path Rules (refl, refl) all f
-found_first Dumps path all f = host_end (codes "dumps") path Dumps (refl, refl) all f
-found_first Entry path all f = dump_end (codes "entry") path Entry (refl, refl) all f
-found_first Commit path all f = dump_end (codes "commit") path Commit (refl, refl) all f
-found_first Dump path all f = behind (codes "/dumps/") refl dumps_at path all f
-found_first Backups path all f = host_end (codes "backups") path Backups (refl, refl) all f
-found_first Backup path all f = backup path all f
-found_first BackupList path all f = backup_end (codes "list") path BackupList (refl, refl) all f
-found_first BackupEntry path all f = backup_end (codes "entry") path BackupEntry (refl, refl) all f
-found_first BackupFile path all f = backup_end (codes "file") path BackupFile (refl, refl) all f
-found_first Restores path all f = backup_end (codes "restores") path Restores (refl, refl) all f
-found_first Keep path all f = backup_end (codes "keep") path Keep (refl, refl) all f
-found_first Next path all f =
-    between (codes "/restores/") refl restores_at (codes "next") path all f ∙ seek-all (codes "/next") (at_slash restore_rows) refl
-found_first Restore path all f = behind (codes "/restores/") refl restores_at path all f
-found_first Expire path all f = host_end (codes "expire") path Expire (refl, refl) all f
-found_first Contacts path all f = host_end (codes "contacts") path Contacts (refl, refl) all f
-found_first Due path all f = host_end (codes "due") path Due (refl, refl) all f
-found_first Clean path all f = whole (codes "/night/clean") path refl f
-found_first Sweep path all f = whole (codes "/night/sweep") path refl f
-found_first Stats path all f = whole (codes "/stats") path refl f
-found_first Reopen path all f = whole (codes "/reopen") path refl f
+  -- what takes the path is found, or something else is
+  pub found_of : (t path : List ℕ) (k : K) (rs : RowsOf K) → AreCut rs → Has t k rs → Takes t path → Found rs path
+  unfolding seek
+  found_of t path k rs cut has done = own-some k rs has
+  found_of t path k rs cut has (byte {b = b} {t = u} {path = p} h) =
+      let found = found_of u p k (step b rs) (cut-step b rs cut) (has-step b u k rs has) h in
+      some_first (seek 0 (step b rs) p) _ found.0 found.1
+  found_of t path k rs cut has (param {t = u} piece after ok e h) =
+      let later : RowsOf K = with_suffix (segment u) (step 256 rs) in
+      let found = found_of u after k later (cut-suffix (segment u) (step 256 rs) (cut-step 256 rs cut)) (has-suffix u k (step 256 rs) (has-step 256 u k rs has)) h in
+      subst (Found rs) (sym e) (after_piece u piece after k rs cut has ok h found)
+  found_of t path k rs cut has rest = absurd (cc (cut t k has))

@@ -8,8 +8,7 @@ use Rattle.matchit.specs.Seek.{seek, param_step, step, own, or_else, segment, ha
 use Rattle.matchit.specs.Router.{rename}
 use Rattle.matchit.proofs.ParamLemmas.{longest-short, length-segment}
 use Rattle.matchit.proofs.RenameLemmas.{longest-rename}
-use Rattle.http_routes.specs.Forms.{IsWhole}
-use Rattle.http_routes.specs.Paths.{Takes, done, byte, param, rest, Has}
+use Rattle.http_routes.specs.Forms.{IsWhole, Takes, done, byte, param, rest, Has}
 use Rattle.http_routes.proofs.PathLemmas.{one_less}
 
 module _ {K : Type 0} where
@@ -21,7 +20,7 @@ module _ {K : Type 0} where
       some_of m e = cc e
   own-has ((x ∷ t, l) ∷ rs) k h = inr (own-has rs k h)
 
-  step-has : (b : ℕ) (t : List ℕ) (k : K) (rs : RowsOf K) → Has t k (step b rs) → Has (b ∷ t) k rs
+  pub step-has : (b : ℕ) (t : List ℕ) (k : K) (rs : RowsOf K) → Has t k (step b rs) → Has (b ∷ t) k rs
   step-has b t k [] h = h
   step-has b t k (([], l) ∷ rs) h = inr (step-has b t k rs h)
   step-has b t k ((x ∷ u, l) ∷ rs) h = by (x == b) refl (step-has b t k rs) h
@@ -31,7 +30,7 @@ module _ {K : Type 0} where
       by true e more (inr has) = inr (more has)
       by false e more has = inr (more has)
 
-  suffix-has : (s t : List ℕ) (k : K) (rs : RowsOf K) → Has t k (with_suffix s rs) → Has t k rs
+  pub suffix-has : (s t : List ℕ) (k : K) (rs : RowsOf K) → Has t k (with_suffix s rs) → Has t k rs
   suffix-has s t k [] h = h
   suffix-has s t k ((u, l) ∷ rs) h = by (same_text (segment u) s) (suffix-has s t k rs) h
     where

@@ -1,9 +1,12 @@
--- The forms of paths, in plain words: which path has which route.
+-- The forms of paths: which path has which route, by the texts of the table.
 --     IsPiece      what stands between two slashes
+--     tokens_of      a text without the names of its pieces
+--     Takes      the path has the form of these tokens
 --     HasForm      the path has the form of the route
-use Rattle.std.specs.Prelude.{◌≡◌, ◌≢◌, ℕ, ◌<◌, List, ◌++◌, length, All, codes}
+use Rattle.std.specs.Prelude.{◌≡◌, ◌≢◌, ◌⊎◌, ℕ, ◌<◌, ◌==◌, Bool, true, false, List, [], ◌∷◌, ◌++◌, length, All, if◌then◌else◌}
+use Rattle.matchit.specs.Rows.{RowsOf}
+use Rattle.http_routes.specs.Table.{routes}
 use Rattle.http_routes.specs.declared.route.Route.{Route}
-use Rattle.http_routes.specs.declared.route.Route.TheVariants.{Hosts, Host, Rules, Dumps, Entry, Commit, Dump, Backups, Backup, BackupList, BackupEntry, BackupFile, Restores, Keep, Next, Restore, Expire, Contacts, Due, Clean, Sweep, Stats, Reopen}
 
 -- none of the bytes is a slash
 abbrev pub IsWhole : List ℕ → Type 0
@@ -13,48 +16,28 @@ IsWhole piece = All (λ b. b ≢ 47) piece
 abbrev pub IsPiece : List ℕ → Type 0
 IsPiece piece = (0 < length piece) × IsWhole piece
 
--- these bytes, and a piece behind them
-abbrev pub IsPieceBehind : List ℕ → List ℕ → Type 0
-IsPieceBehind word path = (piece : List ℕ) × IsPiece piece × (path ≡ word ++ piece)
+-- the tokens of a text, in a name or outside: 256 for each `{name}`, and each byte outside for itself
+abbrev pub tokens_in : Bool → List ℕ → List ℕ
+tokens_in in_name [] = []
+tokens_in false (b ∷ text) = if b == 123 then 256 ∷ tokens_in true text else b ∷ tokens_in false text
+tokens_in true (b ∷ text) = tokens_in (if b == 125 then false else true) text
 
--- a piece between these bytes and those
-abbrev pub IsPieceBetween : List ℕ → List ℕ → List ℕ → Type 0
-IsPieceBetween word end path = (piece : List ℕ) × IsPiece piece × (path ≡ word ++ (piece ++ end))
+abbrev pub tokens_of : List ℕ → List ℕ
+tokens_of text = tokens_in false text
 
--- a backup of a host
-abbrev pub IsBackup : List ℕ → Type 0
-IsBackup path =
-    (host : List ℕ) × (number : List ℕ) × IsPiece host × IsPiece number
-    × (path ≡ codes "/hosts/" ++ (host ++ (codes "/backups/" ++ number)))
+-- the tokens take the path: each byte stands for itself, a parameter (256) for a piece, and a catch-all (257) for the rest
+pub data Takes : List ℕ → List ℕ → Type 0 where
+  done : Takes [] []
+  byte : {b : ℕ} {t path : List ℕ} → Takes t path → Takes (b ∷ t) (b ∷ path)
+  param : {t path : List ℕ} (piece after : List ℕ) → IsPiece piece → path ≡ piece ++ after → Takes t after
+      → Takes (256 ∷ t) path
+  rest : {b : ℕ} {path : List ℕ} → Takes (257 ∷ []) (b ∷ path)
 
--- what these bytes name of a backup
-abbrev pub IsOfBackup : List ℕ → List ℕ → Type 0
-IsOfBackup end path =
-    (host : List ℕ) × (number : List ℕ) × IsPiece host × IsPiece number
-    × (path ≡ codes "/hosts/" ++ (host ++ (codes "/backups/" ++ (number ++ end))))
+-- the rows have this text, or these tokens, with this key
+abbrev pub Has : {K : Type 0} → List ℕ → K → RowsOf K → Type 0
+Has t k [] = ⊥
+Has t k ((u, l) ∷ rows) = ((u ≡ t) × (l ≡ k)) ⊎ Has t k rows
 
--- the path has the form of the route
+-- the path has the form of the route: the table has a text of this name, whose tokens take the path
 abbrev pub HasForm : Route → List ℕ → Type 0
-HasForm Hosts path = path ≡ codes "/hosts"
-HasForm Host path = IsPieceBehind (codes "/hosts/") path
-HasForm Rules path = IsPieceBetween (codes "/hosts/") (codes "/rules") path
-HasForm Dumps path = IsPieceBetween (codes "/hosts/") (codes "/dumps") path
-HasForm Entry path = IsPieceBetween (codes "/dumps/") (codes "/entry") path
-HasForm Commit path = IsPieceBetween (codes "/dumps/") (codes "/commit") path
-HasForm Dump path = IsPieceBehind (codes "/dumps/") path
-HasForm Backups path = IsPieceBetween (codes "/hosts/") (codes "/backups") path
-HasForm Backup path = IsBackup path
-HasForm BackupList path = IsOfBackup (codes "/list") path
-HasForm BackupEntry path = IsOfBackup (codes "/entry") path
-HasForm BackupFile path = IsOfBackup (codes "/file") path
-HasForm Restores path = IsOfBackup (codes "/restores") path
-HasForm Keep path = IsOfBackup (codes "/keep") path
-HasForm Next path = IsPieceBetween (codes "/restores/") (codes "/next") path
-HasForm Restore path = IsPieceBehind (codes "/restores/") path
-HasForm Expire path = IsPieceBetween (codes "/hosts/") (codes "/expire") path
-HasForm Contacts path = IsPieceBetween (codes "/hosts/") (codes "/contacts") path
-HasForm Due path = IsPieceBetween (codes "/hosts/") (codes "/due") path
-HasForm Clean path = path ≡ codes "/night/clean"
-HasForm Sweep path = path ≡ codes "/night/sweep"
-HasForm Stats path = path ≡ codes "/stats"
-HasForm Reopen path = path ≡ codes "/reopen"
+HasForm route path = (text : List ℕ) × Has text route routes × Takes (tokens_of text) path

@@ -1,6 +1,5 @@
 pub mod Actions
 pub mod Forms
 pub mod Laws
-pub mod Paths
 pub mod Table
 pub mod Targets

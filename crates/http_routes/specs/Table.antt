@@ -1,6 +1,6 @@
--- The routes as rows of the router.
+-- The table of routes: the text of each, and what it is for by its method; and the rows that a router makes of it.
 use Rattle.std.specs.Borrow.{Bor}
-use Rattle.std.specs.Prelude.{ℕ, List, [], ◌∷◌, ◌++◌, map, codes, Result, Ok, Err}
+use Rattle.std.specs.Prelude.{ℕ, List, [], ◌∷◌, codes, Result, Ok, Err}
 use Rattle.matchit.specs.Rows.{RowsOf}
 use Rattle.matchit.specs.Order.{placed}
 use Rattle.matchit.specs.Route.{Scan, parse_route}
@@ -8,26 +8,14 @@ use Rattle.matchit.specs.Router.{RouteOf, route_from}
 use Rattle.matchit.specs.declared.error.InsertError.{InsertError}
 use Rattle.http_routes.specs.declared.route.Route.{Route}
 use Rattle.http_routes.specs.declared.route.Route.TheVariants.{Hosts, Host, Rules, Dumps, Entry, Commit, Dump, Backups, Backup, BackupList, BackupEntry, BackupFile, Restores, Keep, Next, Restore, Expire, Contacts, Due, Clean, Sweep, Stats, Reopen}
+use Rattle.http_routes.specs.declared.route.Action.{Action}
+use Rattle.http_routes.specs.declared.route.Action.TheVariants as A
 
 -- a route's text and its name
 abbrev pub Named : Type 0
 Named = List ℕ × Route
 
--- the rows with one more route
-abbrev pub with_read : Result Scan InsertError → Route → RowsOf (RouteOf Route) → RowsOf (RouteOf Route)
-with_read (Ok s) value rows = placed (s.pattern, route_from s value) rows
-with_read (Err e) value rows = rows
-
--- the rows of these routes, put in one after another
-abbrev pub built_from : RowsOf (RouteOf Route) → List Named → RowsOf (RouteOf Route)
-built_from rows [] = rows
-built_from rows ((text, value) ∷ rest) = built_from (with_read (parse_route text) value rows) rest
-
--- a row of the program's table, as a text and a name
-abbrev pub named_of : Bor (List ℕ) × Route → Named
-named_of r = (r.0.now, r.1)
-
--- the routes of the server
+-- the routes of the server: `{name}` stands for a piece of a path
 abbrev pub routes : List Named
 routes =
     (codes "/hosts", Hosts)
@@ -55,43 +43,56 @@ routes =
     ∷ (codes "/reopen", Reopen)
     ∷ []
 
+-- a method and what it asks for
+abbrev pub Row : Type 0
+Row = List ℕ × Action
+
+-- what a route is for, by the methods that it takes
+abbrev pub actions_of : Route → List Row
+actions_of Hosts = (codes "GET", A.Hosts) ∷ []
+actions_of Host = (codes "PUT", A.AddHost) ∷ []
+actions_of Rules = (codes "PUT", A.SetRules) ∷ []
+actions_of Dumps = (codes "POST", A.OpenDump) ∷ []
+actions_of Entry = (codes "PUT", A.Put) ∷ (codes "DELETE", A.Remove) ∷ []
+actions_of Commit = (codes "POST", A.Commit) ∷ []
+actions_of Dump = (codes "DELETE", A.Abort) ∷ []
+actions_of Backups = (codes "GET", A.Backups) ∷ []
+actions_of Backup = (codes "DELETE", A.Delete) ∷ []
+actions_of BackupList = (codes "GET", A.List) ∷ []
+actions_of BackupEntry = (codes "GET", A.Lookup) ∷ []
+actions_of BackupFile = (codes "GET", A.ReadFile) ∷ []
+actions_of Restores = (codes "POST", A.OpenRead) ∷ []
+actions_of Keep = (codes "POST", A.Keep) ∷ []
+actions_of Next = (codes "GET", A.ReadNext) ∷ []
+actions_of Restore = (codes "DELETE", A.CloseRead) ∷ []
+actions_of Expire = (codes "POST", A.Expire) ∷ []
+actions_of Contacts = (codes "POST", A.Contact) ∷ []
+actions_of Due = (codes "GET", A.Due) ∷ []
+actions_of Clean = (codes "POST", A.Clean) ∷ []
+actions_of Sweep = (codes "POST", A.Sweep) ∷ []
+actions_of Stats = (codes "GET", A.Stats) ∷ []
+actions_of Reopen = (codes "POST", A.Reopen) ∷ []
+
+-- ---- a router's rows
+
+-- the rows with one more route
+abbrev pub with_read : Result Scan InsertError → Route → RowsOf (RouteOf Route) → RowsOf (RouteOf Route)
+with_read (Ok s) value rows = placed (s.pattern, route_from s value) rows
+with_read (Err e) value rows = rows
+
+-- the rows of these routes, put in one after another
+abbrev pub built_from : RowsOf (RouteOf Route) → List Named → RowsOf (RouteOf Route)
+built_from rows [] = rows
+built_from rows ((text, value) ∷ rest) = built_from (with_read (parse_route text) value rows) rest
+
+-- a row of the program's table, as a text and a name
+abbrev pub named_of : Bor (List ℕ) × Route → Named
+named_of r = (r.0.now, r.1)
+
+-- a row of the program's methods
+abbrev pub row_of : Bor (List ℕ) × Action → Row
+row_of row = (row.0.now, row.1)
+
 -- the rows of the router
 unfoldable pub table : RowsOf (RouteOf Route)
 table = built_from [] routes
-
--- the tokens of each route, of which 256 stands for a piece
-abbrev pub tokens : Route → List ℕ
-tokens Hosts = codes "/hosts"
-tokens Host = codes "/hosts/" ++ (256 ∷ [])
-tokens Rules = codes "/hosts/" ++ (256 ∷ codes "/rules")
-tokens Dumps = codes "/hosts/" ++ (256 ∷ codes "/dumps")
-tokens Entry = codes "/dumps/" ++ (256 ∷ codes "/entry")
-tokens Commit = codes "/dumps/" ++ (256 ∷ codes "/commit")
-tokens Dump = codes "/dumps/" ++ (256 ∷ [])
-tokens Backups = codes "/hosts/" ++ (256 ∷ codes "/backups")
-tokens Backup = codes "/hosts/" ++ (256 ∷ (codes "/backups/" ++ (256 ∷ [])))
-tokens BackupList = codes "/hosts/" ++ (256 ∷ (codes "/backups/" ++ (256 ∷ codes "/list")))
-tokens BackupEntry = codes "/hosts/" ++ (256 ∷ (codes "/backups/" ++ (256 ∷ codes "/entry")))
-tokens BackupFile = codes "/hosts/" ++ (256 ∷ (codes "/backups/" ++ (256 ∷ codes "/file")))
-tokens Restores = codes "/hosts/" ++ (256 ∷ (codes "/backups/" ++ (256 ∷ codes "/restores")))
-tokens Keep = codes "/hosts/" ++ (256 ∷ (codes "/backups/" ++ (256 ∷ codes "/keep")))
-tokens Next = codes "/restores/" ++ (256 ∷ codes "/next")
-tokens Restore = codes "/restores/" ++ (256 ∷ [])
-tokens Expire = codes "/hosts/" ++ (256 ∷ codes "/expire")
-tokens Contacts = codes "/hosts/" ++ (256 ∷ codes "/contacts")
-tokens Due = codes "/hosts/" ++ (256 ∷ codes "/due")
-tokens Clean = codes "/night/clean"
-tokens Sweep = codes "/night/sweep"
-tokens Stats = codes "/stats"
-tokens Reopen = codes "/reopen"
-
--- the routes in the router's order: of two the longer one first, if one begins as the other
-abbrev pub in_order : List Route
-in_order =
-    Commit ∷ Entry ∷ Dump ∷ BackupEntry ∷ BackupFile ∷ Keep ∷ BackupList ∷ Restores ∷ Backup ∷ Backups
-    ∷ Contacts ∷ Due ∷ Dumps ∷ Expire ∷ Rules ∷ Host ∷ Hosts ∷ Clean ∷ Sweep ∷ Reopen ∷ Next ∷ Restore
-    ∷ Stats ∷ []
-
--- the rows of the router as tokens and routes
-abbrev pub patterns : RowsOf Route
-patterns = map (λ route. (tokens route, route)) in_order

@@ -15,7 +15,8 @@
 //! let action = route_of(&router, path).and_then(|route| route.action(b"POST"));
 //! ```
 //!
-//! One more route is a variant of `Route`, a row of `ROUTES` and one of `actions`.
+//! One more route is a variant of `Route`, a row of `ROUTES`, an arm of `actions` and one of `allow`, all in `route.rt`, and a row of
+//! `routes` and of `actions_of` in `specs/Table`: its form, its tokens and its place in the router are computed from its text.
 #![tactic(auto)]
 
 mod actions;
@@ -24,8 +25,7 @@ mod matching;
 mod parts;
 mod route;
 
-pub use actions::Action;
 pub use laws::{forms_have_routes, routes_have_forms};
-pub use matching::{ROUTES, route_of, router};
+pub use matching::{route_of, router};
 pub use parts::{first_part, second_part, split_target};
-pub use route::Route;
+pub use route::{Action, ROUTES, Route};

@@ -3,36 +3,9 @@ ghost use Rattle.http_routes.specs.Actions.{route_of};
 ghost use Rattle.http_routes.specs.Table.{table, built_from, named_of};
 ghost use Rattle.http_routes.specs.Forms.{HasForm};
 
-use crate::route::Route;
+use crate::route::{ROUTES, Route};
 use matchit::{InsertError, Router};
 use std::alloc::Global;
-
-/// The table of routes: the text of each, in which `{name}` stands for one piece that isn't empty and has no slash.
-pub const ROUTES: [(&str, Route); 23] = [
-    ("/hosts", Route::Hosts),
-    ("/hosts/{host}", Route::Host),
-    ("/hosts/{host}/rules", Route::Rules),
-    ("/hosts/{host}/dumps", Route::Dumps),
-    ("/dumps/{dump}/entry", Route::Entry),
-    ("/dumps/{dump}/commit", Route::Commit),
-    ("/dumps/{dump}", Route::Dump),
-    ("/hosts/{host}/backups", Route::Backups),
-    ("/hosts/{host}/backups/{number}", Route::Backup),
-    ("/hosts/{host}/backups/{number}/list", Route::BackupList),
-    ("/hosts/{host}/backups/{number}/entry", Route::BackupEntry),
-    ("/hosts/{host}/backups/{number}/file", Route::BackupFile),
-    ("/hosts/{host}/backups/{number}/restores", Route::Restores),
-    ("/hosts/{host}/backups/{number}/keep", Route::Keep),
-    ("/restores/{restore}/next", Route::Next),
-    ("/restores/{restore}", Route::Restore),
-    ("/hosts/{host}/expire", Route::Expire),
-    ("/hosts/{host}/contacts", Route::Contacts),
-    ("/hosts/{host}/due", Route::Due),
-    ("/night/clean", Route::Clean),
-    ("/night/sweep", Route::Sweep),
-    ("/stats", Route::Stats),
-    ("/reopen", Route::Reopen),
-];
 
 /// A router of these routes, put in one after another.
 fn router_of(alloc: Global, routes: &[(&str, Route)]) -> Result<Router<Route>, InsertError>
