@@ -26,30 +26,13 @@ put_event dump path item has_length body = item_of item has_length body >>= λ w
 
 -- the event of a plan with a body, whose length was named or not, a moment and the settings
 abbrev pub event_of : Plan → Bool → List ℕ → ℕ → Defaults → Said Event
-event_of P.Hosts has_length body moment defaults = Ok E.Hosts
+event_of (P.Ready event) has_length body moment defaults = Ok event
 event_of (P.AddHost host) has_length body moment defaults = Ok (E.AddHost host defaults.rules)
-event_of (P.SetRules host change) has_length body moment defaults = Ok (E.SetRules host change)
 event_of (P.OpenDump host kind) has_length body moment defaults = Ok (E.OpenDump host kind moment)
 event_of (P.Put dump path item) has_length body moment defaults = put_event dump path item has_length body
-event_of (P.Remove dump path) has_length body moment defaults = Ok (E.Remove dump path)
 event_of (P.Commit dump) has_length body moment defaults = Ok (E.Commit dump moment)
-event_of (P.Abort dump) has_length body moment defaults = Ok (E.Abort dump)
-event_of (P.Backups host) has_length body moment defaults = Ok (E.Backups host)
-event_of (P.Delete host number) has_length body moment defaults = Ok (E.Delete host number)
-event_of (P.List host number directory) has_length body moment defaults = Ok (E.List host number directory)
-event_of (P.Lookup host number path) has_length body moment defaults = Ok (E.Lookup host number path)
-event_of (P.ReadFile host number path) has_length body moment defaults = Ok (E.ReadFile host number path)
-event_of (P.OpenRead host number) has_length body moment defaults = Ok (E.OpenRead host number)
-event_of (P.Keep host number on) has_length body moment defaults = Ok (E.Keep host number on)
-event_of (P.ReadNext restore) has_length body moment defaults = Ok (E.ReadNext restore)
-event_of (P.CloseRead restore) has_length body moment defaults = Ok (E.CloseRead restore)
 event_of (P.Expire host) has_length body moment defaults = Ok (E.Expire host moment)
-event_of (P.Contact host good) has_length body moment defaults = Ok (E.Contact host good)
 event_of (P.Due host) has_length body moment defaults = Ok (E.Due host moment (local_in defaults moment))
-event_of (P.Clean bucket) has_length body moment defaults = Ok (E.Clean bucket)
-event_of P.Sweep has_length body moment defaults = Ok E.Sweep
-event_of P.Stats has_length body moment defaults = Ok E.Stats
-event_of P.Reopen has_length body moment defaults = Ok E.Reopen
 
 -- the event that a request asks for, or why it is refused
 unfoldable pub event_asked : HeadParts → List ℕ → ℕ → Defaults → Said Event

@@ -7,8 +7,8 @@ use Rattle.http_query.specs.Query.{query_pairs}
 use Rattle.http_routes.specs.Actions.{route_of, action_of}
 use Rattle.http_routes.specs.Targets.{path_of, query_of}
 use Rattle.http_routes.specs.declared.route.Route.{Route}
-use Rattle.http_routes.specs.declared.actions.Action.{Action}
-use Rattle.http_routes.specs.declared.actions.Action.TheVariants as A
+use Rattle.http_routes.specs.declared.route.Action.{Action}
+use Rattle.http_routes.specs.declared.route.Action.TheVariants as A
 use Rattle.request_events.specs.declared.refusal.RequestRefusal.TheVariants.{NoRoute, NoMethod}
 use Rattle.request_events.specs.declared.plan.Plan.{Plan}
 use Rattle.request_events.specs.Said.{Said, ◌>>=◌, or_refuse}

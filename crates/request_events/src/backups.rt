@@ -4,13 +4,13 @@ ghost use Rattle.request_events.specs.Said.{Says};
 ghost use Rattle.request_events.specs.Targets.{target_parts};
 ghost use Rattle.request_events.specs.BackupPlans.{list_backups_plan, delete_plan, list_entries_plan, look_up_plan, read_file_plan, open_read_plan, keep_plan};
 
-use crate::keys::taken;
+use crate::keys::{ON, PATH, PLACE, taken};
 use crate::names::{host_in, number_in};
 use crate::plan::Plan;
 use crate::refusal::RequestFault;
 use crate::target::Target;
 use crate::values::{flag_in, path_in, place_in};
-use http_routes::Action;
+use office_model::Event;
 use std::alloc::Global;
 
 /// `GET /hosts/{host}/backups`
@@ -19,8 +19,8 @@ pub fn list_backups(alloc: Global, target: &Target<'_>) -> Result<Plan, RequestF
     ensures { Says result (list_backups_plan (target_parts target.now)) }
 {
     let host = host_in(alloc, target.path)?;
-    taken(Action::Backups, &target.query)?;
-    Ok(Plan::Backups { host })
+    taken(&[], &target.query)?;
+    Ok(Plan::Ready(Event::Backups { host }))
 }
 
 /// `DELETE /hosts/{host}/backups/{number}`
@@ -30,8 +30,8 @@ pub fn delete(alloc: Global, target: &Target<'_>) -> Result<Plan, RequestFault>
 {
     let host = host_in(alloc, target.path)?;
     let number = number_in(target.path)?;
-    taken(Action::Delete, &target.query)?;
-    Ok(Plan::Delete { host, number })
+    taken(&[], &target.query)?;
+    Ok(Plan::Ready(Event::Delete { host, number }))
 }
 
 /// `GET /hosts/{host}/backups/{number}/list`
@@ -41,13 +41,13 @@ pub fn list_entries(alloc: Global, target: &Target<'_>) -> Result<Plan, RequestF
 {
     let host = host_in(alloc, target.path)?;
     let number = number_in(target.path)?;
-    taken(Action::List, &target.query)?;
+    taken(&[PLACE], &target.query)?;
     let directory = place_in(alloc, &target.query)?;
-    Ok(Plan::List {
+    Ok(Plan::Ready(Event::List {
         host,
         number,
         directory,
-    })
+    }))
 }
 
 /// `GET /hosts/{host}/backups/{number}/entry`
@@ -57,9 +57,9 @@ pub fn look_up(alloc: Global, target: &Target<'_>) -> Result<Plan, RequestFault>
 {
     let host = host_in(alloc, target.path)?;
     let number = number_in(target.path)?;
-    taken(Action::Lookup, &target.query)?;
+    taken(&[PATH], &target.query)?;
     let path = path_in(alloc, &target.query)?;
-    Ok(Plan::Lookup { host, number, path })
+    Ok(Plan::Ready(Event::Lookup { host, number, path }))
 }
 
 /// `GET /hosts/{host}/backups/{number}/file`
@@ -69,9 +69,9 @@ pub fn read_file(alloc: Global, target: &Target<'_>) -> Result<Plan, RequestFaul
 {
     let host = host_in(alloc, target.path)?;
     let number = number_in(target.path)?;
-    taken(Action::ReadFile, &target.query)?;
+    taken(&[PATH], &target.query)?;
     let path = path_in(alloc, &target.query)?;
-    Ok(Plan::ReadFile { host, number, path })
+    Ok(Plan::Ready(Event::ReadFile { host, number, path }))
 }
 
 /// `POST /hosts/{host}/backups/{number}/restores`
@@ -81,8 +81,8 @@ pub fn open_read(alloc: Global, target: &Target<'_>) -> Result<Plan, RequestFaul
 {
     let host = host_in(alloc, target.path)?;
     let number = number_in(target.path)?;
-    taken(Action::OpenRead, &target.query)?;
-    Ok(Plan::OpenRead { host, number })
+    taken(&[], &target.query)?;
+    Ok(Plan::Ready(Event::OpenRead { host, number }))
 }
 
 /// `POST /hosts/{host}/backups/{number}/keep`
@@ -92,7 +92,7 @@ pub fn keep(alloc: Global, target: &Target<'_>) -> Result<Plan, RequestFault>
 {
     let host = host_in(alloc, target.path)?;
     let number = number_in(target.path)?;
-    taken(Action::Keep, &target.query)?;
+    taken(&[ON], &target.query)?;
     let on = flag_in(&target.query, "on")?;
-    Ok(Plan::Keep { host, number, on })
+    Ok(Plan::Ready(Event::Keep { host, number, on }))
 }

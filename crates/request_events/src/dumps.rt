@@ -5,13 +5,13 @@ ghost use Rattle.request_events.specs.Targets.{target_parts};
 ghost use Rattle.request_events.specs.DumpPlans.{open_dump_plan, put_plan, remove_plan, commit_plan, abort_plan};
 
 use crate::items::{item_kind_in, planned_item_in};
-use crate::keys::taken;
+use crate::keys::{KIND, PATH, put_keys, taken};
 use crate::names::{host_in, session_in};
 use crate::plan::Plan;
 use crate::refusal::RequestFault;
 use crate::target::Target;
 use crate::values::{dump_kind_in, path_in};
-use http_routes::Action;
+use office_model::Event;
 use std::alloc::Global;
 
 /// `POST /hosts/{host}/dumps`
@@ -20,7 +20,7 @@ pub fn open_dump(alloc: Global, target: &Target<'_>) -> Result<Plan, RequestFaul
     ensures { Says result (open_dump_plan (target_parts target.now)) }
 {
     let host = host_in(alloc, target.path)?;
-    taken(Action::OpenDump, &target.query)?;
+    taken(&[KIND], &target.query)?;
     let kind = dump_kind_in(&target.query)?;
     Ok(Plan::OpenDump { host, kind })
 }
@@ -30,7 +30,7 @@ pub fn open_dump(alloc: Global, target: &Target<'_>) -> Result<Plan, RequestFaul
 pub fn put(alloc: Global, target: &Target<'_>) -> Result<Plan, RequestFault>
     ensures { Says result (put_plan (target_parts target.now)) }
 {
-    taken(Action::Put, &target.query)?;
+    taken(put_keys(&target.query), &target.query)?;
     let kind = item_kind_in(&target.query)?;
     let item = planned_item_in(kind, &target.query)?;
     let path = path_in(alloc, &target.query)?;
@@ -46,12 +46,12 @@ pub fn put(alloc: Global, target: &Target<'_>) -> Result<Plan, RequestFault>
 pub fn remove(alloc: Global, target: &Target<'_>) -> Result<Plan, RequestFault>
     ensures { Says result (remove_plan (target_parts target.now)) }
 {
-    taken(Action::Remove, &target.query)?;
+    taken(&[PATH], &target.query)?;
     let path = path_in(alloc, &target.query)?;
-    Ok(Plan::Remove {
+    Ok(Plan::Ready(Event::Remove {
         dump: session_in(target.path),
         path,
-    })
+    }))
 }
 
 /// `POST /dumps/{dump}/commit`
@@ -59,7 +59,7 @@ pub fn remove(alloc: Global, target: &Target<'_>) -> Result<Plan, RequestFault>
 pub fn commit(target: &Target<'_>) -> Result<Plan, RequestFault>
     ensures { Says result (commit_plan (target_parts target.now)) }
 {
-    taken(Action::Commit, &target.query)?;
+    taken(&[], &target.query)?;
     Ok(Plan::Commit {
         dump: session_in(target.path),
     })
@@ -70,8 +70,8 @@ pub fn commit(target: &Target<'_>) -> Result<Plan, RequestFault>
 pub fn abort(target: &Target<'_>) -> Result<Plan, RequestFault>
     ensures { Says result (abort_plan (target_parts target.now)) }
 {
-    taken(Action::Abort, &target.query)?;
-    Ok(Plan::Abort {
+    taken(&[], &target.query)?;
+    Ok(Plan::Ready(Event::Abort {
         dump: session_in(target.path),
-    })
+    }))
 }

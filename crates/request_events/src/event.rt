@@ -29,38 +29,13 @@ pub fn event_of(
     ensures { Says result (event_of plan has_length body.items now defaults.now) }
 {
     match plan {
-        Plan::Hosts => Ok(Event::Hosts),
+        Plan::Ready(event) => Ok(event),
         Plan::AddHost { host } => add_host(alloc, host, defaults),
-        Plan::SetRules { host, change } => Ok(Event::SetRules { host, change }),
         Plan::OpenDump { host, kind } => Ok(Event::OpenDump { host, kind, now }),
         Plan::Put { dump, path, item } => put(alloc, dump, path, item, has_length, body),
-        Plan::Remove { dump, path } => Ok(Event::Remove { dump, path }),
         Plan::Commit { dump } => Ok(Event::Commit { dump, now }),
-        Plan::Abort { dump } => Ok(Event::Abort { dump }),
-        Plan::Backups { host } => Ok(Event::Backups { host }),
-        Plan::Delete { host, number } => Ok(Event::Delete { host, number }),
-        Plan::List {
-            host,
-            number,
-            directory,
-        } => Ok(Event::List {
-            host,
-            number,
-            directory,
-        }),
-        Plan::Lookup { host, number, path } => Ok(Event::Lookup { host, number, path }),
-        Plan::ReadFile { host, number, path } => Ok(Event::ReadFile { host, number, path }),
-        Plan::OpenRead { host, number } => Ok(Event::OpenRead { host, number }),
-        Plan::Keep { host, number, on } => Ok(Event::Keep { host, number, on }),
-        Plan::ReadNext { restore } => Ok(Event::ReadNext { restore }),
-        Plan::CloseRead { restore } => Ok(Event::CloseRead { restore }),
         Plan::Expire { host } => Ok(Event::Expire { host, now }),
-        Plan::Contact { host, good } => Ok(Event::Contact { host, good }),
         Plan::Due { host } => Ok(due(host, now, defaults)),
-        Plan::Clean { bucket } => Ok(Event::Clean { bucket }),
-        Plan::Sweep => Ok(Event::Sweep),
-        Plan::Stats => Ok(Event::Stats),
-        Plan::Reopen => Ok(Event::Reopen),
     }
 }
 

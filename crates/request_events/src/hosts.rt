@@ -4,14 +4,14 @@ ghost use Rattle.request_events.specs.Said.{Says};
 ghost use Rattle.request_events.specs.Targets.{target_parts};
 ghost use Rattle.request_events.specs.HostPlans.{list_hosts_plan, add_host_plan, set_rules_plan, expire_plan, contact_plan, due_plan};
 
-use crate::keys::taken;
+use crate::keys::{GOOD, RULE_KEYS, taken};
 use crate::names::host_in;
 use crate::plan::Plan;
 use crate::refusal::RequestFault;
 use crate::rules::change_in;
 use crate::target::Target;
 use crate::values::flag_in;
-use http_routes::Action;
+use office_model::Event;
 use std::alloc::Global;
 
 /// `GET /hosts`
@@ -19,8 +19,8 @@ use std::alloc::Global;
 pub fn list_hosts(target: &Target<'_>) -> Result<Plan, RequestFault>
     ensures { Says result (list_hosts_plan (target_parts target.now)) }
 {
-    taken(Action::Hosts, &target.query)?;
-    Ok(Plan::Hosts)
+    taken(&[], &target.query)?;
+    Ok(Plan::Ready(Event::Hosts))
 }
 
 /// `PUT /hosts/{host}`
@@ -29,7 +29,7 @@ pub fn add_host(alloc: Global, target: &Target<'_>) -> Result<Plan, RequestFault
     ensures { Says result (add_host_plan (target_parts target.now)) }
 {
     let host = host_in(alloc, target.path)?;
-    taken(Action::AddHost, &target.query)?;
+    taken(&[], &target.query)?;
     Ok(Plan::AddHost { host })
 }
 
@@ -39,9 +39,9 @@ pub fn set_rules(alloc: Global, target: &Target<'_>) -> Result<Plan, RequestFaul
     ensures { Says result (set_rules_plan (target_parts target.now)) }
 {
     let host = host_in(alloc, target.path)?;
-    taken(Action::SetRules, &target.query)?;
+    taken(&RULE_KEYS, &target.query)?;
     let change = change_in(alloc, &target.query)?;
-    Ok(Plan::SetRules { host, change })
+    Ok(Plan::Ready(Event::SetRules { host, change }))
 }
 
 /// `POST /hosts/{host}/expire`
@@ -50,7 +50,7 @@ pub fn expire(alloc: Global, target: &Target<'_>) -> Result<Plan, RequestFault>
     ensures { Says result (expire_plan (target_parts target.now)) }
 {
     let host = host_in(alloc, target.path)?;
-    taken(Action::Expire, &target.query)?;
+    taken(&[], &target.query)?;
     Ok(Plan::Expire { host })
 }
 
@@ -60,9 +60,9 @@ pub fn contact(alloc: Global, target: &Target<'_>) -> Result<Plan, RequestFault>
     ensures { Says result (contact_plan (target_parts target.now)) }
 {
     let host = host_in(alloc, target.path)?;
-    taken(Action::Contact, &target.query)?;
+    taken(&[GOOD], &target.query)?;
     let good = flag_in(&target.query, "good")?;
-    Ok(Plan::Contact { host, good })
+    Ok(Plan::Ready(Event::Contact { host, good }))
 }
 
 /// `GET /hosts/{host}/due`
@@ -71,6 +71,6 @@ pub fn due(alloc: Global, target: &Target<'_>) -> Result<Plan, RequestFault>
     ensures { Says result (due_plan (target_parts target.now)) }
 {
     let host = host_in(alloc, target.path)?;
-    taken(Action::Due, &target.query)?;
+    taken(&[], &target.query)?;
     Ok(Plan::Due { host })
 }

@@ -1,36 +1,35 @@
 ghost use Rattle.std.specs.Prelude.{◌≡◌, codes};
 ghost use Rattle.http_query.specs.Keys.{rows_of};
 ghost use Rattle.http_query.specs.Query.{value_of};
-ghost use Rattle.request_events.specs.Keys.{put_keys, keys_of, taken};
+ghost use Rattle.request_events.specs.Keys.{put_keys, taken};
 ghost use Rattle.request_events.specs.Said.{Says};
 
 use crate::refusal::{RequestFault, RequestRefusal};
 use http_query::{Key, Query};
-use http_routes::Action;
 
 // Keys that must be there if they are taken.
 
-const PATH: Key = Key {
+pub const PATH: Key = Key {
     name: "path",
     needed: true,
 };
 
-const KIND: Key = Key {
+pub const KIND: Key = Key {
     name: "kind",
     needed: true,
 };
 
-const ON: Key = Key {
+pub const ON: Key = Key {
     name: "on",
     needed: true,
 };
 
-const GOOD: Key = Key {
+pub const GOOD: Key = Key {
     name: "good",
     needed: true,
 };
 
-const BUCKET: Key = Key {
+pub const BUCKET: Key = Key {
     name: "bucket",
     needed: true,
 };
@@ -68,13 +67,13 @@ const GROUP: Key = Key {
 };
 
 /// The key `path` of a listing, which is of the root without it.
-const PLACE: Key = Key {
+pub const PLACE: Key = Key {
     name: "path",
     needed: false,
 };
 
 /// The keys of rules.
-const RULE_KEYS: [Key; 15] = [
+pub const RULE_KEYS: [Key; 15] = [
     Key {
         name: "FillCycle",
         needed: false,
@@ -144,7 +143,7 @@ const ENTRY_KEYS: [Key; 7] = [PATH, KIND, MODE, UID, GID, MTIME, NANOS];
 const FILE_KEYS: [Key; 8] = [PATH, KIND, MODE, UID, GID, MTIME, NANOS, GROUP];
 
 /// The keys of a put, by the kind that the query names.
-fn put_keys(query: &Query) -> &'static [Key]
+pub fn put_keys(query: &Query) -> &'static [Key]
     ensures { rows_of result.now ≡ put_keys (value_of (codes "kind") query.now) }
 {
     match query.value("kind") {
@@ -159,30 +158,11 @@ fn put_keys(query: &Query) -> &'static [Key]
     }
 }
 
-/// The table of keys: those that each action takes. What isn't in it takes none.
-fn keys_of(action: Action, query: &Query) -> &'static [Key]
-    ensures { rows_of result.now ≡ keys_of action (value_of (codes "kind") query.now) }
+/// Refuses a query for the first rule that it breaks, if these are the keys that may or must be there.
+pub fn taken(keys: &[Key], query: &Query) -> Result<(), RequestFault>
+    ensures { Says result (taken (rows_of keys.now) query.now) }
 {
-    match action {
-        Action::SetRules => &RULE_KEYS,
-        Action::OpenDump => &[KIND],
-        Action::Put => put_keys(query),
-        Action::Remove => &[PATH],
-        Action::List => &[PLACE],
-        Action::Lookup => &[PATH],
-        Action::ReadFile => &[PATH],
-        Action::Keep => &[ON],
-        Action::Contact => &[GOOD],
-        Action::Clean => &[BUCKET],
-        _ => &[],
-    }
-}
-
-/// Refuses a query for the first rule that it breaks.
-pub fn taken(action: Action, query: &Query) -> Result<(), RequestFault>
-    ensures { Says result (taken action query.now) }
-{
-    match query.broken_rule(keys_of(action, query)) {
+    match query.broken_rule(keys) {
         Some(rule) => Err(RequestFault::Refused(RequestRefusal::BadQuery(rule))),
         None => Ok(()),
     }

@@ -18,8 +18,9 @@
 //! let event = event_of(alloc, plan, head.length().is_some(), body, clock.now(), &defaults)?;
 //! ```
 //!
-//! One more event is a row in the table of routes, one in the table of keys if it takes any, a variant of `Plan` with its arm in
-//! `plan_for` and a function beside its neighbours, and an arm in `event_of`.
+//! One more event is a function beside its neighbours that gives its plan, and an arm in `plan_for`, each with its line in `specs/`.
+//! A key that no request has yet is one more `Key`. An event that needs more than its head is a variant of `Plan` with an arm in
+//! `event_of`.
 #![tactic(auto)]
 
 mod backups;

@@ -4,21 +4,21 @@ ghost use Rattle.request_events.specs.Said.{Says};
 ghost use Rattle.request_events.specs.Targets.{target_parts};
 ghost use Rattle.request_events.specs.NightPlans.{clean_plan, sweep_plan, stats_plan, reopen_plan};
 
-use crate::keys::taken;
+use crate::keys::{BUCKET, taken};
 use crate::plan::Plan;
 use crate::refusal::RequestFault;
 use crate::target::Target;
 use crate::values::bucket_in;
-use http_routes::Action;
+use office_model::Event;
 
 /// `POST /night/clean`
 #[tactic(auto, unfolding(crate::specs::NightPlans::clean_plan))]
 pub fn clean(target: &Target<'_>) -> Result<Plan, RequestFault>
     ensures { Says result (clean_plan (target_parts target.now)) }
 {
-    taken(Action::Clean, &target.query)?;
+    taken(&[BUCKET], &target.query)?;
     let bucket = bucket_in(&target.query)?;
-    Ok(Plan::Clean { bucket })
+    Ok(Plan::Ready(Event::Clean { bucket }))
 }
 
 /// `POST /night/sweep`
@@ -26,8 +26,8 @@ pub fn clean(target: &Target<'_>) -> Result<Plan, RequestFault>
 pub fn sweep(target: &Target<'_>) -> Result<Plan, RequestFault>
     ensures { Says result (sweep_plan (target_parts target.now)) }
 {
-    taken(Action::Sweep, &target.query)?;
-    Ok(Plan::Sweep)
+    taken(&[], &target.query)?;
+    Ok(Plan::Ready(Event::Sweep))
 }
 
 /// `GET /stats`
@@ -35,8 +35,8 @@ pub fn sweep(target: &Target<'_>) -> Result<Plan, RequestFault>
 pub fn stats(target: &Target<'_>) -> Result<Plan, RequestFault>
     ensures { Says result (stats_plan (target_parts target.now)) }
 {
-    taken(Action::Stats, &target.query)?;
-    Ok(Plan::Stats)
+    taken(&[], &target.query)?;
+    Ok(Plan::Ready(Event::Stats))
 }
 
 /// `POST /reopen`
@@ -44,6 +44,6 @@ pub fn stats(target: &Target<'_>) -> Result<Plan, RequestFault>
 pub fn reopen(target: &Target<'_>) -> Result<Plan, RequestFault>
     ensures { Says result (reopen_plan (target_parts target.now)) }
 {
-    taken(Action::Reopen, &target.query)?;
-    Ok(Plan::Reopen)
+    taken(&[], &target.query)?;
+    Ok(Plan::Ready(Event::Reopen))
 }

@@ -13,98 +13,46 @@ use crate::refusal::{RequestFault, RequestRefusal};
 use crate::restores::{close_read, read_next};
 use crate::target::Target;
 use attr_records::{HostName, PathName};
-use backup_rules::{Kind, RuleChange};
+use backup_rules::Kind;
 use http_heads::Head;
 use http_query::Query;
 use http_routes::{Action, Route, route_of, split_target};
 use matchit::Router;
-use office_model::SessionName;
+use office_model::{Event, SessionName};
 use std::alloc::Global;
 
-/// What a head asks for: an event without what its body, the moment and the settings add.
+/// What a head asks for: an event, or what lacks its body, the moment or the settings to be one.
 #[derive(Debug, Drop)]
 pub enum Plan {
-    Hosts,
+    /// The event as it is.
+    Ready(Event),
+    /// The rules are those of the settings.
     AddHost {
         host: HostName,
     },
-    SetRules {
-        host: HostName,
-        change: RuleChange,
-    },
+    /// The moment is that after the body.
     OpenDump {
         host: HostName,
         kind: Kind,
     },
+    /// The body is what the item lacks.
     Put {
         dump: SessionName,
         path: PathName,
         item: PlannedItem,
     },
-    Remove {
-        dump: SessionName,
-        path: PathName,
-    },
+    /// The moment is that after the body.
     Commit {
         dump: SessionName,
     },
-    Abort {
-        dump: SessionName,
-    },
-    Backups {
-        host: HostName,
-    },
-    Delete {
-        host: HostName,
-        number: u32,
-    },
-    List {
-        host: HostName,
-        number: u32,
-        /// None is the root.
-        directory: Option<PathName>,
-    },
-    Lookup {
-        host: HostName,
-        number: u32,
-        path: PathName,
-    },
-    ReadFile {
-        host: HostName,
-        number: u32,
-        path: PathName,
-    },
-    OpenRead {
-        host: HostName,
-        number: u32,
-    },
-    Keep {
-        host: HostName,
-        number: u32,
-        on: bool,
-    },
-    ReadNext {
-        restore: SessionName,
-    },
-    CloseRead {
-        restore: SessionName,
-    },
+    /// The moment is that after the body.
     Expire {
         host: HostName,
     },
-    Contact {
-        host: HostName,
-        good: bool,
-    },
+    /// The moment is that after the body, and the clock that of the settings' zone.
     Due {
         host: HostName,
     },
-    Clean {
-        bucket: u8,
-    },
-    Sweep,
-    Stats,
-    Reopen,
 }
 
 /// What a head asks for, or why it is refused.

@@ -9,17 +9,17 @@ use crate::names::session_in;
 use crate::plan::Plan;
 use crate::refusal::RequestFault;
 use crate::target::Target;
-use http_routes::Action;
+use office_model::Event;
 
 /// `GET /restores/{restore}/next`
 #[tactic(auto, unfolding(crate::specs::RestorePlans::read_next_plan))]
 pub fn read_next(target: &Target<'_>) -> Result<Plan, RequestFault>
     ensures { Says result (read_next_plan (target_parts target.now)) }
 {
-    taken(Action::ReadNext, &target.query)?;
-    Ok(Plan::ReadNext {
+    taken(&[], &target.query)?;
+    Ok(Plan::Ready(Event::ReadNext {
         restore: session_in(target.path),
-    })
+    }))
 }
 
 /// `DELETE /restores/{restore}`
@@ -27,8 +27,8 @@ pub fn read_next(target: &Target<'_>) -> Result<Plan, RequestFault>
 pub fn close_read(target: &Target<'_>) -> Result<Plan, RequestFault>
     ensures { Says result (close_read_plan (target_parts target.now)) }
 {
-    taken(Action::CloseRead, &target.query)?;
-    Ok(Plan::CloseRead {
+    taken(&[], &target.query)?;
+    Ok(Plan::Ready(Event::CloseRead {
         restore: session_in(target.path),
-    })
+    }))
 }
