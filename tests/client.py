@@ -80,7 +80,7 @@ class Run:
         return json.loads(self.out)
 
 
-def begin(room, port, *words, user=None, env=None, code=None):
+def begin(room, port, *words, env=None, code=None):
     """Starts the client. `code` are lines of Python that are run on its module `client` first."""
     environment = {key: value for key, value in os.environ.items() if not key.startswith("TURRETGAGE")}
     environment.update(TURRETGAGE_URL=f"http://127.0.0.1:{port}", TURRETGAGE_STATE=os.path.join(room, "state"), **(env or {}))
@@ -91,9 +91,8 @@ def begin(room, port, *words, user=None, env=None, code=None):
                 "client = importlib.util.module_from_spec(importlib.util.spec_from_loader('client', loader))\n"
                 "sys.modules['client'] = client\nloader.exec_module(client)\n")
         command = [sys.executable, "-c", f"{load}{code}\nsys.exit(client.main())"]
-    more = {"preexec_fn": lambda: (os.setgroups([]), os.setgid(65534), os.setuid(65534))} if user else {}
     return subprocess.Popen([*command, *words], stdin=subprocess.DEVNULL, stdout=subprocess.PIPE, stderr=subprocess.PIPE,
-                            text=True, errors="surrogateescape", env=environment, **more)
+                            text=True, errors="surrogateescape", env=environment)
 
 
 class Relay:
@@ -103,7 +102,7 @@ class Relay:
 
     def __init__(self, port, spoil=None, rate=None):
         self.port_behind, self.spoil, self.rate, self.is_down = port, spoil, rate, False
-        self.seen, self.connections = [], 0
+        self.seen, self.connections, self.silent = [], 0, set()
         self.door = socket.create_server(("127.0.0.1", 0))
         self.port = self.door.getsockname()[1]
         threading.Thread(target=self._take, daemon=True).start()
@@ -122,7 +121,6 @@ class Relay:
 
     def _serve(self, peer):
         with contextlib.suppress(OSError), peer, socket.create_connection(("127.0.0.1", self.port_behind)) as behind:
-            self.silent = set()
             threading.Thread(target=self._back, args=[behind, peer], daemon=True).start()
             before = b""
             while True:
@@ -155,13 +153,15 @@ class Relay:
         with contextlib.suppress(OSError):
             peer.shutdown(socket.SHUT_RDWR)
 
+    def reset(self, spoil=None, rate=None):
+        self.spoil, self.rate, self.is_down, self.seen, self.connections = spoil, rate, False, [], 0
+
+    def bytes(self):
+        return sum(map(len, self.seen))
+
     def lines(self):
         """The request lines that changed something or opened a dump."""
         return re.findall(rb"^(?:PUT|POST|DELETE) \S+", b"".join(self.seen), re.MULTILINE)
-
-    def close(self):
-        self.is_down = True
-        self.door.close()
 
 
 # ---- Trees
@@ -277,9 +277,10 @@ class Room:
         os.chmod(self.top, 0o777)
         self.tree, self.into = os.path.join(self.top, "tree"), os.path.join(self.top, "into")
         self.stored = os.path.realpath(self.tree).strip("/")
+        self.relay = Relay(server.port)
 
     def client(self, *words, port=None, **more):
-        return Run(self.top, port or self.server.port, *words, **more)
+        return Run(self.top, port or self.relay.port, *words, **more)
 
     def push(self, *words, port=None, status=0, **more):
         return self.client("push", self.host, self.tree, "--json", *words, port=port, **more).json(status)
@@ -308,13 +309,13 @@ def every_kind(room):
     found = room.push("--quiet")
     want((found["kind"], found["number"], found["failed"], found["skipped"]), ("full", 0, 0, 0), "the first push")
     want_same(room.tree, room.restored())
-    relay = Relay(room.server.port)
-    found = room.push(port=relay.port)
+    room.relay.reset()
+    found = room.push()
     want((found["kind"], found["new"], found["changed"], found["removed"]), ("incr", 0, 0, 0), "the second push")
-    lines = relay.lines()
+    lines = room.relay.lines()
     if any(b"/entry" in line for line in lines) or not lines[-1].endswith(b"/commit"):
         raise Wrong(f"a push of nothing new sent {lines}")
-    want(relay.connections, 1, "connections")
+    want(room.relay.connections, 1, "connections")
     want_same(room.tree, room.restored("1"))
 
 
@@ -384,9 +385,9 @@ def plain_paths(room):
 def stopped(room):
     """SIGINT in mid push ends it with status 130 and no open dump; the next push is whole."""
     make_small(room.tree, 300, 8_000)
-    relay = Relay(room.server.port, rate=1_000_000)
-    run = begin(room.top, relay.port, "push", room.host, room.tree)
-    wait_for(lambda: sum(map(len, relay.seen)) > 400_000, "bytes")
+    room.relay.reset(rate=1_000_000)
+    run = begin(room.top, room.relay.port, "push", room.host, room.tree)
+    wait_for(lambda: room.relay.bytes() > 400_000, "bytes")
     run.send_signal(signal.SIGINT)
     _, said = run.communicate(timeout=60)
     want(run.returncode, 130, "status")
@@ -409,9 +410,9 @@ def killed_server(top, program):
     server = Server(program, os.path.join(top, "killed-store"))
     room = Room(top, server, "killed")
     make_small(room.tree, 300, 8_000)
-    relay = Relay(server.port, rate=2_000_000)
-    run = begin(room.top, relay.port, "push", room.host, room.tree, "--json", "--retry", "60")
-    wait_for(lambda: sum(map(len, relay.seen)) > 400_000, "bytes")
+    room.relay.reset(rate=2_000_000)
+    run = begin(room.top, room.relay.port, "push", room.host, room.tree, "--json", "--retry", "60")
+    wait_for(lambda: room.relay.bytes() > 400_000, "bytes")
     server.kill()
     time.sleep(0.3)
     server.start(server.port)
@@ -426,10 +427,10 @@ def broken_connections(room):
     """Connections that break after each 200 kB: what has no answer is sent again, and the backup is whole."""
     make_small(room.tree, 200, 4_000)
     write(f"{room.tree}/large", os.urandom(150_000))
-    relay = Relay(room.server.port, spoil=lambda before, piece: "drop" if len(before) > 200_000 else None)
-    found = room.push(port=relay.port)
+    room.relay.reset(spoil=lambda before, piece: "drop" if len(before) > 200_000 else None)
+    found = room.push()
     want(found["failed"], 0, "left out")
-    if relay.connections < 3:
+    if room.relay.connections < 3:
         raise Wrong("the connections didn't break")
     want_same(room.tree, room.restored())
 
@@ -447,7 +448,8 @@ def lost_answers(room):
                 return "pass"
         return None
 
-    found = room.push(port=Relay(room.server.port, spoil=spoil).port)
+    room.relay.reset(spoil=spoil)
+    found = room.push()
     want((found["number"], len(lost)), (0, 2), "number and answers lost")
     want((len(room.backups()["backups"]), room.backups()["dump"]), (1, None), "backups")
     want_same(room.tree, room.restored())
@@ -457,21 +459,22 @@ def away_and_back(room):
     """The server is away for longer than is waited: status 4. The dump stays, and the next push goes on with it, though files
     came, went and changed meanwhile."""
     make_small(room.tree, 300, 8_000)
-    relay = Relay(room.server.port, rate=2_000_000)
-    run = begin(room.top, relay.port, "push", room.host, room.tree, "--retry", "0.5")
-    wait_for(lambda: sum(map(len, relay.seen)) > 1_000_000, "bytes")
-    relay.close()
+    room.relay.reset(rate=2_000_000)
+    run = begin(room.top, room.relay.port, "push", room.host, room.tree, "--retry", "0.5")
+    wait_for(lambda: room.relay.bytes() > 1_000_000, "bytes")
+    room.relay.is_down = True
     _, said = run.communicate(timeout=60)
     want(run.returncode, 4, said)
+    room.relay.reset()
     dump = room.backups()["dump"]
     os.unlink(f"{room.tree}/d0/f0")
     shutil.rmtree(f"{room.tree}/d1")
     write(f"{room.tree}/d2/f2", b"changed")
     os.chmod(f"{room.tree}/d3", 0o700)
     write(f"{room.tree}/d1", b"a file now")
-    through = Relay(room.server.port)
-    found = room.push(port=through.port)
-    if dump.encode() not in b"".join(through.seen) or found["unchanged"] < 50:
+    room.relay.reset()
+    found = room.push()
+    if dump.encode() not in b"".join(room.relay.seen) or found["unchanged"] < 50:
         raise Wrong(f"the dump {dump} didn't go on: {found}")
     want_same(room.tree, room.restored())
     want(room.push()["changed"], 0, "changed")
@@ -486,12 +489,13 @@ def open_dumps(room):
     run = room.client("push", room.host, room.tree).wants(1)
     want_in("SessionOpen", run.err)
     room.push("--take-over")
-    relay = Relay(room.server.port, rate=200_000)
-    run = begin(room.top, relay.port, "push", room.host, room.tree, "--full")
-    wait_for(lambda: sum(map(len, relay.seen)) > 100_000, "bytes")
+    room.relay.reset(rate=200_000)
+    run = begin(room.top, room.relay.port, "push", room.host, room.tree, "--full")
+    wait_for(lambda: room.relay.bytes() > 100_000, "bytes")
     want_in("another push", room.client("push", room.host, room.tree).wants(2).err)
     run.kill()
     run.communicate()
+    room.relay.reset()
     room.push()
     want_same(room.tree, room.restored())
 
@@ -543,8 +547,8 @@ def unreadable(room):
     room.push("--state", f"{room.top}/mine")
     os.chmod(f"{room.tree}/secret", 0)
     os.chmod(f"{room.tree}/closed", 0)
-    user = "nobody" if IS_ROOT else None
-    run = room.client("push", room.host, room.tree, "--state", f"{room.top}/theirs", user=user).wants(3)
+    nobody = "import os; os.setgroups([]); os.setgid(65534); os.setuid(65534)" if IS_ROOT else None
+    run = room.client("push", room.host, room.tree, "--state", f"{room.top}/theirs", code=nobody).wants(3)
     want_in("secret: it can't be read: Permission denied", run.err)
     want_in("closed: the folder can't be read: Permission denied", run.err)
     names = [entry["path"] for entry in room.client("ls", room.host, "1", room.stored, "--recursive", "--json").json()["entries"]]
@@ -556,17 +560,17 @@ def moving_files(room):
     os.mkdir(room.tree)
     for name, size in (("shrinks", 8_000_000), ("z", 1_000)):
         write(f"{room.tree}/{name}", b"x" * size)
-    relay = Relay(room.server.port, rate=4_000_000)
-    run = begin(room.top, relay.port, "push", room.host, room.tree, "--json")
-    wait_for(lambda: sum(map(len, relay.seen)) > 1_000_000, "bytes")
+    room.relay.reset(rate=4_000_000)
+    run = begin(room.top, room.relay.port, "push", room.host, room.tree, "--json")
+    wait_for(lambda: room.relay.bytes() > 1_000_000, "bytes")
     os.truncate(f"{room.tree}/shrinks", 5_000_000)
     out, said = run.communicate(timeout=60)
     want((run.returncode, json.loads(out)["failed"]), (0, 0), said)
     want_same(room.tree, room.restored())
     write(f"{room.tree}/grows", b"y" * 8_000_000)
-    relay = Relay(room.server.port, rate=4_000_000)
-    run = begin(room.top, relay.port, "push", room.host, room.tree, "--json")
-    wait_for(lambda: sum(map(len, relay.seen)) > 1_000_000, "bytes")
+    room.relay.reset(rate=4_000_000)
+    run = begin(room.top, room.relay.port, "push", room.host, room.tree, "--json")
+    wait_for(lambda: room.relay.bytes() > 1_000_000, "bytes")
     with open(f"{room.tree}/grows", "ab") as it:
         it.write(b"more")
     out, said = run.communicate(timeout=60)
@@ -934,10 +938,11 @@ def parked(room):
     make_small(room.tree, 300, 8_000)
     office = Office()
     liar = Liar(office)
+    room.relay = Relay(liar.port)
     for turn in range(2):
-        relay = Relay(liar.port, rate=2_000_000)
-        run = begin(room.top, relay.port, "push", room.host, room.tree, *(["--checksum"] if turn else []))
-        wait_for(lambda: sum(map(len, relay.seen)) > 1_000_000, "bytes")
+        room.relay.reset(rate=2_000_000)
+        run = begin(room.top, room.relay.port, "push", room.host, room.tree, *(["--checksum"] if turn else []))
+        wait_for(lambda: room.relay.bytes() > 1_000_000, "bytes")
         run.send_signal(signal.SIGTERM)
         _, said = run.communicate(timeout=60)
         want((run.returncode, office.dump), (130, None), said)
@@ -949,7 +954,8 @@ def parked(room):
         os.unlink(f"{room.tree}/d{turn + 1}/f{turn + 1}")
         shutil.rmtree(f"{room.tree}/d{turn + 3}")
         before = len(liar.seen)
-        found = room.push(port=liar.port)
+        room.relay.reset()
+        found = room.push()
         if f"POST /hosts/{room.host}/resume" not in liar.seen[before:] or found["unchanged"] < 40:
             raise Wrong(f"it didn't go on: {found}")
         wanted = {f"{room.stored}/{path}" for path in described(room.tree)}
