@@ -3,6 +3,8 @@
 import ast
 import contextlib
 import hashlib
+import importlib.machinery
+import importlib.util
 import json
 import os
 import re
@@ -15,6 +17,7 @@ import sys
 import tempfile
 import threading
 import time
+import traceback
 import urllib.parse
 
 TOP = os.path.dirname(os.path.dirname(os.path.realpath(__file__)))
@@ -62,37 +65,106 @@ class Server:
         self.run.stderr.close()
 
 
+class Nursery:
+    """A process that has the client loaded, and forks each run of it: a start of Python takes longer than most runs."""
+
+    def __init__(self):
+        words = [sys.executable, os.path.realpath(__file__), "nursery"]
+        self.run = subprocess.Popen(words, stdin=subprocess.PIPE, stdout=subprocess.PIPE, text=True)
+
+    def ask(self, **what):
+        self.run.stdin.write(json.dumps(what) + "\n")
+        self.run.stdin.flush()
+        return json.loads(self.run.stdout.readline())
+
+    @staticmethod
+    def serve():
+        """Forks for each line that has words, and says how a run ended for each that has its number."""
+        loader = importlib.machinery.SourceFileLoader("client", CLIENT)
+        client = importlib.util.module_from_spec(importlib.util.spec_from_loader("client", loader))
+        sys.modules["client"] = client
+        loader.exec_module(client)
+        for line in sys.stdin:
+            what = json.loads(line)
+            if "wait" in what:
+                pid, status = os.waitpid(what["wait"], os.WNOHANG)
+                print(json.dumps((os.WEXITSTATUS(status) if os.WIFEXITED(status) else -os.WTERMSIG(status)) if pid else None), flush=True)
+                continue
+            pid = os.fork()
+            if pid == 0:
+                Nursery.work(client, what)
+            print(pid, flush=True)
+
+    @staticmethod
+    def work(client, what):
+        """A run of the client, which ends the process."""
+        status = 1
+        try:
+            os.dup2(os.open(os.devnull, os.O_RDONLY), 0)
+            for fd in (1, 2):
+                os.dup2(os.open(what["outputs"][fd - 1], os.O_WRONLY | os.O_CREAT | os.O_TRUNC), fd)
+            sys.stdout, sys.stderr = (open(fd, "w", encoding="utf-8", closefd=False) for fd in (1, 2))
+            os.environ.clear()
+            os.environ.update(what["environment"])
+            exec(what["code"], {"client": client, "os": os})
+            status = client.main(what["words"])
+        except SystemExit as end:
+            status = end.code
+        except BaseException:
+            traceback.print_exc()
+        finally:
+            sys.stdout.flush()
+            sys.stderr.flush()
+            os._exit(status)
+
+
+class Begun:
+    """A run of the client."""
+
+    count = 0
+
+    def __init__(self, room, port, *words, code=""):
+        environment = {key: value for key, value in os.environ.items() if not key.startswith("TURRETGAGE")}
+        environment.update(TURRETGAGE_URL=f"http://127.0.0.1:{port}", TURRETGAGE_STATE=os.path.join(room, "state"))
+        Begun.count += 1
+        self.outputs = [os.path.join(room, f".said-{Begun.count}-{fd}") for fd in (1, 2)]
+        self.pid = NURSERY.ask(words=words, environment=environment, code=code, outputs=self.outputs)
+
+    def send_signal(self, number):
+        os.kill(self.pid, number)
+
+    def end(self, patience=120):
+        """Its status, and what it said."""
+        end = time.monotonic() + patience
+        while True:
+            status = NURSERY.ask(wait=self.pid)
+            if status is not None:
+                break
+            if time.monotonic() > end:
+                os.kill(self.pid, signal.SIGKILL)
+                raise Wrong("the client doesn't end")
+            time.sleep(0.01)
+        texts = []
+        for name in self.outputs:
+            with open(name, encoding="utf-8", newline="") as it:
+                texts.append(it.read())
+        return status, texts[0], texts[1]
+
+
 class Run:
     """A run of the client that has ended."""
 
     def __init__(self, room, port, *words, **more):
-        self.run = begin(room, port, *words, **more)
-        self.out, self.err = self.run.communicate(timeout=300)
-        self.status = self.run.returncode
+        self.status, self.out, self.err = Begun(room, port, *words, **more).end()
 
     def wants(self, status):
-        if self.status != status:
+        if self.status != status or "Traceback" in self.err:
             raise Wrong(f"status {self.status} in the place of {status}: {self.out[-300:]!r} {self.err[-600:]!r}")
         return self
 
     def json(self, status=0):
         self.wants(status)
         return json.loads(self.out)
-
-
-def begin(room, port, *words, env=None, code=None):
-    """Starts the client. `code` are lines of Python that are run on its module `client` first."""
-    environment = {key: value for key, value in os.environ.items() if not key.startswith("TURRETGAGE")}
-    environment.update(TURRETGAGE_URL=f"http://127.0.0.1:{port}", TURRETGAGE_STATE=os.path.join(room, "state"), **(env or {}))
-    command = [sys.executable, CLIENT]
-    if code:
-        load = ("import importlib.machinery, importlib.util, sys\n"
-                f"loader = importlib.machinery.SourceFileLoader('client', {CLIENT!r})\n"
-                "client = importlib.util.module_from_spec(importlib.util.spec_from_loader('client', loader))\n"
-                "sys.modules['client'] = client\nloader.exec_module(client)\n")
-        command = [sys.executable, "-c", f"{load}{code}\nsys.exit(client.main())"]
-    return subprocess.Popen([*command, *words], stdin=subprocess.DEVNULL, stdout=subprocess.PIPE, stderr=subprocess.PIPE,
-                            text=True, errors="surrogateescape", env=environment)
 
 
 class Relay:
@@ -104,6 +176,7 @@ class Relay:
         self.port_behind, self.spoil, self.rate, self.is_down = port, spoil, rate, False
         self.seen, self.connections, self.silent = [], 0, set()
         self.door = socket.create_server(("127.0.0.1", 0))
+        self.door.setsockopt(socket.SOL_SOCKET, socket.SO_RCVBUF, 65_536)
         self.port = self.door.getsockname()[1]
         threading.Thread(target=self._take, daemon=True).start()
 
@@ -387,11 +460,11 @@ def stopped(room):
     """SIGINT in mid push ends it with status 130 and no open dump; the next push is whole."""
     make_small(room.tree, 300, 8_000)
     room.relay.reset(rate=1_000_000)
-    run = begin(room.top, room.relay.port, "push", room.host, room.tree)
+    run = Begun(room.top, room.relay.port, "push", room.host, room.tree)
     wait_for(lambda: room.relay.bytes() > 400_000, "bytes")
     run.send_signal(signal.SIGINT)
-    _, said = run.communicate(timeout=60)
-    want(run.returncode, 130, "status")
+    status, _, said = run.end()
+    want(status, 130, "status")
     want_in("the dump is aborted", said)
     want((room.backups()["dump"], room.backups()["backups"]), (None, []), "what is left")
     room.push()
@@ -412,13 +485,13 @@ def killed_server(top, program):
     room = Room(top, server, "killed")
     make_small(room.tree, 300, 8_000)
     room.relay.reset(rate=2_000_000)
-    run = begin(room.top, room.relay.port, "push", room.host, room.tree, "--json", "--retry", "60")
+    run = Begun(room.top, room.relay.port, "push", room.host, room.tree, "--json", "--retry", "60")
     wait_for(lambda: room.relay.bytes() > 400_000, "bytes")
     server.kill()
     time.sleep(0.3)
     server.start(server.port)
-    out, said = run.communicate(timeout=120)
-    want((run.returncode, json.loads(out or "{}").get("number")), (0, 0), said)
+    status, out, said = run.end()
+    want((status, json.loads(out or "{}").get("number")), (0, 0), said)
     want_in("begins anew", said)
     want_same(room.tree, room.restored())
     server.kill()
@@ -461,11 +534,11 @@ def away_and_back(room):
     came, went and changed meanwhile."""
     make_small(room.tree, 300, 8_000)
     room.relay.reset(rate=2_000_000)
-    run = begin(room.top, room.relay.port, "push", room.host, room.tree, "--retry", "0.5")
+    run = Begun(room.top, room.relay.port, "push", room.host, room.tree, "--retry", "0.5")
     wait_for(lambda: room.relay.bytes() > 1_000_000, "bytes")
     room.relay.is_down = True
-    _, said = run.communicate(timeout=60)
-    want(run.returncode, 4, said)
+    status, _, said = run.end()
+    want(status, 4, said)
     room.relay.reset()
     dump = room.backups()["dump"]
     os.unlink(f"{room.tree}/d0/f0")
@@ -491,11 +564,11 @@ def open_dumps(room):
     want_in("SessionOpen", run.err)
     room.push("--take-over")
     room.relay.reset(rate=60_000)
-    run = begin(room.top, room.relay.port, "push", room.host, room.tree, "--full")
+    run = Begun(room.top, room.relay.port, "push", room.host, room.tree, "--full")
     wait_for(lambda: room.relay.bytes() > 40_000, "bytes")
     want_in("another push", room.client("push", room.host, room.tree).wants(2).err)
-    run.kill()
-    run.communicate()
+    run.send_signal(signal.SIGKILL)
+    run.end()
     room.relay.reset()
     room.push()
     want_same(room.tree, room.restored())
@@ -548,8 +621,8 @@ def unreadable(room):
     room.push("--state", f"{room.top}/mine")
     os.chmod(f"{room.tree}/secret", 0)
     os.chmod(f"{room.tree}/closed", 0)
-    nobody = "import os, encodings.idna; os.setgroups([]); os.setgid(65534); os.setuid(65534)" if IS_ROOT else None
-    run = room.client("push", room.host, room.tree, "--state", f"{room.top}/theirs", code=nobody).wants(3)
+    nobody = "import encodings.idna; os.setgroups([]); os.setgid(65534); os.setuid(65534)" if IS_ROOT else ""
+    run = room.client("push", room.host, room.tree, "--state", "/proc/nowhere", code=nobody).wants(3)
     want_in("secret: it can't be read: Permission denied", run.err)
     want_in("closed: the folder can't be read: Permission denied", run.err)
     names = [entry["path"] for entry in room.client("ls", room.host, "1", room.stored, "--recursive", "--json").json()["entries"]]
@@ -559,25 +632,25 @@ def unreadable(room):
 def moving_files(room):
     """A file that becomes shorter while it is sent is sent once more; one that grows is sent by the length that it had."""
     os.mkdir(room.tree)
-    for name, size in (("shrinks", 4_000_000), ("z", 1_000)):
+    for name, size in (("shrinks", 6_000_000), ("z", 1_000)):
         write(f"{room.tree}/{name}", b"x" * size)
-    room.relay.reset(rate=2_000_000)
-    run = begin(room.top, room.relay.port, "push", room.host, room.tree, "--json")
+    room.relay.reset(rate=6_000_000)
+    run = Begun(room.top, room.relay.port, "push", room.host, room.tree, "--json")
     wait_for(lambda: room.relay.bytes() > 1_000_000, "bytes")
-    os.truncate(f"{room.tree}/shrinks", 3_000_000)
-    out, said = run.communicate(timeout=60)
-    want((run.returncode, json.loads(out)["failed"]), (0, 0), said)
+    os.truncate(f"{room.tree}/shrinks", 4_500_000)
+    status, out, said = run.end()
+    want((status, json.loads(out)["failed"]), (0, 0), said)
     want_same(room.tree, room.restored())
-    write(f"{room.tree}/grows", b"y" * 4_000_000)
-    room.relay.reset(rate=2_000_000)
-    run = begin(room.top, room.relay.port, "push", room.host, room.tree, "--json")
+    write(f"{room.tree}/grows", b"y" * 6_000_000)
+    room.relay.reset(rate=6_000_000)
+    run = Begun(room.top, room.relay.port, "push", room.host, room.tree, "--json")
     wait_for(lambda: room.relay.bytes() > 1_000_000, "bytes")
     with open(f"{room.tree}/grows", "ab") as it:
         it.write(b"more")
-    out, said = run.communicate(timeout=60)
-    want((run.returncode, json.loads(out)["changed_while_read"]), (0, 1), said)
+    status, out, said = run.end()
+    want((status, json.loads(out)["changed_while_read"]), (0, 1), said)
     listed = room.client("ls", room.host, f"{room.stored}/grows", "--json").json()["entries"]
-    want(listed[0]["size"], 4_000_000, "the size that it had")
+    want(listed[0]["size"], 6_000_000, "the size that it had")
     want(room.push()["changed"], 1, "what changed is sent by the next push")
 
 
@@ -740,8 +813,6 @@ def restore_from(room, liar, status, name, *more):
     before = described(f"{inner}/outside")
     run = room.client("restore", "pc", *more, f"{inner}/into", "--retry", "0", "--timeout", "5", port=liar.port)
     run.wants(status)
-    if "Traceback" in run.err:
-        raise Wrong(run.err)
     want(sorted({*os.listdir(inner), "into"}), ["into", "outside"], "what lies beside the folder")
     want(described(f"{inner}/outside"), before, "what lies outside")
     return f"{inner}/into", run
@@ -942,11 +1013,11 @@ def parked(room):
     room.relay = Relay(liar.port)
     for turn in range(2):
         room.relay.reset(rate=2_000_000)
-        run = begin(room.top, room.relay.port, "push", room.host, room.tree, *(["--checksum"] if turn else []))
+        run = Begun(room.top, room.relay.port, "push", room.host, room.tree, *(["--checksum"] if turn else []))
         wait_for(lambda: room.relay.bytes() > 1_000_000, "bytes")
         run.send_signal(signal.SIGTERM)
-        _, said = run.communicate(timeout=60)
-        want((run.returncode, office.dump), (130, None), said)
+        status, _, said = run.end()
+        want((status, office.dump), (130, None), said)
         want_in("is parked", said)
         kept = len(office.partial)
         if kept < 50:
@@ -970,13 +1041,15 @@ def parked(room):
         raise Wrong(f"tokens: {office.tokens}")
 
 
-def old_grammar(_room):
-    """The client's grammar is that of Python 3.8."""
+def one_file(room):
+    """The client is one file that can be run, of the grammar of Python 3.8."""
     with open(CLIENT, encoding="utf-8") as it:
         ast.parse(it.read(), feature_version=(3, 8))
+    done = subprocess.run([CLIENT, "hosts"], env={**os.environ, "TURRETGAGE_URL": f"http://127.0.0.1:{room.server.port}"}, capture_output=True)
+    want((done.returncode, done.stderr), (0, b""), "a run")
 
 
-TESTS = [old_grammar, every_kind, other_kinds, two_in_a_hundred, plain_paths, stopped, broken_connections, lost_answers, away_and_back,
+TESTS = [one_file, every_kind, other_kinds, two_in_a_hundred, plain_paths, stopped, broken_connections, lost_answers, away_and_back,
          open_dumps, left_out, unreadable, moving_files, choices, other_commands, many_listings, hostile_names, hostile_links,
          hostile_lengths, hostile_answers, hostile_pushes, proxies, parked]
 
@@ -1008,4 +1081,8 @@ def main():
     sys.exit(1 if failed else 0)
 
 
-main()
+if sys.argv[1:] == ["nursery"]:
+    Nursery.serve()
+else:
+    NURSERY = Nursery()
+    main()
