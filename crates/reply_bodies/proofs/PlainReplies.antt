@@ -75,85 +75,42 @@ append_plain (x ∷ a) b p q = let h = first_and (is_plain_byte x) (is_plain_tex
 session_plain : (name : SessionName) → IsSession name → is_plain_text (session_text name) ≡ true
 session_plain name fits = append_plain (decimal name.epoch) (45 ∷ decimal name.sequence) (decimal_plain name.epoch fits.0) (decimal_plain name.sequence fits.1)
 
-same : (x y : List Field) → Some x ≡ Some y → x ≡ y
-same x y e = cc
-
 done_plain : (event : Event) → NamesHost event → are_plain (done_fields event) ≡ true
 done_plain (E.AddHost host rules) names = rw (host_plain host names) refl
-done_plain (E.SetRules host change) names = refl
-done_plain (E.OpenDump host kind now) names = refl
-done_plain (E.Put dump path item) names = refl
-done_plain (E.Remove dump path) names = refl
-done_plain (E.Commit dump now) names = refl
-done_plain (E.Abort dump) names = refl
-done_plain (E.List host number directory) names = refl
-done_plain (E.Lookup host number path) names = refl
-done_plain (E.ReadFile host number path) names = refl
-done_plain (E.OpenRead host number) names = refl
-done_plain (E.ReadNext restore) names = refl
-done_plain (E.CloseRead restore) names = refl
-done_plain (E.Keep host number on) names = refl
-done_plain (E.Delete host number) names = refl
-done_plain (E.Expire host now) names = refl
-done_plain (E.Contact host good) names = refl
-done_plain (E.Due host now local) names = refl
-done_plain (E.Clean bucket) names = refl
-done_plain E.Sweep names = refl
-done_plain E.Stats names = refl
-done_plain E.Hosts names = refl
-done_plain (E.Backups host) names = refl
-done_plain E.Reopen names = refl
+done_plain event names = refl
 
 due_plain : (kind : Option Kind) → is_plain_text (due_text kind) ≡ true
 due_plain None = refl
 due_plain (Some Full) = refl
 due_plain (Some Incr) = refl
 
-plain_fields : (event : Event) (answer : Answer) (fields : List Field) → NamesHost event → NamesSession answer
-    → short_fields event answer ≡ Some fields → are_plain fields ≡ true
-plain_fields event A.Done fields h s e = subst (λ f. are_plain f ≡ true) (same _ fields e) (done_plain event h)
-plain_fields event (A.Dump name) fields h s e = subst (λ f. are_plain f ≡ true) (same _ fields e) (rw (session_plain name s) refl)
-plain_fields event (A.Committed n) fields h s e = subst (λ f. are_plain f ≡ true) (same _ fields e) refl
-plain_fields event (A.Restore name) fields h s e = subst (λ f. are_plain f ≡ true) (same _ fields e) (rw (session_plain name s) refl)
-plain_fields event (A.Expired n) fields h s e = subst (λ f. are_plain f ≡ true) (same _ fields e) refl
-plain_fields event (A.Contacts good bad) fields h s e = subst (λ f. are_plain f ≡ true) (same _ fields e) refl
-plain_fields event (A.Due blackout kind) fields h s e = subst (λ f. are_plain f ≡ true) (same _ fields e) (rw (due_plain kind) refl)
-plain_fields event (A.Cleaned marked unmarked removed) fields h s e = subst (λ f. are_plain f ≡ true) (same _ fields e) refl
-plain_fields event (A.Stats stats) fields h s e = subst (λ f. are_plain f ≡ true) (same _ fields e) refl
-plain_fields event (A.Reopened epoch) fields h s e = subst (λ f. are_plain f ≡ true) (same _ fields e) refl
-plain_fields event (A.Entries entries) fields h s e = absurd cc
-plain_fields event (A.Entry node) fields h s e = absurd cc
-plain_fields event (A.Content bytes) fields h s e = absurd cc
-plain_fields event (A.Next frame) fields h s e = absurd cc
-plain_fields event (A.Hosts names) fields h s e = absurd cc
-plain_fields event (A.Backups lines next dump) fields h s e = absurd cc
+-- the members, if there are any, are plain
+plain_or_none : Option (List Field) → Bool
+plain_or_none None = true
+plain_or_none (Some fields) = are_plain fields
+
+short_plain : (event : Event) (answer : Answer) → NamesHost event → NamesSession answer → plain_or_none (short_fields event answer) ≡ true
+unfolding plain_or_none
+short_plain event A.Done h s = done_plain event h
+short_plain event (A.Dump name) h s = rw (session_plain name s) refl
+short_plain event (A.Restore name) h s = rw (session_plain name s) refl
+short_plain event (A.Due blackout kind) h s = rw (due_plain kind) refl
+short_plain event answer h s = refl
 
 pub short_replies : ShortRepliesAreJson
-short_replies event answer fields h s e = object_is fields (plain_fields event answer fields h s e)
+unfolding plain_or_none
+short_replies event answer fields h s e =
+    object_is fields (subst (λ found. plain_or_none found ≡ true) e (short_plain event answer h s))
 
 put_rule_plain : (rule : PutRule) → is_plain_text (put_rule_name rule) ≡ true
 unfolding put_rule_name
 put_rule_plain NoParent = refl
-put_rule_plain IsDirectory = refl
-put_rule_plain TooManyEntries = refl
-put_rule_plain FileTooLarge = refl
+put_rule_plain rule = refl
 
 rule_plain : (rule : BrokenRule) → is_plain_text (rule_name rule) ≡ true
 unfolding rule_name
-rule_plain B.HostExists = refl
-rule_plain B.HostsFull = refl
-rule_plain B.NoHost = refl
-rule_plain B.SessionOpen = refl
-rule_plain B.NumbersSpent = refl
-rule_plain B.NoSession = refl
 rule_plain (B.Put rule) = put_rule_plain rule
-rule_plain B.NoBackup = refl
-rule_plain B.ChainFull = refl
-rule_plain B.NoPath = refl
-rule_plain B.NotAFile = refl
-rule_plain B.NotADirectory = refl
-rule_plain B.Kept = refl
-rule_plain B.BadBucket = refl
+rule_plain rule = refl
 
 -- the digits of a byte
 plain_at : (text : List ℕ) (n : ℕ) → is_plain_text text ≡ true → n < length text → is_plain_byte (slice_index text n) ≡ true
@@ -181,27 +138,22 @@ word_number : (text : List ℕ) (n : ℕ) → is_plain_text text ≡ true → n 
 word_number text n plain small = append_plain text (decimal n) plain (decimal_plain n small)
 
 file_plain : (file : FileId) → IsFile file → is_plain_text (real_name file) ≡ true
-file_plain F.Head fits = refl
-file_plain F.Intent fits = refl
-file_plain F.Gate fits = refl
 file_plain (F.Host host) fits = word_number (codes "host-") host refl (omega (arith, fits))
 file_plain (F.Table host number) fits =
     append_plain (codes "table-") (decimal host ++ (codes "-" ++ decimal number)) refl
     (append_plain (decimal host) (codes "-" ++ decimal number) (decimal_plain host (omega (arith, fits.0)))
     (append_plain (codes "-") (decimal number) refl (decimal_plain number (omega (arith, fits.1)))))
 file_plain (F.Counts host) fits = word_number (codes "counts-") host refl (omega (arith, fits))
-file_plain F.PoolIndex fits = refl
 file_plain (F.PoolBucket byte) fits = word_number (codes "pool-index-") byte refl (omega (arith, fits))
 file_plain (F.Partial host) fits = word_number (codes "partial-") host refl (omega (arith, fits))
 file_plain (F.Pool id) fits = append_plain (codes "pool-") (content_name id) refl (content_plain id fits.0 fits.1)
 file_plain (F.Stage number) fits = word_number (codes "stage-") number refl fits
+file_plain file fits = refl
 
 refusal_plain : (refusal : Refusal) → NamesFile refusal → are_plain (refusal_fields refusal) ≡ true
 refusal_plain (Broken rule) fits = rw (rule_plain rule) refl
-refusal_plain Halted fits = refl
-refusal_plain DiskFault fits = refl
 refusal_plain (Damaged file found) fits = rw (file_plain file fits) refl
-refusal_plain Memory fits = refl
+refusal_plain refusal fits = refl
 
 pub refusals_plain : RefusalsAreJson
 refusals_plain refusal fits = object_is (refusal_fields refusal) (refusal_plain refusal fits)

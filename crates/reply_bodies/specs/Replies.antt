@@ -62,12 +62,7 @@ short_fields event (A.Cleaned marked unmarked removed) =
     Some ((codes "marked", Count marked) ∷ (codes "removed", Count removed) ∷ (codes "unmarked", Count unmarked) ∷ [])
 short_fields event (A.Stats stats) = Some (stats_fields stats)
 short_fields event (A.Reopened epoch) = Some ((codes "epoch", Count epoch) ∷ [])
-short_fields event (A.Entries entries) = None
-short_fields event (A.Entry node) = None
-short_fields event (A.Content bytes) = None
-short_fields event (A.Next frame) = None
-short_fields event (A.Hosts names) = None
-short_fields event (A.Backups lines next dump) = None
+short_fields event answer = None
 
 -- ---- longer answers
 

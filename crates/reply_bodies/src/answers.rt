@@ -33,12 +33,7 @@ pub fn answer_text(event: &Event, answer: &Answer) -> Option<ShortText>
         } => Some(cleaned_text(*marked, *unmarked, *removed)),
         Answer::Stats(stats) => Some(stats_text(stats)),
         Answer::Reopened(epoch) => Some(counted(b"epoch", *epoch)),
-        Answer::Entries(_) => None,
-        Answer::Entry(_) => None,
-        Answer::Content(_) => None,
-        Answer::Next(_) => None,
-        Answer::Hosts(_) => None,
-        Answer::Backups { .. } => None,
+        _ => None,
     }
 }
 

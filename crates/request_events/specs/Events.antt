@@ -1,7 +1,7 @@
 -- From a plan, a body and a moment to the event.
 --     event_of      the event of a plan
 --     event_asked      the event that a request asks for
-use Rattle.std.specs.Prelude.{ℕ, Bool, List, Ok, Err, is_some}
+use Rattle.std.specs.Prelude.{ℕ, Bool, List, Ok, is_some}
 use Rattle.http_heads.specs.Heads.{HeadParts}
 use Rattle.office_model.specs.declared.event.Event.{Event}
 use Rattle.office_model.specs.declared.event.Event.TheVariants as E

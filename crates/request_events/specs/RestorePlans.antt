@@ -1,6 +1,6 @@
 -- What requests for restores ask for.
 --     read_next_plan, close_read_plan      the next frame of an open restore;  its end
-use Rattle.std.specs.Prelude.{Ok, [], ◌∷◌}
+use Rattle.std.specs.Prelude.{Ok, []}
 use Rattle.office_model.specs.declared.event.Event.TheVariants as E
 use Rattle.request_events.specs.declared.plan.Plan.{Plan}
 use Rattle.request_events.specs.declared.plan.Plan.TheVariants as P
