@@ -1,6 +1,6 @@
 -- How the steps of a connection make the whole of it.
 use Rattle.std.proofs.Common.{◌≡◌, ℕ, ◌+◌, ◌<◌, ◌≤◌, ◌==◌, Bool, true, false, ◌||◌, not, List, [], ◌∷◌, ◌++◌, length, take, Option, Some, None, Result, Ok, Err, refl, sym, ap, ◌∙◌, subst, inl, inr, suc, append_assoc, append-nil, length-append, arith}
-use Rattle.std.specs.Prelude.{◌⊎◌, IfOk}
+use Rattle.std.specs.Prelude.{◌⊎◌, IfOk, IsErrOf}
 use Rattle.std.specs.Option.{ForSome}
 use Rattle.std.proofs.Math.Seq.{take-length, take-append-add}
 use Rattle.std.proofs.lemmas.List.{take-append-le}
@@ -264,17 +264,10 @@ goes_on_where false closes false e f g = refl
 outcome_of : (defaults : Defaults) (parts : HeadParts) (body : List ℕ) (moment : ℕ) (result : Result Event RequestFault) (outcome : Outcome)
     → Says result (event_asked parts body moment defaults) → IsOf result outcome → IsOutcome (event_asked parts body moment defaults) outcome
 outcome_of defaults parts body moment (Ok event) (Called calls) says is = (event, says, is)
-outcome_of defaults parts body moment (Ok event) (Refused named) says is = absurd is
 outcome_of defaults parts body moment (Ok event) (Unsaid calls) says is = (event, says, is.0, is.1)
-outcome_of defaults parts body moment (Ok event) Lost says is = tt
 outcome_of defaults parts body moment (Err (RefusedAs refusal)) (Refused named) says is = says ∙ ap Err (sym is)
-outcome_of defaults parts body moment (Err (RefusedAs refusal)) (Called calls) says is = absurd is
-outcome_of defaults parts body moment (Err (RefusedAs refusal)) (Unsaid calls) says is = absurd is
-outcome_of defaults parts body moment (Err (RefusedAs refusal)) Lost says is = tt
-outcome_of defaults parts body moment (Err NoMemory) (Refused named) says is = absurd is
-outcome_of defaults parts body moment (Err NoMemory) (Called calls) says is = absurd is
-outcome_of defaults parts body moment (Err NoMemory) (Unsaid calls) says is = absurd is
 outcome_of defaults parts body moment (Err NoMemory) Lost says is = tt
+outcome_of defaults parts body moment result outcome says is = absurd is
 
 -- a request that was read, what came of it and its response make an exchange
 pub GoesOn-made : (defaults : Defaults) {P : Type 0} (moves : P → List Call → P → Type 0) (old new : P)
@@ -345,11 +338,7 @@ EndsAt-called defaults moves old new left left' left'' written written' written'
 memory_response : (event : Event) (reply : Reply) (closes is_head : Bool) → is_memory reply ≡ true → reply_response event reply closes is_head ≡ no_memory_response
 unfolding reply_response
 memory_response event (Err R.Memory) closes is_head e = refl
-memory_response event (Ok answer) closes is_head e = absurd cc
-memory_response event (Err (R.Broken rule)) closes is_head e = absurd cc
-memory_response event (Err R.Halted) closes is_head e = absurd cc
-memory_response event (Err R.DiskFault) closes is_head e = absurd cc
-memory_response event (Err (R.Damaged file found)) closes is_head e = absurd cc
+memory_response event reply closes is_head e = absurd (cc e)
 
 pub answered_memory : (written written' : Option (List ℕ)) (event : Event) (reply : Reply) (closes is_head : Bool)
     → written' ≡ behind written (reply_response event reply closes is_head) → is_memory reply ≡ true
@@ -383,48 +372,12 @@ reads_kind _ = false
 kind_reads : (answer : Answer) → reads_kind (kind_of answer) ≡ takes_memory answer
 unfolding reads_kind
 kind_reads A.Done = refl
-kind_reads (A.Dump name) = refl
-kind_reads (A.Committed number) = refl
-kind_reads (A.Entries entries) = refl
-kind_reads (A.Entry node) = refl
-kind_reads (A.Content bytes) = refl
-kind_reads (A.Restore name) = refl
-kind_reads (A.Next frame) = refl
-kind_reads (A.Expired count) = refl
-kind_reads (A.Contacts good bad) = refl
-kind_reads (A.Due blackout kind) = refl
-kind_reads (A.Cleaned marked unmarked removed) = refl
-kind_reads (A.Stats stats) = refl
-kind_reads (A.Hosts names) = refl
-kind_reads (A.Backups lines next dump) = refl
-kind_reads (A.Reopened epoch) = refl
+kind_reads answer = refl
 
 event_reads : (event : Event) → reads_kind (meaning_of event).kind ≡ only_reads event
 unfolding reads_kind
-event_reads (E.AddHost host rules) = refl
-event_reads (E.SetRules host change) = refl
-event_reads (E.OpenDump host kind now) = refl
-event_reads (E.Put dump path item) = refl
-event_reads (E.Remove dump path) = refl
-event_reads (E.Commit dump now) = refl
-event_reads (E.Abort dump) = refl
-event_reads (E.List host number directory) = refl
-event_reads (E.Lookup host number path) = refl
-event_reads (E.ReadFile host number path) = refl
-event_reads (E.OpenRead host number) = refl
-event_reads (E.ReadNext restore) = refl
-event_reads (E.CloseRead restore) = refl
-event_reads (E.Keep host number on) = refl
-event_reads (E.Delete host number) = refl
-event_reads (E.Expire host now) = refl
-event_reads (E.Contact host good) = refl
-event_reads (E.Due host now local) = refl
-event_reads (E.Clean bucket) = refl
-event_reads E.Sweep = refl
-event_reads E.Stats = refl
 event_reads E.Hosts = refl
-event_reads (E.Backups host) = refl
-event_reads E.Reopen = refl
+event_reads event = refl
 
 -- an event whose answer takes memory only reads
 read_last : (event : Event) (reply : Reply) → IfOk reply (IsAnswerTo event) → Lacks reply → ReadLast ((event, reply) ∷ [])
@@ -456,6 +409,17 @@ pub called_answered : (written written' : Option (List ℕ)) (event : Event) (re
     → EndsCalled written written' (Called ((event, reply) ∷ [])) closes is_head end → EndsAnswered written written' event reply closes is_head end
 called_answered written written' event reply closes is_head end ends =
     record { outcome = Called ((event, reply) ∷ []); is_of = (refl, refl); calls_are = refl; ends = ends }
+
+pub carried : {P : Type 0} (moves : P → List Call → P → Type 0) (old new : P) (written written' : Option (List ℕ))
+    (judged : Result Event RequestFault) (event : Event) (reply : Reply) (closes is_head : Bool) → judged ≡ Ok event
+    → moves old ((event, reply) ∷ []) new → Responds written written' (Called ((event, reply) ∷ [])) closes is_head
+    → CarriesOut moves old new written written' judged closes is_head
+carried moves old new written written' judged event reply closes is_head is moved responds = record {
+  outcome = Called ((event, reply) ∷ []);
+  is_of = subst (λ j. IsOf j (Called ((event, reply) ∷ []))) (sym is) (refl, refl);
+  moved = moved;
+  responds = responds;
+}
 
 pub carried_last : {P : Type 0} (moves : P → List Call → P → Type 0) (old new : P) (written written' : Option (List ℕ))
     (judged : Result Event RequestFault) (event : Event) (reply : Reply) (closes is_head : Bool) (end : End) → judged ≡ Ok event
@@ -638,7 +602,7 @@ stops_unsent end rest index (Some x) word (response, e, stops) =
     (response, e, called_unsent end x.outcome (is_last index x) (asks_head x.parts) response stops)
 
 -- what was said couldn't be sent
-pub Converses-unsent : (defaults : Defaults) {P : Type 0} (moves : P → List Call → P → Type 0) (old new : P)
+Converses-unsent : (defaults : Defaults) {P : Type 0} (moves : P → List Call → P → Type 0) (old new : P)
     (left left' left'' written written' written'' moments moments' : Option (List ℕ)) (end : End)
     → Converses defaults moves old new left left' written written' moments moments' end → written'' ≡ written' → left'' ≡ left'
     → Converses defaults moves old new left left'' written written'' moments moments' LinkFault
@@ -667,6 +631,28 @@ Converses-unsent defaults moves old new left left' left'' written written' writt
         },
       );
 }
+
+-- what was said was sent, or couldn't be
+pub Converses-sent : (defaults : Defaults) {P : Type 0} (moves : P → List Call → P → Type 0) (old new : P)
+    (left left' left'' written written' written'' moments moments' : Option (List ℕ)) (end last : End)
+    → Converses defaults moves old new left left' written written' moments moments' end → written'' ≡ written' → left'' ≡ left'
+    → (last ≡ end) ⊎ (last ≡ LinkFault) → Converses defaults moves old new left left'' written written'' moments moments' last
+Converses-sent defaults moves old new left left' left'' written written' written'' moments moments' end last c same still (inl is) =
+    subst (λ e. Converses defaults moves old new left left'' written written'' moments moments' e) (sym is)
+    (subst (λ l. Converses defaults moves old new left l written written'' moments moments' end) (sym still)
+    (subst (λ w. Converses defaults moves old new left left' written w moments moments' end) (sym same) c))
+Converses-sent defaults moves old new left left' left'' written written' written'' moments moments' end last c same still (inr is) =
+    subst (λ e. Converses defaults moves old new left left'' written written'' moments moments' e) (sym is)
+    (Converses-unsent defaults moves old new left left' left'' written written' written'' moments moments' end c same still)
+
+-- the count of faults of an exchange that ended, from an earlier count, which was the same
+pub counted_from : (start old new : ℕ) (end : End) → old ≡ start → Counted old new (IsErrOf {T = Unit {0}} (Err end) LinkFault)
+    → Counted start new (end ≡ LinkFault)
+counted_from start old new end same counted = subst (λ n. Counted n new (end ≡ LinkFault)) same (record {
+  later = counted.later;
+  rose = λ e. counted.rose (ap Err e);
+  stays = λ no. counted.stays (λ e. no (cc e));
+})
 
 -- there was no memory before a request was read
 pub Converses-lost : (defaults : Defaults) {P : Type 0} (moves : P → List Call → P → Type 0) → ((p : P) → moves p [] p)

@@ -1,5 +1,5 @@
 -- The responses of the server: status, names of refusals, body.
-use Rattle.std.specs.Prelude.{ℕ, Bool, true, false, List, [], codes, Option, Some, None, Ok, Err, unwrap_or}
+use Rattle.std.specs.Prelude.{ℕ, Bool, true, List, [], codes, Option, Some, None, Ok, Err, unwrap_or}
 use Rattle.std.specs.Option.{option_map}
 use Rattle.attr_records.specs.declared.paths.BadPath.{BadPath}
 use Rattle.attr_records.specs.declared.paths.BadPath.TheVariants as P
@@ -61,12 +61,8 @@ request_refusal_name NoLength = codes "NoLength"
 abbrev pub request_refusal_status : RequestRefusal → ℕ
 request_refusal_status NoRoute = 404
 request_refusal_status (NoMethod route) = 405
-request_refusal_status BadName = 400
-request_refusal_status BadNumber = 400
-request_refusal_status (BadQuery rule) = 400
-request_refusal_status (RefusedPath rule) = 400
-request_refusal_status BadTarget = 400
 request_refusal_status NoLength = 411
+request_refusal_status refusal = 400
 
 abbrev pub put_rule_status : PutRule → ℕ
 put_rule_status T.NoParent = 409
@@ -114,13 +110,7 @@ answer_status event _ = 200
 -- the methods that the target takes, if the method was refused
 abbrev pub allowed_by : RequestRefusal → Option (List ℕ)
 allowed_by (NoMethod route) = Some (allow_of route)
-allowed_by NoRoute = None
-allowed_by BadName = None
-allowed_by BadNumber = None
-allowed_by (BadQuery rule) = None
-allowed_by (RefusedPath rule) = None
-allowed_by BadTarget = None
-allowed_by NoLength = None
+allowed_by refusal = None
 
 -- a message of JSON
 abbrev pub json_message : ℕ → List ℕ → Option (List ℕ) → Bool → Bool → Message

@@ -28,11 +28,7 @@ Follows next calls = FollowsAfter next [] calls
 -- there was no memory to carry out the last call
 abbrev pub is_memory : Reply → Bool
 is_memory (Err R.Memory) = true
-is_memory (Err (R.Broken rule)) = false
-is_memory (Err R.Halted) = false
-is_memory (Err R.DiskFault) = false
-is_memory (Err (R.Damaged file found)) = false
-is_memory (Ok answer) = false
+is_memory reply = false
 
 abbrev pub lacks_memory : List Call → Bool
 lacks_memory [] = false

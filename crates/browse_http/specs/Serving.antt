@@ -100,14 +100,7 @@ IsOf (Ok event) (Called calls) = Follows (one_call event) calls
 IsOf (Ok event) (Unsaid calls) = Follows (one_call event) calls × ReadLast calls
 IsOf (Err (RefusedAs refusal)) (Refused named) = named ≡ refusal
 IsOf (Err NoMemory) Lost = Unit {0}
-IsOf (Ok event) (Refused named) = ⊥
-IsOf (Ok event) Lost = ⊥
-IsOf (Err (RefusedAs refusal)) (Called calls) = ⊥
-IsOf (Err (RefusedAs refusal)) (Unsaid calls) = ⊥
-IsOf (Err (RefusedAs refusal)) Lost = ⊥
-IsOf (Err NoMemory) (Refused named) = ⊥
-IsOf (Err NoMemory) (Called calls) = ⊥
-IsOf (Err NoMemory) (Unsaid calls) = ⊥
+IsOf judged outcome = ⊥
 
 -- the connection ended by the response to a reply, or for want of memory for it
 pub record EndsAnswered (written written' : Option (List ℕ)) (event : Event) (reply : Reply) (closes is_head : Bool)

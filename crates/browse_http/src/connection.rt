@@ -1,16 +1,14 @@
-ghost use Rattle.std.specs.Prelude.{◌≡◌};
+ghost use Rattle.std.specs.Prelude.{◌≡◌, ◌⊎◌, ℕ};
 ghost use Rattle.fault_counts.specs.Counts.{Counted};
 ghost use Rattle.stream_traits.specs.Seen.{seen_of};
 ghost use Rattle.http_wire.specs.Wires.{left_of, written_of, sent_of, faults_of};
-ghost use Rattle.http_routes.specs.Table.{table};
 ghost use Rattle.browse_http.specs.Talk.{Converses, ServesLink};
 
 use crate::end::End;
 use crate::exchange::{REQUEST_LIMIT, exchange};
 use crate::reading::give_up;
-use http_routes::{Route, router};
+use http_routes::router;
 use http_wire::Wire;
-use matchit::Router;
 use office_model::Port;
 use request_events::Defaults;
 use std::alloc::Global;
@@ -46,7 +44,7 @@ pub fn serve_connection<P: Port, L: Link, C: Clock, G: Gate>(
     }
 }
 
-/// Serves the requests of a wire, and sends what was written last.
+/// Serves the requests of a wire by the table of routes, and sends what was written last.
 fn serve_wire<P: Port, L: Link, C: Clock, G: Gate>(
     alloc: Global,
     port: &mut P,
@@ -60,52 +58,30 @@ fn serve_wire<P: Port, L: Link, C: Clock, G: Gate>(
     ensures sent { (result ≡ End.LinkFault → ⊥) → sent_of wire.new ≡ written_of wire.new }
     ensures counted { Counted (faults_of wire.old) (faults_of wire.new) (result ≡ End.LinkFault) }
 {
-    let end = serve_routed(alloc, port, wire, clock, gate, defaults);
+    let Ok(router) = router(alloc) else {
+        let end = give_up(wire);
+        return sent_last(wire, end);
+    };
+    for index in 0..REQUEST_LIMIT {
+        match exchange(alloc, port, wire, clock, gate, defaults, &router, index) {
+            Ok(()) => {}
+            Err(end) => return sent_last(wire, end),
+        }
+    }
+    unreachable!()
+}
+
+/// Sends what was written before a connection ends so; or the link fails.
+fn sent_last<L: Link>(wire: &mut Wire<L>, end: End) -> End
+    ensures ends { (result ≡ end) ⊎ (result ≡ End.LinkFault) }
+    ensures written { written_of wire.new ≡ written_of wire.old }
+    ensures left { left_of wire.new ≡ left_of wire.old }
+    ensures sent { (result ≡ End.LinkFault → ⊥) → sent_of wire.new ≡ written_of wire.new }
+    ensures counted { (before : ℕ) → Counted before (faults_of wire.old) (end ≡ End.LinkFault)
+        → Counted before (faults_of wire.new) (result ≡ End.LinkFault) }
+{
     match wire.send() {
         Ok(()) => end,
         Err(Failed) => End::LinkFault,
     }
-}
-
-/// Serves the requests of a wire by the table of routes.
-fn serve_routed<P: Port, L: Link, C: Clock, G: Gate>(
-    alloc: Global,
-    port: &mut P,
-    wire: &mut Wire<L>,
-    clock: &mut C,
-    gate: &mut G,
-    defaults: &Defaults,
-) -> End
-    ensures talk { Converses defaults.now P.moves port.old port.new (left_of wire.old) (left_of wire.new)
-        (written_of wire.old) (written_of wire.new) (C.moments clock.old) (C.moments clock.new) result }
-    ensures counted { Counted (faults_of wire.old) (faults_of wire.new) (result ≡ End.LinkFault) }
-{
-    match router(alloc) {
-        Ok(router) => serve_requests(alloc, port, wire, clock, gate, defaults, &router),
-        Err(_) => give_up(wire),
-    }
-}
-
-/// Serves the requests of a wire.
-fn serve_requests<P: Port, L: Link, C: Clock, G: Gate>(
-    alloc: Global,
-    port: &mut P,
-    wire: &mut Wire<L>,
-    clock: &mut C,
-    gate: &mut G,
-    defaults: &Defaults,
-    router: &Router<Route>,
-) -> End
-    requires { router.now ≡ table }
-    ensures talk { Converses defaults.now P.moves port.old port.new (left_of wire.old) (left_of wire.new)
-        (written_of wire.old) (written_of wire.new) (C.moments clock.old) (C.moments clock.new) result }
-    ensures counted { Counted (faults_of wire.old) (faults_of wire.new) (result ≡ End.LinkFault) }
-{
-    for index in 0..REQUEST_LIMIT {
-        match exchange(alloc, port, wire, clock, gate, defaults, router, index) {
-            Ok(()) => {}
-            Err(end) => return end,
-        }
-    }
-    unreachable!()
 }

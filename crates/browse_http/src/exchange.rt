@@ -107,10 +107,7 @@ fn respond<L: Link>(
         Ok(made) => made,
         Err(AllocError) => return Err(give_up(wire)),
     };
-    match answer(wire, event, reply, &made, closes, is_head) {
-        Ok(()) => Ok(()),
-        Err(end) => Err(end),
-    }
+    answer(wire, event, reply, &made, closes, is_head)
 }
 
 /// Sends the response to a request that is refused, and says how the connection ends if that is the last.
@@ -152,17 +149,9 @@ fn carry_out<P: Port, L: Link>(
     match judged {
         Ok(event) => {
             let reply = port.call(alloc, &event);
-            match respond(alloc, wire, &event, &reply, closes, is_head) {
-                Ok(()) => Ok(()),
-                Err(end) => Err(end),
-            }
+            respond(alloc, wire, &event, &reply, closes, is_head)
         }
-        Err(RequestFault::Refused(refusal)) => {
-            match answer_refused(wire, refusal, closes, is_head) {
-                Ok(()) => Ok(()),
-                Err(end) => Err(end),
-            }
-        }
+        Err(RequestFault::Refused(refusal)) => answer_refused(wire, refusal, closes, is_head),
         Err(RequestFault::Memory) => Err(give_up(wire)),
     }
 }
@@ -186,15 +175,9 @@ pub fn exchange<P: Port, L: Link, C: Clock, G: Gate>(
         (written_of wire.old) (written_of wire.new) (C.moments clock.old) (C.moments clock.new) index) }
     ensures counted { Counted (faults_of wire.old) (faults_of wire.new) (IsErrOf result End.LinkFault) }
 {
-    let Request { head, body } = match read_request(alloc, wire, gate, index) {
-        Ok(request) => request,
-        Err(end) => return Err(end),
-    };
+    let Request { head, body } = read_request(alloc, wire, gate, index)?;
     let closes = is_last(index, &head);
     let is_head = asks_head(&head);
     let judged = event_asked(alloc, router, &head, body, clock.now(), defaults);
-    match carry_out(alloc, port, wire, judged, closes, is_head) {
-        Ok(()) => Ok(()),
-        Err(end) => Err(end),
-    }
+    carry_out(alloc, port, wire, judged, closes, is_head)
 }

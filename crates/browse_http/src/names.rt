@@ -63,12 +63,6 @@ pub fn allowed_by(refusal: RequestRefusal) -> Option<&'static str>
 {
     match refusal {
         RequestRefusal::NoMethod(route) => Some(route.allow()),
-        RequestRefusal::NoRoute => None,
-        RequestRefusal::BadName => None,
-        RequestRefusal::BadNumber => None,
-        RequestRefusal::BadQuery(_) => None,
-        RequestRefusal::BadPath(_) => None,
-        RequestRefusal::BadTarget => None,
-        RequestRefusal::NoLength => None,
+        _ => None,
     }
 }

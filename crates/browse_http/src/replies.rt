@@ -45,10 +45,7 @@ fn write_text<L: Link>(
         closes,
         is_head,
     };
-    match write_response(wire, &response) {
-        Ok(()) => Ok(()),
-        Err(Failed) => Err(Failed),
-    }
+    write_response(wire, &response)
 }
 
 /// Writes a response of short JSON.
@@ -67,10 +64,7 @@ fn write_json<L: Link>(
     ensures left { left_of wire.new ≡ left_of wire.old }
     ensures counted { Counted (faults_of wire.old) (faults_of wire.new) (IsErr result) }
 {
-    match write_text(wire, status, body.as_slice(), allow, closes, is_head) {
-        Ok(()) => Ok(()),
-        Err(Failed) => Err(Failed),
-    }
+    write_text(wire, status, body.as_slice(), allow, closes, is_head)
 }
 
 /// Refuses a head; without a body if it asks for HEAD.
@@ -86,10 +80,7 @@ pub fn write_bad<L: Link>(
     ensures counted { Counted (faults_of wire.old) (faults_of wire.new) (IsErr result) }
 {
     let body = refused_text(refusal.name().as_bytes());
-    match write_json(wire, head_status(refusal), &body, None, true, for_head) {
-        Ok(()) => Ok(()),
-        Err(Failed) => Err(Failed),
-    }
+    write_json(wire, head_status(refusal), &body, None, true, for_head)
 }
 
 /// Refuses a request.
@@ -106,17 +97,14 @@ pub fn write_refusal<L: Link>(
     ensures counted { Counted (faults_of wire.old) (faults_of wire.new) (IsErr result) }
 {
     let body = refused_text(request_name(refusal).as_bytes());
-    match write_json(
+    write_json(
         wire,
         request_status(refusal),
         &body,
         allowed_by(refusal),
         closes,
         is_head,
-    ) {
-        Ok(()) => Ok(()),
-        Err(Failed) => Err(Failed),
-    }
+    )
 }
 
 /// Writes the bytes of a file, as they lie in the answer.
@@ -139,10 +127,7 @@ fn write_bytes<L: Link>(
         closes,
         is_head,
     };
-    match write_response(wire, &response) {
-        Ok(()) => Ok(()),
-        Err(Failed) => Err(Failed),
-    }
+    write_response(wire, &response)
 }
 
 /// Writes the response to a longer answer, whose body was made.
@@ -161,16 +146,10 @@ fn write_made<L: Link>(
     ensures counted { Counted (faults_of wire.old) (faults_of wire.new) (IsErr result) }
 {
     if let Answer::Next(_) = answer {
-        return match write_bytes(wire, body.as_slice(), closes, is_head) {
-            Ok(()) => Ok(()),
-            Err(Failed) => Err(Failed),
-        };
+        return write_bytes(wire, body.as_slice(), closes, is_head);
     }
     let status = answer_status(event, answer);
-    match write_text(wire, status, body.as_slice(), None, closes, is_head) {
-        Ok(()) => Ok(()),
-        Err(Failed) => Err(Failed),
-    }
+    write_text(wire, status, body.as_slice(), None, closes, is_head)
 }
 
 /// Writes the response to an answer. The body of a longer one was made before.
@@ -189,23 +168,14 @@ fn write_answer<L: Link>(
     ensures counted { Counted (faults_of wire.old) (faults_of wire.new) (IsErr result) }
 {
     if let Some(body) = made {
-        return match write_made(wire, event, answer, body, closes, is_head) {
-            Ok(()) => Ok(()),
-            Err(Failed) => Err(Failed),
-        };
+        return write_made(wire, event, answer, body, closes, is_head);
     }
     if let Some(text) = answer_text(event, answer) {
         let status = answer_status(event, answer);
-        return match write_json(wire, status, &text, None, closes, is_head) {
-            Ok(()) => Ok(()),
-            Err(Failed) => Err(Failed),
-        };
+        return write_json(wire, status, &text, None, closes, is_head);
     }
     match answer {
-        Answer::Content(bytes) => match write_bytes(wire, bytes.as_slice(), closes, is_head) {
-            Ok(()) => Ok(()),
-            Err(Failed) => Err(Failed),
-        },
+        Answer::Content(bytes) => write_bytes(wire, bytes.as_slice(), closes, is_head),
         _ => unreachable!(),
     }
 }
@@ -227,20 +197,11 @@ pub fn write_reply<L: Link>(
     ensures counted { Counted (faults_of wire.old) (faults_of wire.new) (IsErr result) }
 {
     match reply {
-        Ok(answer) => match write_answer(wire, event, answer, made, closes, is_head) {
-            Ok(()) => Ok(()),
-            Err(Failed) => Err(Failed),
-        },
-        Err(Refusal::Memory) => match write_no_memory(wire) {
-            Ok(()) => Ok(()),
-            Err(Failed) => Err(Failed),
-        },
+        Ok(answer) => write_answer(wire, event, answer, made, closes, is_head),
+        Err(Refusal::Memory) => write_no_memory(wire),
         Err(refusal) => {
             let text = refusal_text(refusal);
-            match write_json(wire, refusal_status(refusal), &text, None, closes, is_head) {
-                Ok(()) => Ok(()),
-                Err(Failed) => Err(Failed),
-            }
+            write_json(wire, refusal_status(refusal), &text, None, closes, is_head)
         }
     }
 }

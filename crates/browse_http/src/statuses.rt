@@ -34,12 +34,8 @@ pub fn request_status(refusal: RequestRefusal) -> StatusCode
     match refusal {
         RequestRefusal::NoRoute => StatusCode::NOT_FOUND,
         RequestRefusal::NoMethod(_) => StatusCode::METHOD_NOT_ALLOWED,
-        RequestRefusal::BadName => StatusCode::BAD_REQUEST,
-        RequestRefusal::BadNumber => StatusCode::BAD_REQUEST,
-        RequestRefusal::BadQuery(_) => StatusCode::BAD_REQUEST,
-        RequestRefusal::BadPath(_) => StatusCode::BAD_REQUEST,
-        RequestRefusal::BadTarget => StatusCode::BAD_REQUEST,
         RequestRefusal::NoLength => StatusCode::LENGTH_REQUIRED,
+        _ => StatusCode::BAD_REQUEST,
     }
 }
 
@@ -128,17 +124,6 @@ pub fn answer_status(event: &Event, answer: &Answer) -> StatusCode
         Answer::Dump(_) => StatusCode::CREATED,
         Answer::Committed(_) => StatusCode::CREATED,
         Answer::Restore(_) => StatusCode::CREATED,
-        Answer::Entries(_) => StatusCode::OK,
-        Answer::Entry(_) => StatusCode::OK,
-        Answer::Content(_) => StatusCode::OK,
-        Answer::Next(_) => StatusCode::OK,
-        Answer::Expired(_) => StatusCode::OK,
-        Answer::Contacts { .. } => StatusCode::OK,
-        Answer::Due { .. } => StatusCode::OK,
-        Answer::Cleaned { .. } => StatusCode::OK,
-        Answer::Stats(_) => StatusCode::OK,
-        Answer::Hosts(_) => StatusCode::OK,
-        Answer::Backups { .. } => StatusCode::OK,
-        Answer::Reopened(_) => StatusCode::OK,
+        _ => StatusCode::OK,
     }
 }

@@ -1,6 +1,23 @@
-use Rattle.browse_http.proofs.TalkLemmas.{Converses-unsent}
+use Rattle.std.proofs.Common.{◌∙◌}
+use Rattle.browse_http.proofs.TalkLemmas.{SoFar-more, Converses-ends, Converses-lost, Converses-sent, counted_from}
 use Rattle.browse_http.proofs.connection.serve_wire.Goals as goal
+
+pub returns-in_default-clause-talk : goal.returns-in_default-clause-talk
+returns-in_default-clause-talk g c =
+    let lost = Converses-lost _ _ g.met.P.Port.none _ _ _ _ _ _ _ c.give_up-end.ensures.left c.give_up-end.ensures.says in
+    Converses-sent _ _ _ _ _ _ _ _ _ _ _ _ _ _ lost c.sent_last.ensures.written c.sent_last.ensures.left c.sent_last.ensures.ends
+
+pub loop-index-preserved : goal.loop-index-preserved
+loop-index-preserved g c = record {
+  so_far = SoFar-more _ _ g.met.P.Port.joined _ _ _ _ _ _ _ _ _ _ _ _ _ c.loop-index.invariant.so_far c.in-Ok-exchange.ensures.goes;
+  same = c.in-Ok-exchange.ensures.counted.stays (λ e. let no : ⊥ = cc (e) in no) ∙ c.loop-index.invariant.same;
+}
 
 pub returns-in-Err-clause-talk : goal.returns-in-Err-clause-talk
 returns-in-Err-clause-talk g c =
-    Converses-unsent _ _ _ _ _ _ _ _ _ _ _ _ _ c.serve_routed-end.ensures.talk c.send.ensures.written c.send.ensures.left
+    let talk = Converses-ends _ _ g.met.P.Port.joined _ _ _ _ _ _ _ _ _ _ _ _ _ _ c.loop-index.invariant.so_far c.in-Err.ensures.ends in
+    Converses-sent _ _ _ _ _ _ _ _ _ _ _ _ _ _ talk c.sent_last-in-Err.ensures.written c.sent_last-in-Err.ensures.left c.sent_last-in-Err.ensures.ends
+
+pub returns-in-Err-clause-counted : goal.returns-in-Err-clause-counted
+returns-in-Err-clause-counted g c =
+    c.sent_last-in-Err.ensures.counted _ (counted_from _ _ _ c.in-Err.end c.loop-index.invariant.same c.in-Err.ensures.counted)

@@ -1,7 +1,7 @@
 use Rattle.browse_http.proofs.replies.write_bytes.Goals as goal
 
-pub returns-in-Ok-clause-all : goal.returns-in-Ok-clause-all
-returns-in-Ok-clause-all g c = rw c.bytes_status.ensures.value at c.in-Ok.ensures.all
+pub returns-clause-all : goal.returns-clause-all
+returns-clause-all g c = rw c.bytes_status.ensures.value at c.write_response.ensures.all
 
-pub returns-in-Err-clause-front : goal.returns-in-Err-clause-front
-returns-in-Err-clause-front g c = rw c.bytes_status.ensures.value at c.in-Err.ensures.front
+pub returns-clause-front : goal.returns-clause-front
+returns-clause-front g c = rw c.bytes_status.ensures.value at c.write_response.ensures.front
