@@ -5,7 +5,7 @@
 //! |---|---|
 //! | `Wire` | a link, with what was read ahead of it |
 //! | `HeadRead`, `BodyRead` | what reading a head or a body comes to |
-//! | `Response` | what is written; it takes no memory |
+//! | `Response` | what is written; without memory, too |
 //!
 //! ```text
 //! let mut wire = Wire::new(alloc, &mut link);

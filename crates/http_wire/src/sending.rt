@@ -7,10 +7,11 @@ ghost use Rattle.http_wire.specs.Wires.{left_of, written_of, sent_of, faults_of}
 
 use crate::response::{NO_MEMORY, Response, head_text, sent_body};
 use crate::wire::Wire;
+use std::alloc::AllocError;
 use stream_traits::{Failed, Faults, Link};
 
-/// Writes a response, which takes no memory. It is sent before more is read from the link, or by `send`. If the link fails,
-/// a prefix of the response may be written.
+/// Writes a response: head and body in one piece, if the body has at most 65,536 bytes and there is memory for a copy, else one after
+/// the other. It is sent before more is read from the link, or by `send`. If the link fails, a prefix of the response may be written.
 pub fn write_response<L: Link>(wire: &mut Wire<L>, response: &Response) -> Result<(), Failed>
     requires { HasShortHead response.now }
     ensures all { OnOk result (written_of wire.new ≡ behind (written_of wire.old) (response_bytes (message_of response.now))) }
@@ -39,8 +40,22 @@ pub fn write_no_memory<L: Link>(wire: &mut Wire<L>) -> Result<(), Failed>
     }
 }
 
-/// Writes two runs of bytes, one after the other.
+/// Writes two runs of bytes, one after the other: in one piece, if they can be put together.
 fn write_both<L: Link>(wire: &mut Wire<L>, head: &[u8], body: &[u8]) -> Result<(), Failed>
+    ensures all { OnOk result (written_of wire.new ≡ behind (written_of wire.old) (head.now ++ body.now)) }
+    ensures front { OnErr result (WroteFront (written_of wire.old) (written_of wire.new) (head.now ++ body.now)) }
+    ensures sent { sent_of wire.new ≡ sent_of wire.old }
+    ensures left { left_of wire.new ≡ left_of wire.old }
+    ensures counted { Counted (faults_of wire.old) (faults_of wire.new) (IsErr result) }
+{
+    match wire.join(head, body) {
+        Ok(()) => wire.write_joined(),
+        Err(AllocError) => write_apart(wire, head, body),
+    }
+}
+
+/// Writes two runs of bytes in two pieces.
+fn write_apart<L: Link>(wire: &mut Wire<L>, head: &[u8], body: &[u8]) -> Result<(), Failed>
     ensures all { OnOk result (written_of wire.new ≡ behind (written_of wire.old) (head.now ++ body.now)) }
     ensures front { OnErr result (WroteFront (written_of wire.old) (written_of wire.new) (head.now ++ body.now)) }
     ensures sent { sent_of wire.new ≡ sent_of wire.old }

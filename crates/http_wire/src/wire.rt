@@ -54,11 +54,16 @@ const ROOM: usize = 49_152;
 /// The most bytes of a body that are read in one call, and for which there is memory before they come.
 pub(crate) const PIECE: usize = 65_536;
 
+/// The most bytes of a body that are copied behind its head, so that both are given to the link in one write.
+const JOINED: usize = 65_536;
+
 /// A link, and the bytes that were read from it and not taken yet. What is written is sent before the link is
 /// read again, and not before.
 #[derive(Drop)]
 pub struct Wire<L: Link> {
     pub(crate) link: L,
+    /// A head and its body, while they are written in one piece. Its memory is kept for the next ones.
+    joined: Vec<u8>,
     room: Vec<u8>,
     from: usize,
     to: usize,
@@ -82,6 +87,7 @@ impl<L: Link> Wire<L> {
     {
         Wire {
             link,
+            joined: Vec::new(alloc),
             room: Vec::new(alloc),
             from: 0,
             to: 0,
@@ -118,6 +124,38 @@ impl<L: Link> Wire<L> {
     {
         self.has_unsent = true;
         match write_all(&mut self.link, bytes) {
+            Ok(()) => Ok(()),
+            Err(Failed) => Err(Failed),
+        }
+    }
+
+    /// Puts two runs of bytes together, the second behind the first, to be written in one piece; or says that there is no memory,
+    /// or that the second is too long to be copied for that.
+    pub(crate) fn join(&mut self, first: &[u8], second: &[u8]) -> Result<(), AllocError>
+        ensures joined { OnOk result (self.new.joined.items ≡ first.now ++ second.now) }
+        ensures ahead { ahead_of self.new ≡ ahead_of self.old }
+        ensures link { self.new.link ≡ self.old.link }
+    {
+        if second.len() > JOINED {
+            return Err(AllocError);
+        }
+        self.joined.clear();
+        self.joined.extend_from_slice(first)?;
+        self.joined.extend_from_slice(second)?;
+        Ok(())
+    }
+
+    /// Writes what was put together, and sends nothing.
+    pub(crate) fn write_joined(&mut self) -> Result<(), Failed>
+        ensures all { OnOk result (written_of self.new ≡ behind (written_of self.old) self.old.joined.items) }
+        ensures front { OnErr result (WroteFront (written_of self.old) (written_of self.new) self.old.joined.items) }
+        ensures sent { sent_of self.new ≡ sent_of self.old }
+        ensures ahead { ahead_of self.new ≡ ahead_of self.old }
+        ensures left { link_left self.new ≡ link_left self.old }
+        ensures counted { Counted (faults_of self.old) (faults_of self.new) (IsErr result) }
+    {
+        self.has_unsent = true;
+        match write_all(&mut self.link, self.joined.as_slice()) {
             Ok(()) => Ok(()),
             Err(Failed) => Err(Failed),
         }

@@ -384,8 +384,55 @@ fn requests_that_came_together_are_answered_together(rt: HostRuntime) -> Result<
         calls: Vec::new(rt.alloc()),
     };
     answer_all(rt.alloc(), &mut noted)?;
-    assert_eq!(rt; noted.calls.as_slice(), b"frwwwwwwfr".as_slice());
+    assert_eq!(rt; noted.calls.as_slice(), b"frwwwfr".as_slice());
     assert_eq!(rt; noted.link.sent().len(), 216);
+    Ok(())
+}
+
+/// The length of a body, whether the method is HEAD, and the calls of the link for a short response and this one behind it.
+const CALLS: [(usize, bool, &[u8]); 6] = [
+    (0, false, b"wwf"),
+    (2, false, b"wwf"),
+    (65_536, false, b"wwf"),
+    (65_537, false, b"wwwf"),
+    (65_536, true, b"wwf"),
+    (65_537, true, b"wwf"),
+];
+
+/// Writes a short response and one with a body of this length, sends both, and compares the calls and the bytes.
+fn expect_calls(alloc: Global, len: usize, is_head: bool, expected: &[u8]) -> Result<(), Fail> {
+    let body = vec![in alloc; b'x'; len]?;
+    let response = Response {
+        body: body.as_slice(),
+        is_head,
+        ..EMPTY
+    };
+    let mut noted = NotedLink {
+        link: link_of(alloc, b"", 140_000)?,
+        calls: Vec::new(alloc),
+    };
+    let mut wire = Wire::new(alloc, &mut noted);
+    if !response.has_short_head() || !EMPTY.has_short_head() {
+        return Err(Fail::new("a long head"));
+    }
+    write_response(&mut wire, &EMPTY)?;
+    write_response(&mut wire, &response)?;
+    wire.send()?;
+    let mut output = head_text(&EMPTY).as_slice().to_vec(alloc)?;
+    output.extend_from_slice(sent_body(&EMPTY))?;
+    output.extend_from_slice(head_text(&response).as_slice())?;
+    output.extend_from_slice(sent_body(&response))?;
+    if noted.calls.as_slice() != expected || noted.link.sent() != output.as_slice() {
+        return Err(Fail::new("other calls or bytes"));
+    }
+    Ok(())
+}
+
+#[test]
+fn a_response_is_one_write_unless_its_body_is_long(rt: HostRuntime) -> Result<(), Fail> {
+    for (len, is_head, calls) in CALLS {
+        expect_calls(rt.alloc(), len, is_head, calls)?;
+    }
     Ok(())
 }
 
