@@ -654,38 +654,6 @@ counted_from start old new end same counted = subst (λ n. Counted n new (end �
   stays = λ no. counted.stays (λ e. no (cc e));
 })
 
--- there was no memory before a request was read
-pub Converses-lost : (defaults : Defaults) {P : Type 0} (moves : P → List Call → P → Type 0) → ((p : P) → moves p [] p)
-    → (p : P) (left left' written written' moments : Option (List ℕ)) (end : End) → left' ≡ left
-    → SaysLast no_memory_response Memory written written' end
-    → Converses defaults moves p p left left' written written' moments moments end
-Converses-lost defaults moves none p left left' written written' moments end still last =
-    let ends = uncalled_head_memory left left left' written written written' end refl refl still last in
-    record {
-      exchanges = [];
-      are = tt;
-      moved = none p;
-      clock = refl;
-      taken = ends.taken;
-      left_is = ends.left_is;
-      quiet = ends.quiet;
-      talk = λ input above is_input is_above. (
-        ends.word,
-        ends.wrote ∙ ap (λ w. behind w ends.word) is_above,
-        record {
-          earlier = [];
-          final = None;
-          rest = input;
-          word = ends.word;
-          exchanges_are = refl;
-          go_on = tt;
-          reads = refl;
-          stops = ends.stops input is_input;
-          says = refl;
-        },
-      );
-    }
-
 -- a connection over a link, from that over its wire
 pub ServesLink-made : (defaults : Defaults) {P : Type 0} (moves : P → List Call → P → Type 0) (old new : P) (link link' : LinkSeen)
     (left unread written written' sent' moments moments' : Option (List ℕ)) (faults faults' : ℕ) (ahead : List ℕ) (end : End)

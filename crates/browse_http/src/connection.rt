@@ -6,11 +6,9 @@ ghost use Rattle.browse_http.specs.Talk.{Converses, ServesLink};
 
 use crate::end::End;
 use crate::exchange::{REQUEST_LIMIT, exchange};
-use crate::reading::give_up;
-use http_routes::router;
+use crate::interface::Interface;
 use http_wire::Wire;
 use office_model::Port;
-use request_events::Defaults;
 use std::alloc::Global;
 use stream_traits::{Clock, Failed, Faults, Gate, Link};
 
@@ -31,39 +29,35 @@ pub fn serve_connection<P: Port, L: Link, C: Clock, G: Gate>(
     link: L,
     clock: &mut C,
     gate: &mut G,
-    defaults: &Defaults,
+    interface: &Interface,
 ) -> Served<L>
-    ensures { ServesLink defaults.now P.moves port.old port.new (seen_of ⟦<L as Faults>⟧ link) (seen_of ⟦<L as Faults>⟧ result.link)
+    ensures { ServesLink interface.now.defaults P.moves port.old port.new (seen_of ⟦<L as Faults>⟧ link) (seen_of ⟦<L as Faults>⟧ result.link)
         (C.moments clock.old) (C.moments clock.new) result.end }
 {
     let mut wire = Wire::new(alloc, link);
-    let end = serve_wire(alloc, port, &mut wire, clock, gate, defaults);
+    let end = serve_wire(alloc, port, &mut wire, clock, gate, interface);
     Served {
         end,
         link: wire.into_link(),
     }
 }
 
-/// Serves the requests of a wire by the table of routes, and sends what was written last.
+/// Serves the requests of a wire, and sends what was written last.
 fn serve_wire<P: Port, L: Link, C: Clock, G: Gate>(
     alloc: Global,
     port: &mut P,
     wire: &mut Wire<L>,
     clock: &mut C,
     gate: &mut G,
-    defaults: &Defaults,
+    interface: &Interface,
 ) -> End
-    ensures talk { Converses defaults.now P.moves port.old port.new (left_of wire.old) (left_of wire.new)
+    ensures talk { Converses interface.now.defaults P.moves port.old port.new (left_of wire.old) (left_of wire.new)
         (written_of wire.old) (written_of wire.new) (C.moments clock.old) (C.moments clock.new) result }
     ensures sent { (result ≡ End.LinkFault → ⊥) → sent_of wire.new ≡ written_of wire.new }
     ensures counted { Counted (faults_of wire.old) (faults_of wire.new) (result ≡ End.LinkFault) }
 {
-    let Ok(router) = router(alloc) else {
-        let end = give_up(wire);
-        return sent_last(wire, end);
-    };
     for index in 0..REQUEST_LIMIT {
-        match exchange(alloc, port, wire, clock, gate, defaults, &router, index) {
+        match exchange(alloc, port, wire, clock, gate, interface, index) {
             Ok(()) => {}
             Err(end) => return sent_last(wire, end),
         }

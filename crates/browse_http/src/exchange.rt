@@ -3,7 +3,6 @@
 ghost use Rattle.std.specs.Prelude.{◌≡◌, [], ◌∷◌, ◌+◌, ◌<◌, ◌==◌, ◌||◌, IfOk, IfErr, OnOk, IsErrOf};
 ghost use Rattle.fault_counts.specs.Counts.{Counted};
 ghost use Rattle.http_wire.specs.Wires.{left_of, written_of, faults_of};
-ghost use Rattle.http_routes.specs.Table.{table};
 ghost use Rattle.office_model.specs.Step.{IsAnswerTo};
 ghost use Rattle.browse_http.specs.Scripts.{is_memory};
 ghost use Rattle.browse_http.specs.Talk.{Refused, Called, request_limit, asks_head};
@@ -11,16 +10,15 @@ ghost use Rattle.reply_bodies.specs.Replies.{long_body};
 ghost use Rattle.browse_http.specs.Serving.{Lacks, EndsCalled, EndsAnswered, Responds, CarriesOut, CarriesOutLast, GoesOn, EndsAt};
 
 use crate::end::End;
+use crate::interface::Interface;
 use crate::reading::{Request, give_up, read_request};
 use crate::replies::{write_refusal, write_reply};
 use disk_trait::Bytes;
 use http_heads::Head;
-use http_routes::Route;
 use http_wire::Wire;
-use matchit::Router;
 use office_model::{Answer, Event, Port, Refusal};
 use reply_bodies::answer_body;
-use request_events::{Defaults, RequestFault, RequestRefusal, event_asked};
+use request_events::{RequestFault, RequestRefusal, event_asked};
 use std::alloc::{AllocError, Global};
 use stream_traits::{Clock, Failed, Faults, Gate, Link};
 
@@ -163,21 +161,26 @@ pub fn exchange<P: Port, L: Link, C: Clock, G: Gate>(
     wire: &mut Wire<L>,
     clock: &mut C,
     gate: &mut G,
-    defaults: &Defaults,
-    router: &Router<Route>,
+    interface: &Interface,
     index: u32,
 ) -> Result<(), End>
-    requires index { index < request_limit }
-    requires router { router.now ≡ table }
-    ensures goes { OnOk result (GoesOn defaults.now P.moves port.old port.new (left_of wire.old) (left_of wire.new)
+    requires { index < request_limit }
+    ensures goes { OnOk result (GoesOn interface.now.defaults P.moves port.old port.new (left_of wire.old) (left_of wire.new)
         (written_of wire.old) (written_of wire.new) (C.moments clock.old) (C.moments clock.new) index) }
-    ensures ends { IfErr result (EndsAt defaults.now P.moves port.old port.new (left_of wire.old) (left_of wire.new)
+    ensures ends { IfErr result (EndsAt interface.now.defaults P.moves port.old port.new (left_of wire.old) (left_of wire.new)
         (written_of wire.old) (written_of wire.new) (C.moments clock.old) (C.moments clock.new) index) }
     ensures counted { Counted (faults_of wire.old) (faults_of wire.new) (IsErrOf result End.LinkFault) }
 {
     let Request { head, body } = read_request(alloc, wire, gate, index)?;
     let closes = is_last(index, &head);
     let is_head = asks_head(&head);
-    let judged = event_asked(alloc, router, &head, body, clock.now(), defaults);
+    let judged = event_asked(
+        alloc,
+        &interface.router,
+        &head,
+        body,
+        clock.now(),
+        &interface.defaults,
+    );
     carry_out(alloc, port, wire, judged, closes, is_head)
 }

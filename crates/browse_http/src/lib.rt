@@ -3,13 +3,15 @@
 //! (`ServesLink`): the calls are those of the requests in the input, in order, each once; the output is their responses.
 //!
 //! ```text
-//! let Served { end, link } = serve_connection(alloc, &mut port, link, &mut clock, &mut OpenGate, &defaults);
+//! let interface = Interface::new(alloc, defaults)?;
+//! let Served { end, link } = serve_connection(alloc, &mut port, link, &mut clock, &mut OpenGate, &interface);
 //! ```
 #![tactic(auto)]
 
 mod connection;
 mod end;
 mod exchange;
+mod interface;
 mod names;
 mod reading;
 mod replies;
@@ -17,3 +19,4 @@ mod statuses;
 
 pub use connection::{Served, serve_connection};
 pub use end::End;
+pub use interface::Interface;

@@ -1,4 +1,4 @@
-//! The responses, written to a wire. None takes memory; the bodies of longer answers are made before.
+//! The responses, written to a wire. None needs memory; the bodies of longer answers are made before.
 
 ghost use Rattle.std.specs.Prelude.{◌≡◌, ◌≤◌, length, Some, IfSome, IfOk, IsErr, OnOk, OnErr};
 ghost use Rattle.std.specs.Option.{option_copied};

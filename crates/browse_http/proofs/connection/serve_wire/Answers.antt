@@ -1,11 +1,6 @@
 use Rattle.std.proofs.Common.{◌∙◌}
-use Rattle.browse_http.proofs.TalkLemmas.{SoFar-more, Converses-ends, Converses-lost, Converses-sent, counted_from}
+use Rattle.browse_http.proofs.TalkLemmas.{SoFar-more, Converses-ends, Converses-sent, counted_from}
 use Rattle.browse_http.proofs.connection.serve_wire.Goals as goal
-
-pub returns-in_default-clause-talk : goal.returns-in_default-clause-talk
-returns-in_default-clause-talk g c =
-    let lost = Converses-lost _ _ g.met.P.Port.none _ _ _ _ _ _ _ c.give_up-end.ensures.left c.give_up-end.ensures.says in
-    Converses-sent _ _ _ _ _ _ _ _ _ _ _ _ _ _ lost c.sent_last.ensures.written c.sent_last.ensures.left c.sent_last.ensures.ends
 
 pub loop-index-preserved : goal.loop-index-preserved
 loop-index-preserved g c = record {
