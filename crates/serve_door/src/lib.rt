@@ -1,7 +1,7 @@
 //! A server at a door: it serves the links that come there over HTTP, one after the other, over any port, clock and gate.
 //!
 //! ```text
-//! let end = serve_door(alloc, &mut port, &mut door, &mut clock, &mut OpenGate, &defaults);
+//! let end = serve_door(alloc, &mut port, &mut door, &mut clock, &mut OpenGate, &interface);
 //! ```
 #![tactic(auto)]
 

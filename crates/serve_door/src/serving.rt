@@ -4,10 +4,9 @@ ghost use Rattle.caller_doors.specs.Links.{IsEmptied};
 ghost use Rattle.serve_door.specs.Serving.{ServesDoor};
 
 use crate::end::DoorEnd;
-use browse_http::{Served, serve_connection};
+use browse_http::{Interface, Served, serve_connection};
 use caller_doors::{Came, Door};
 use office_model::Port;
-use request_events::Defaults;
 use std::alloc::Global;
 use stream_traits::{Clock, Faults, Gate};
 
@@ -20,15 +19,15 @@ pub fn serve_door<P: Port, D: Door, C: Clock, G: Gate>(
     door: &mut D,
     clock: &mut C,
     gate: &mut G,
-    defaults: &Defaults,
+    interface: &Interface,
 ) -> DoorEnd
-    ensures serves { ServesDoor defaults.now P.moves port.old port.new ⟦<D::Link as Faults>⟧ (D.coming door.old) (D.coming door.new)
+    ensures serves { ServesDoor interface.now.defaults P.moves port.old port.new ⟦<D::Link as Faults>⟧ (D.coming door.old) (D.coming door.new)
         (D.given_back door.old) (D.given_back door.new) (C.moments clock.old) (C.moments clock.new) }
     ensures closed { result ≡ DoorEnd.Closed → IsEmptied (D.coming door.new) }
     ensures counted { Counted (D.faults door.old) (D.faults door.new) (result ≡ DoorEnd.Failed) }
 {
     loop {
-        match serve_next(alloc, port, door, clock, gate, defaults) {
+        match serve_next(alloc, port, door, clock, gate, interface) {
             None => {}
             Some(end) => return end,
         }
@@ -42,9 +41,9 @@ fn serve_next<P: Port, D: Door, C: Clock, G: Gate>(
     door: &mut D,
     clock: &mut C,
     gate: &mut G,
-    defaults: &Defaults,
+    interface: &Interface,
 ) -> Option<DoorEnd>
-    ensures serves { ServesDoor defaults.now P.moves port.old port.new ⟦<D::Link as Faults>⟧ (D.coming door.old) (D.coming door.new)
+    ensures serves { ServesDoor interface.now.defaults P.moves port.old port.new ⟦<D::Link as Faults>⟧ (D.coming door.old) (D.coming door.new)
         (D.given_back door.old) (D.given_back door.new) (C.moments clock.old) (C.moments clock.new) }
     ensures fewer { IfNone result (D.most door.new < D.most door.old) }
     ensures closed { IfSome result (λ end. end ≡ DoorEnd.Closed → IsEmptied (D.coming door.new)) }
@@ -52,7 +51,7 @@ fn serve_next<P: Port, D: Door, C: Clock, G: Gate>(
 {
     match door.next() {
         Came::Link(link) => {
-            let served = serve_connection(alloc, port, link, clock, gate, defaults);
+            let served = serve_connection(alloc, port, link, clock, gate, interface);
             door.done(served.link);
             None
         }

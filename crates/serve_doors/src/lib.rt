@@ -2,7 +2,7 @@
 //!
 //! ```text
 //! let mut callers = vec![in alloc; Caller { port, worker: Worker { door, clock, gate } }]?;
-//! serve_doors(rt, alloc, callers.as_mut_slice(), &defaults);
+//! serve_doors(rt, alloc, callers.as_mut_slice(), &interface);
 //! ```
 #![tactic(auto)]
 

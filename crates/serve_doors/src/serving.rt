@@ -2,9 +2,9 @@ ghost use Rattle.std.specs.List.{AllZip};
 ghost use Rattle.serve_doors.specs.Served.{ServesCaller};
 
 use crate::worker::{Caller, Worker};
+use browse_http::Interface;
 use caller_doors::Door;
 use office_model::Port;
-use request_events::Defaults;
 use serve_door::serve_door;
 use std::alloc::Global;
 use std::thread;
@@ -17,12 +17,12 @@ pub fn serve_doors<P: Port + Send, T: Door, C: Clock, G: Gate, R: Threads + Sync
     rt: &R,
     alloc: Global,
     callers: &mut [Caller<P, T, C, G>],
-    defaults: &Defaults,
+    interface: &Interface,
 )
-    ensures { AllZip (ServesCaller defaults.now P.moves ⟦<T::Link as Faults>⟧ T.coming T.given_back T.faults C.moments) callers.old
+    ensures { AllZip (ServesCaller interface.now.defaults P.moves ⟦<T::Link as Faults>⟧ T.coming T.given_back T.faults C.moments) callers.old
         callers.new }
 {
-    let serve = |_: usize, caller: &mut Caller<P, T, C, G>| serve_caller(alloc, caller, defaults);
+    let serve = |_: usize, caller: &mut Caller<P, T, C, G>| serve_caller(alloc, caller, interface);
     thread::for_each_mut(rt, callers, usize::MAX, &serve);
 }
 
@@ -30,12 +30,12 @@ pub fn serve_doors<P: Port + Send, T: Door, C: Clock, G: Gate, R: Threads + Sync
 fn serve_caller<P: Port, T: Door, C: Clock, G: Gate>(
     alloc: Global,
     caller: &mut Caller<P, T, C, G>,
-    defaults: &Defaults,
+    interface: &Interface,
 )
-    ensures { ServesCaller defaults.now P.moves ⟦<T::Link as Faults>⟧ T.coming T.given_back T.faults C.moments caller.old
+    ensures { ServesCaller interface.now.defaults P.moves ⟦<T::Link as Faults>⟧ T.coming T.given_back T.faults C.moments caller.old
         caller.new }
 {
     let Caller { port, worker } = caller;
     let Worker { door, clock, gate } = worker;
-    let _end = serve_door(alloc, port, door, clock, gate, defaults);
+    let _end = serve_door(alloc, port, door, clock, gate, interface);
 }

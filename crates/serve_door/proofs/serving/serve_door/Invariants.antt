@@ -4,7 +4,7 @@ use Rattle.serve_door.proofs.serving.serve_door.Given as goal
 
 abbrev pub invariant-loop-end : goal.invariant-loop-end
 invariant-loop-end g l = record {
-  so_far : ServesDoor l.defaults g.P.Port.moves l.initial.port l.port g.D.Link.Faults (g.D.Door.coming l.initial.door)
+  so_far : ServesDoor l.interface.defaults g.P.Port.moves l.initial.port l.port g.D.Link.Faults (g.D.Door.coming l.initial.door)
       (g.D.Door.coming l.door) (g.D.Door.given_back l.initial.door) (g.D.Door.given_back l.door) (g.C.Clock.moments l.initial.clock)
       (g.C.Clock.moments l.clock);
   same : g.D.Door.faults l.door ≡ g.D.Door.faults l.initial.door;

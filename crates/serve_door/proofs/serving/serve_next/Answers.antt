@@ -3,7 +3,7 @@ use Rattle.serve_door.proofs.serving.serve_next.Goals as goal
 
 pub returns-in-Link-clause-serves : goal.returns-in-Link-clause-serves
 returns-in-Link-clause-serves g c =
-    ServesDoor-one c.args.defaults.now g.P.Port.moves g.D.Link.Faults c.args.port.now c.serve_connection-served.new.port c.in-Link.link
+    ServesDoor-one c.args.interface.now.defaults g.P.Port.moves g.D.Link.Faults c.args.port.now c.serve_connection-served.new.port c.in-Link.link
     c.serve_connection-served.result.link (g.D.Door.coming c.args.door.now) (g.D.Door.coming c.next.new.self)
     (g.D.Door.coming c.done.new.self) (g.D.Door.given_back c.args.door.now) (g.D.Door.given_back c.next.new.self)
     (g.D.Door.given_back c.done.new.self) (g.C.Clock.moments c.args.clock.now)

@@ -8,7 +8,7 @@ use Rattle.serve_doors.proofs.serving.serve_doors.Goals as goal
 pub returns : goal.returns
 returns g c =
     let Row : Type 0 = Caller g.row.P.Denot g.row.T.Denot g.row.C.Denot g.row.G.Denot in
-    let Serves : Row → Row → Type 0 = ServesCaller c.args.defaults.now g.P.Port.moves g.T.Link.Faults g.T.Door.coming
+    let Serves : Row → Row → Type 0 = ServesCaller c.args.interface.now.defaults g.P.Port.moves g.T.Link.Faults g.T.Door.coming
     g.T.Door.given_back g.T.Door.faults g.C.Clock.moments in
     zip_at Serves c.args.callers.now c.for_each_mut.new.s c.for_each_mut.auto.s
     (λ i d less. let at = (c.for_each_mut.ensures i d less).1 in
