@@ -4,7 +4,7 @@ use crate::fault::Fault;
 use crate::input::{copies, put_of};
 use crate::report::Report;
 use backup_rules::Rules;
-use browse_http::{End, Served, serve_connection};
+use browse_http::{End, Interface, Served, serve_connection};
 use pool_name::Md5Namer;
 use request_events::Defaults;
 use std::alloc::{AllocError, Global};
@@ -34,15 +34,16 @@ fn link_over(alloc: Global, input: Vec<u8>, responses: u32) -> Result<MemoryLink
     MemoryLink::new(alloc, input, MOST * responses as usize, Vec::new(alloc))
 }
 
-/// What is added to requests: the default rules, and the zone UTC.
-fn defaults(alloc: Global) -> Result<Defaults, AllocError> {
-    match Zone::read("UTC") {
-        Ok(zone) => Ok(Defaults {
+/// The interface with the default rules, and the zone UTC.
+fn interface(alloc: Global) -> Result<Interface, AllocError> {
+    let defaults = match Zone::read("UTC") {
+        Ok(zone) => Defaults {
             rules: Rules::defaults(alloc)?,
             zone,
-        }),
-        Err(_) => Err(AllocError),
-    }
+        },
+        Err(_) => return Err(AllocError),
+    };
+    Interface::new(alloc, defaults)
 }
 
 /// Serves an input from an office, and gives the link back.
@@ -52,14 +53,14 @@ fn serve(
     link: MemoryLink,
 ) -> Result<MemoryLink, Fault> {
     let mut clock = FixedClock::new(Moment::first());
-    let defaults = defaults(alloc)?;
+    let interface = interface(alloc)?;
     let Served { end, link } = serve_connection(
         alloc,
         office,
         link,
         &mut clock,
         &mut OpenGate,
-        &defaults,
+        &interface,
     );
     match end {
         End::Ended => Ok(link),

@@ -77,13 +77,13 @@ fn pc1(alloc: Global) -> Result<HostName, Refusal> {
     }
 }
 
-/// The default rules, and UTC.
-fn defaults(alloc: Global) -> Result<Defaults, Fail> {
+/// The interface with the default rules, and UTC.
+fn interface(alloc: Global) -> Result<Interface, Fail> {
     let Ok(zone) = Zone::read("UTC") else {
         return Err(Fail::new("no zone"));
     };
     let rules = Rules::defaults(alloc)?;
-    Ok(Defaults { rules, zone })
+    Ok(Interface::new(alloc, Defaults { rules, zone })?)
 }
 
 /// Serves an input, and gives the link and the end.
@@ -91,14 +91,14 @@ fn serve(alloc: Global, input: &[u8], fails: u64) -> Result<(MemoryLink, End), F
     let fails = Vec::from_array(alloc, [fails])?;
     let link = MemoryLink::new(alloc, input.to_vec(alloc)?, 8_192, fails)?;
     let mut clock = FixedClock::new(Moment::first());
-    let defaults = defaults(alloc)?;
+    let interface = interface(alloc)?;
     let served = serve_connection(
         alloc,
         &mut OneHost,
         link,
         &mut clock,
         &mut OpenGate,
-        &defaults,
+        &interface,
     );
     Ok((served.link, served.end))
 }
@@ -341,14 +341,14 @@ fn the_gate_holds_each_request_once(rt: HostRuntime) -> Result<(), Fail> {
     let link = MemoryLink::new(rt.alloc(), input, 8_192, Vec::new(rt.alloc()))?;
     let mut clock = FixedClock::new(Moment::first());
     let mut gate = NotedGate { held: 0, last: 0 };
-    let defaults = defaults(rt.alloc())?;
+    let interface = interface(rt.alloc())?;
     let served = serve_connection(
         rt.alloc(),
         &mut OneHost,
         link,
         &mut clock,
         &mut gate,
-        &defaults,
+        &interface,
     );
     assert_eq!(rt; (served.end, gate.held, gate.last), (End::Ended, 5, 4));
     Ok(())

@@ -1,4 +1,5 @@
 use backup_rules::Rules;
+use browse_http::Interface;
 use caller_doors::{Came, Door, ListDoor};
 use pool_name::Md5Namer;
 use request_events::Defaults;
@@ -27,13 +28,13 @@ const READ: &[u8] =
 const READ_OUTPUT: &[u8] =
     b"HTTP/1.1 200 OK\r\nContent-Type: application/octet-stream\r\nContent-Length: 5\r\nConnection: close\r\n\r\nhello";
 
-/// The default rules, and UTC.
-fn defaults(alloc: Global) -> Result<Defaults, Fail> {
+/// The interface with the default rules, and UTC.
+fn interface(alloc: Global) -> Result<Interface, Fail> {
     let Ok(zone) = Zone::read("UTC") else {
         return Err(Fail::new("no zone"));
     };
     let rules = Rules::defaults(alloc)?;
-    Ok(Defaults { rules, zone })
+    Ok(Interface::new(alloc, Defaults { rules, zone })?)
 }
 
 /// A link that gives a backup to be made, and one that asks for its file; the first fails at one of its calls, and the door at
@@ -52,14 +53,14 @@ fn door(alloc: Global, link_fails: u64, door_fails: u64) -> Result<ListDoor, Fai
 fn serve(alloc: Global, mut door: ListDoor) -> Result<(ListDoor, DoorEnd), Fail> {
     let mut office = TreeOffice::new(alloc, Md5Namer);
     let mut clock = FixedClock::new(Moment::first());
-    let defaults = defaults(alloc)?;
+    let interface = interface(alloc)?;
     let end = serve_door(
         alloc,
         &mut office,
         &mut door,
         &mut clock,
         &mut OpenGate,
-        &defaults,
+        &interface,
     );
     Ok((door, end))
 }

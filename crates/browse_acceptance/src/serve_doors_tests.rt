@@ -1,4 +1,5 @@
 use backup_rules::Rules;
+use browse_http::Interface;
 use caller_doors::{Door, FlagGate, ListDoor};
 use pool_name::Md5Namer;
 use request_events::Defaults;
@@ -24,13 +25,13 @@ const LIST_OUTPUT: &[u8] =
 /// The turns for which a gate waits at most.
 const TURNS: u64 = 1_000_000_000;
 
-/// The default rules, and UTC.
-fn defaults(alloc: Global) -> Result<Defaults, Fail> {
+/// The interface with the default rules, and UTC.
+fn interface(alloc: Global) -> Result<Interface, Fail> {
     let Ok(zone) = Zone::read("UTC") else {
         return Err(Fail::new("no zone"));
     };
     let rules = Rules::defaults(alloc)?;
-    Ok(Defaults { rules, zone })
+    Ok(Interface::new(alloc, Defaults { rules, zone })?)
 }
 
 /// A door with a link that adds a host and one that lists the hosts, which fails at one of its calls.
@@ -78,7 +79,7 @@ fn two_doors_are_served_beside_each_other(rt: HostRuntime) -> Result<(), Fail> {
             caller(alloc, u64::MAX, FlagGate::new(&second, 0, &first, 0, TURNS))?,
         ],
     )?;
-    serve_doors(&rt, alloc, callers.as_mut_slice(), &defaults(alloc)?);
+    serve_doors(&rt, alloc, callers.as_mut_slice(), &interface(alloc)?);
     for caller in callers.as_slice() {
         assert!(rt; caller.worker.gate.passed());
         assert_eq!(rt; sent(&caller.worker.door, 0)?, ADD_OUTPUT);
@@ -97,7 +98,7 @@ fn a_door_that_fails_is_left_alone(rt: HostRuntime) -> Result<(), Fail> {
             caller(alloc, u64::MAX, OpenGate)?,
         ],
     )?;
-    serve_doors(&rt, alloc, callers.as_mut_slice(), &defaults(alloc)?);
+    serve_doors(&rt, alloc, callers.as_mut_slice(), &interface(alloc)?);
     assert_eq!(rt; callers[0].worker.door.faults(), 1);
     assert_eq!(rt; callers[0].worker.door.served().len(), 1);
     assert_eq!(rt; sent(&callers[0].worker.door, 0)?, ADD_OUTPUT);
