@@ -1,7 +1,7 @@
 //! Nights over three hosts, by the store and by the office in memory: both say the same of them, and keep the same.
 
 use crate::ends::{Case, Machine, QUIET, disk_of, link_of, new_clock, run_over};
-use browse_http::{Served, serve_connection};
+use browse_http::{Interface, Served, serve_connection};
 use disk_trait::MemoryDisk;
 use night_work::night;
 use pool_name::Md5Namer;
@@ -99,6 +99,7 @@ fn answered(
         rules: settings.rules,
         zone: settings.zone,
     };
+    let interface = Interface::new(alloc, defaults)?;
     let link = link_of(alloc, &case)?;
     let Served { link, .. } = serve_connection(
         alloc,
@@ -106,7 +107,7 @@ fn answered(
         link,
         &mut new_clock(),
         &mut OpenGate,
-        &defaults,
+        &interface,
     );
     Ok(link)
 }

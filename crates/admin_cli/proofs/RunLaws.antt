@@ -1,6 +1,6 @@
 -- A run of `pipe`, and one that opened no store, from what the layers below it say.
 --     is_served      the calls lead from the disk that came in to that handed back
---     serves, refuses_early, is_cause, refuses
+--     serves, refuses_early, lacks_memory, is_cause, refuses
 --     serves_complete, refused_complete, refused_tells      how such runs end
 use Rattle.std.specs.Prelude.{IsSome, ◌||◌, ◌⊎◌}
 use Rattle.std.proofs.Common.{◌≡◌, ℕ, ◌-◌, ◌^◌, ◌<◌, Bool, true, false, List, Option, None, Some, refl, sym, ap, ◌∙◌, subst, inl, inr, arith}
@@ -27,12 +27,13 @@ use Rattle.office_store.specs.EndLaws.{is_halted, halted_rose, halted_as, left_o
 use Rattle.stream_traits.specs.Seen.{LinkSeen}
 use Rattle.request_events.specs.declared.defaults.Defaults.{Defaults}
 use Rattle.settings_file.specs.declared.read.Settings.{Settings}
+use Rattle.settings_file.specs.declared.fault.SettingsFault.TheVariants as F
 use Rattle.settings_file.specs.Document.{IsSettings}
 use Rattle.browse_http.specs.declared.end.End.{End}
 use Rattle.browse_http.specs.declared.end.End.TheVariants.{Ended, Truncated, BadRequest, LinkFault, Memory}
 use Rattle.browse_http.specs.Talk.{ServesLink, calls_of}
 use Rattle.admin_cli.specs.declared.note.Note.{Note}
-use Rattle.admin_cli.specs.declared.note.Note.TheVariants.{EpochsSpent}
+use Rattle.admin_cli.specs.declared.note.Note.TheVariants.{EpochsSpent, NoMemory}
 use Rattle.admin_cli.specs.Statuses.{status_of}
 use Rattle.command_line.specs.Line.{Line, Task, Pipe}
 use Rattle.admin_cli.specs.Command.{AsksFor}
@@ -140,6 +141,12 @@ pub refuses_early : {D : Type 0} (d : DiskGhosts D) (digest_of : List ℕ → Li
     → Refuses d digest_of disk disk line settings link link moments moments note
 refuses_early d digest_of disk line settings link moments note is =
     record { cause = inl (is, refl); untouched = refl; unasked = refl }
+
+-- the words and the settings were understood, and there was no memory for what connections are served by
+pub lacks_memory : {D : Type 0} (d : DiskGhosts D) (digest_of : List ℕ → List ℕ) (disk : D) (line : Option Line) (settings : List ℕ)
+    (task : Task) (note : Note) → AsksFor task line → note ≡ NoMemory → IsCause d digest_of disk disk line settings note
+lacks_memory d digest_of disk None settings task note asked is = absurd (none_said (said_task None task asked))
+lacks_memory d digest_of disk (Some line) settings task note asked is = inl ((F.Memory, is, tt), refl)
 
 -- no store was opened
 pub is_cause : {D : Type 0} (d : DiskGhosts D) (digest_of : List ℕ → List ℕ) (disk disk' : D) (line : Option Line) (settings : List ℕ)

@@ -41,7 +41,8 @@ pub record IsAsked (line : Option Line) (settings : List ℕ) (asked : Asked) : 
   pub work : AsksFor (task_of asked.work) line
   pub settings_are : IsSettings settings asked.settings
 
--- The words are no command line, or the settings no settings file, for this reason; or there was no memory for them.
+-- The words are no command line, or the settings no settings file, for this reason; or there was no memory for them or, after them,
+-- for the table of routes.
 abbrev pub IsRefused : Option Line → List ℕ → Note → Type 0
 IsRefused None settings note = (note ≡ Usage) ⊎ (note ≡ NoMemory)
 IsRefused (Some line) settings note = (fault : SettingsFault) × (note ≡ note_of_settings fault) × IsRefusal settings fault

@@ -4,10 +4,11 @@ ghost use Rattle.command_line.specs.Line.{line_of};
 ghost use Rattle.admin_cli.specs.Asked.{note_of_settings, defaults_of, IsAsked, IsRefused};
 
 use crate::note::Note;
+use browse_http::Interface;
 use command_line::{CommandLine, LineFault, Work, parse};
 use request_events::Defaults;
 use settings_file::{Settings, SettingsFault, read_settings};
-use std::alloc::Global;
+use std::alloc::{AllocError, Global};
 
 /// What a run is to do, and by which settings.
 #[derive(Drop)]
@@ -38,7 +39,7 @@ fn note_of_settings(fault: SettingsFault) -> Note
 }
 
 /// What the settings add to a request.
-pub fn defaults_of(settings: Settings) -> Defaults
+fn defaults_of(settings: Settings) -> Defaults
     ensures { result ≡ defaults_of settings }
 {
     let Settings {
@@ -48,6 +49,13 @@ pub fn defaults_of(settings: Settings) -> Defaults
         rules,
     } = settings;
     Defaults { rules, zone }
+}
+
+/// What connections are served by, with these settings, or want of memory.
+pub fn interface_of(alloc: Global, settings: Settings) -> Result<Interface, AllocError>
+    ensures { IfOk result (λ made. made.defaults ≡ defaults_of settings) }
+{
+    Interface::new(alloc, defaults_of(settings))
 }
 
 /// Reads the words, and then the settings.

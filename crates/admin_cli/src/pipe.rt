@@ -5,7 +5,7 @@ ghost use Rattle.command_line.specs.Line.{Line, Pipe};
 ghost use Rattle.admin_cli.specs.Command.{AsksFor};
 ghost use Rattle.admin_cli.specs.Run.{note_of, Serves, Refuses};
 
-use crate::asked::defaults_of;
+use crate::asked::interface_of;
 use crate::done::{DoneOnLink, note_of_refusal};
 use crate::note::Note;
 use browse_http::{End, Served, serve_connection};
@@ -13,7 +13,7 @@ use disk_trait::Disk;
 use office_store::{DirectPort, Store};
 use pool_name::Namer;
 use settings_file::Settings;
-use std::alloc::Global;
+use std::alloc::{AllocError, Global};
 use stream_traits::{Clock, Faults, Link, OpenGate};
 
 /// What is said of a run that served its connection.
@@ -30,7 +30,8 @@ fn note_of(end: End, halted: bool) -> Note
     }
 }
 
-/// Serves one connection over the link, by these settings, from the store on the disk.
+/// Serves one connection over the link, by these settings, from the store on the disk. Without memory for the interface the store
+/// isn't opened, and the link is left alone.
 pub fn serve_pipe<D: Disk, N: Namer, C: Clock, L: Link>(
     alloc: Global,
     settings: Settings,
@@ -45,6 +46,16 @@ pub fn serve_pipe<D: Disk, N: Namer, C: Clock, L: Link>(
         ⊎ Refuses ⟦<D as Disk>⟧ N.digest_of disk result.disk line bytes
         (seen_of ⟦<L as Faults>⟧ link) (seen_of ⟦<L as Faults>⟧ result.link) (C.moments clock.old) (C.moments clock.new) result.note }
 {
+    let interface = match interface_of(alloc, settings) {
+        Ok(interface) => interface,
+        Err(AllocError) => {
+            return DoneOnLink {
+                note: Note::NoMemory,
+                disk,
+                link,
+            };
+        }
+    };
     let store = match Store::open(alloc, disk, namer) {
         Ok(store) => store,
         Err((disk, refusal)) => {
@@ -52,7 +63,6 @@ pub fn serve_pipe<D: Disk, N: Namer, C: Clock, L: Link>(
             return DoneOnLink { note, disk, link };
         }
     };
-    let defaults = defaults_of(settings);
     let mut port = DirectPort::new(store);
     let Served { end, link } = serve_connection(
         alloc,
@@ -60,7 +70,7 @@ pub fn serve_pipe<D: Disk, N: Namer, C: Clock, L: Link>(
         link,
         clock,
         &mut OpenGate,
-        &defaults,
+        &interface,
     );
     let store = port.into_store();
     let halted = store.is_halted();

@@ -5,7 +5,7 @@ ghost use Rattle.admin_cli.specs.Command.{AsksFor};
 ghost use Rattle.admin_cli.specs.Run.{IsCause};
 ghost use Rattle.admin_cli.specs.Servers.{counts_of, has_risen, note_of_served, ServesStore};
 
-use crate::asked::defaults_of;
+use crate::asked::interface_of;
 use crate::done::{DoneAtDoors, note_of_refusal};
 use crate::note::Note;
 use caller_doors::Door;
@@ -77,7 +77,8 @@ fn without_memory<D: Disk, N: Namer, T, C, G>(
     }
 }
 
-/// Has all workers serve, by these settings, the store on the disk, until each has left its door.
+/// Has all workers serve, by these settings, the store on the disk, until each has left its door. Without memory for the interface
+/// the store isn't opened.
 pub fn serve_store<
     D: Disk + Drop + Send,
     N: Namer + Send,
@@ -101,6 +102,16 @@ where
         disk result.disk line bytes workers.items result.workers.items result.note
         ⊎ (IsCause ⟦<D as Disk>⟧ N.digest_of disk result.disk line bytes result.note × (result.workers.items ≡ workers.items)) }
 {
+    let interface = match interface_of(alloc, settings) {
+        Ok(interface) => interface,
+        Err(AllocError) => {
+            return DoneAtDoors {
+                note: Note::NoMemory,
+                disk,
+                workers,
+            };
+        }
+    };
     let store = match Store::open(alloc, disk, namer) {
         Ok(store) => store,
         Err((disk, refusal)) => {
@@ -112,12 +123,11 @@ where
             };
         }
     };
-    let defaults = defaults_of(settings);
     let Ok(counts) = counts_of(alloc, workers.as_slice()) else {
         return without_memory(store, workers);
     };
     let StoreAndWorkers { store, workers } = match serve_workers(
-        rt, alloc, store, workers, &defaults,
+        rt, alloc, store, workers, &interface,
     ) {
         Ok(served) => served,
         Err(failed) => {

@@ -2,7 +2,7 @@
 
 use admin_cli::{Worker, run};
 use backup_rules::Rules;
-use browse_http::{End, serve_connection};
+use browse_http::{End, Interface, serve_connection};
 use caller_doors::ListDoor;
 use disk_trait::{DiskRoom, MemoryDisk};
 use office_model::Port;
@@ -75,15 +75,16 @@ fn new_clock() -> FixedClock {
     FixedClock::new(Moment::new(1_700_000_000).unwrap_or(Moment::first()))
 }
 
-/// What a server without a settings file adds to requests.
-fn defaults(alloc: Global) -> Result<Defaults, AllocError> {
-    match Zone::read("UTC") {
-        Ok(zone) => Ok(Defaults {
+/// The interface of a server without a settings file.
+fn interface(alloc: Global) -> Result<Interface, AllocError> {
+    let defaults = match Zone::read("UTC") {
+        Ok(zone) => Defaults {
             rules: Rules::defaults(alloc)?,
             zone,
-        }),
-        Err(_) => Err(AllocError),
-    }
+        },
+        Err(_) => return Err(AllocError),
+    };
+    Interface::new(alloc, defaults)
 }
 
 /// A response of JSON, with these fields behind its length.
@@ -223,8 +224,8 @@ pub fn expect_over<P: Port>(
 ) -> Result<(), Fail> {
     let link = link_of(alloc, input)?;
     let mut clock = new_clock();
-    let defaults = defaults(alloc)?;
-    let served = serve_connection(alloc, port, link, &mut clock, &mut OpenGate, &defaults);
+    let interface = interface(alloc)?;
+    let served = serve_connection(alloc, port, link, &mut clock, &mut OpenGate, &interface);
     if served.end == end && are_joined(served.link.sent(), output) {
         return Ok(());
     }

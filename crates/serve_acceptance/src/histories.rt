@@ -5,7 +5,7 @@ use crate::runs::{
     new_clock, new_disk, quiet_link, run_at, run_over, worker_with,
 };
 use backup_rules::Rules;
-use browse_http::{Served, serve_connection};
+use browse_http::{Interface, Served, serve_connection};
 use disk_trait::MemoryDisk;
 use pool_name::Md5Namer;
 use request_events::Defaults;
@@ -179,13 +179,13 @@ fn stepper<'a>(
     worker_with(alloc, links, NEVER, gate)
 }
 
-/// The default rules, and UTC.
-fn defaults(alloc: Global) -> Result<Defaults, Fail> {
+/// The interface with the default rules, and UTC.
+fn interface(alloc: Global) -> Result<Interface, Fail> {
     let Ok(zone) = Zone::read("UTC") else {
         return Err(Fail::new("no zone"));
     };
     let rules = Rules::defaults(alloc)?;
-    Ok(Defaults { rules, zone })
+    Ok(Interface::new(alloc, Defaults { rules, zone })?)
 }
 
 /// Serves a connection with this input from the office, and gives its link back.
@@ -197,7 +197,7 @@ fn told(alloc: Global, office: &mut TreeOffice<Md5Namer>, input: &str) -> Result
         link,
         &mut new_clock(),
         &mut OpenGate,
-        &defaults(alloc)?,
+        &interface(alloc)?,
     );
     Ok(link)
 }

@@ -2,7 +2,7 @@
 //!
 //! ```text
 //! let workers = vec![in alloc; Worker { door, clock, gate }]?;
-//! match serve_workers(rt, alloc, store, workers, &defaults) {
+//! match serve_workers(rt, alloc, store, workers, &interface) {
 //!     Ok(served) => served.store,
 //!     Err(failed) => failed.value.store,
 //! }

@@ -2,11 +2,11 @@ ghost use Rattle.std.specs.Prelude.{◌≡◌, ◌≤◌, [], IfOk, IfErr, IfSom
 ghost use Rattle.serve_workers.specs.Workers.{ServesAll};
 
 use crate::seating::{rise_workers, seat_workers};
+use browse_http::Interface;
 use caller_doors::Door;
 use disk_trait::Disk;
 use office_store::Store;
 use pool_name::Namer;
-use request_events::Defaults;
 use serve_doors::{Worker, serve_doors};
 use std::alloc::{AllocFailed, Global};
 use std::sync::Wait;
@@ -37,11 +37,11 @@ pub fn serve_workers<
     alloc: Global,
     store: Store<D, N>,
     workers: Vec<Worker<T, C, G>>,
-    defaults: &Defaults,
+    interface: &Interface,
 ) -> Result<StoreAndWorkers<D, N, T, C, G>, AllocFailed<StoreAndWorkers<D, N, T, C, G>>>
 where
     N::State: Send,
-    ensures ok { IfOk result (λ served. ServesAll defaults.now ⟦<T::Link as Faults>⟧ T.coming T.given_back T.faults C.moments
+    ensures ok { IfOk result (λ served. ServesAll interface.now.defaults ⟦<T::Link as Faults>⟧ T.coming T.given_back T.faults C.moments
         store served.store workers.items served.workers.items) }
     ensures err { IfErr result (λ failed. (failed.value.store ≡ store) × (failed.value.workers ≡ workers)) }
 {
@@ -60,7 +60,7 @@ where
         }
     };
     let mut callers = seat_workers(rt, &turn, &mut first, workers, callers);
-    serve_doors(rt, alloc, callers.as_mut_slice(), defaults);
+    serve_doors(rt, alloc, callers.as_mut_slice(), interface);
     let (workers, passes) = rise_workers(callers, left, passes);
     let store = close_store(rt, turn, first, passes);
     Ok(StoreAndWorkers { store, workers })

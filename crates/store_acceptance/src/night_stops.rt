@@ -2,7 +2,7 @@
 
 use admin_cli::Note;
 use backup_rules::Rules;
-use browse_http::{End, Served, serve_connection};
+use browse_http::{End, Interface, Served, serve_connection};
 use disk_trait::{Choice, MemoryDisk};
 use pool_name::Md5Namer;
 use request_events::Defaults;
@@ -69,13 +69,13 @@ fn questions(alloc: Global) -> Result<Vec<u8>, AllocError> {
     Ok(bytes)
 }
 
-/// The default rules, and UTC.
-fn defaults(alloc: Global) -> Result<Defaults, Fail> {
+/// The interface with the default rules, and UTC.
+fn interface(alloc: Global) -> Result<Interface, Fail> {
     let Ok(zone) = Zone::read("UTC") else {
         return Err(Fail::new("no zone"));
     };
     let rules = Rules::defaults(alloc)?;
-    Ok(Defaults { rules, zone })
+    Ok(Interface::new(alloc, Defaults { rules, zone })?)
 }
 
 /// What the office in memory answers.
@@ -93,7 +93,7 @@ fn office_answers(
         link,
         &mut clock,
         &mut OpenGate,
-        &defaults(alloc)?,
+        &interface(alloc)?,
     );
     match end {
         End::Ended => Ok(Vec::from_slice(alloc, link.output())?),

@@ -1,27 +1,32 @@
 use Rattle.std.proofs.Common.{ap, inl, inr, refl, ◌∙◌}
 use Rattle.office_store.specs.MovesLaws.{Moves-none}
-use Rattle.admin_cli.proofs.RunLaws.{is_cause}
+use Rattle.command_line.specs.Line.{Serve}
+use Rattle.admin_cli.proofs.RunLaws.{is_cause, lacks_memory}
 use Rattle.admin_cli.proofs.ServerLaws.{serves_doors, serves_nobody}
 use Rattle.admin_cli.proofs.servers.serve_store.Goals as goal
 
 pub returns-in-Err : goal.returns-in-Err
 returns-in-Err g c = λ line bytes listen connections asked is.
+    inr (lacks_memory _ _ c.args.disk line bytes (Serve listen connections) _ asked refl, refl)
+
+pub returns-in-Err-open : goal.returns-in-Err-open
+returns-in-Err-open g c = λ line bytes listen connections asked is.
     inr (
-      is_cause _ _ c.args.disk c.in-Err.disk line bytes _ c.args.settings c.in-Err.refusal c.note_of_refusal-note.result
+      is_cause _ _ c.args.disk c.in-Err-open.disk line bytes _ c.args.settings c.in-Err-open.refusal c.note_of_refusal-note.result
           asked is c.note_of_refusal-note.ensures (record {
-            why = c.in-Err.ensures.foreign;
-            spent = c.in-Err.ensures.spent;
-            counted = c.in-Err.ensures.left_counted;
-            left = c.in-Err.ensures.left;
-            crash = c.in-Err.ensures.stops;
+            why = c.in-Err-open.ensures.foreign;
+            spent = c.in-Err-open.ensures.spent;
+            counted = c.in-Err-open.ensures.left_counted;
+            left = c.in-Err-open.ensures.left;
+            crash = c.in-Err-open.ensures.stops;
           }),
       refl,
     )
 
 pub returns-in_default : goal.returns-in_default
 returns-in_default g c = λ line bytes listen connections asked is.
-    inl (inr (serves_nobody c.args.disk c.in-Ok.store c.in-Ok.store c.in-Ok.ensures.opened c.in-Ok.ensures.counted c.in-Ok.ensures.listed
-    _ _ _ _ _ line bytes listen connections c.args.settings _ _ _ _ asked is (Moves-none c.in-Ok.store)
+    inl (inr (serves_nobody c.args.disk c.in-Ok-open.store c.in-Ok-open.store c.in-Ok-open.ensures.opened c.in-Ok-open.ensures.counted c.in-Ok-open.ensures.listed
+    _ _ _ _ _ line bytes listen connections c.args.settings _ _ _ _ asked is (Moves-none c.in-Ok-open.store)
     (ap (λ w. w.items) c.without_memory.ensures.workers)
     c.without_memory.ensures.disk c.without_memory.ensures.note))
 
@@ -29,14 +34,14 @@ pub returns-in-Err-serve_workers : goal.returns-in-Err-serve_workers
 returns-in-Err-serve_workers g c = λ line bytes listen connections asked is.
     let back = c.in-Err-serve_workers.ensures.err in
     let none = c.without_memory-in-Err-serve_workers.ensures in
-    inl (inr (serves_nobody c.args.disk c.in-Ok.store c.in-Ok.store c.in-Ok.ensures.opened c.in-Ok.ensures.counted c.in-Ok.ensures.listed
-    _ _ _ _ _ line bytes listen connections c.args.settings _ _ _ _ asked is (Moves-none c.in-Ok.store)
+    inl (inr (serves_nobody c.args.disk c.in-Ok-open.store c.in-Ok-open.store c.in-Ok-open.ensures.opened c.in-Ok-open.ensures.counted c.in-Ok-open.ensures.listed
+    _ _ _ _ _ line bytes listen connections c.args.settings _ _ _ _ asked is (Moves-none c.in-Ok-open.store)
     (ap (λ w. w.items) (none.workers ∙ back.1))
     (none.disk ∙ ap (λ store. store.parts.journal.disk) back.0) none.note))
 
 pub returns : goal.returns
 returns g c = λ line bytes listen connections asked is.
-    inl (inl (serves_doors c.args.disk c.in-Ok.store c.in-Ok-serve_workers.served.store c.in-Ok.ensures.opened c.in-Ok.ensures.counted c.in-Ok.ensures.listed _ _ _ _ _ _ line bytes listen connections c.args.settings _ _ _ _ _ _ _ asked is c.defaults_of-defaults.ensures
+    inl (inl (serves_doors c.args.disk c.in-Ok-open.store c.in-Ok-serve_workers.served.store c.in-Ok-open.ensures.opened c.in-Ok-open.ensures.counted c.in-Ok-open.ensures.listed _ _ _ _ _ _ line bytes listen connections c.args.settings _ _ _ _ _ _ _ asked is c.in-Ok.ensures
     c.in-Ok-serve_workers.ensures.ok
     (rw c.as_slice.ensures.value at c.in-Ok-counts_of.ensures)
     (rw (c.as_slice-2.ensures.value, c.as_slice-3.ensures.value) at c.has_risen-failed.ensures)

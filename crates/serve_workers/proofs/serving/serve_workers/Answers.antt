@@ -65,7 +65,7 @@ close_store-store-requires-clause-others g c =
     let refill = refilled seat.result.len seat.result.items after (c.serve_doors.auto.callers ∙ c.as_mut_slice.ensures.len) in
     let seated = subst (λ cs. AreSeated (λ port. port.pass.seat.table_id) (λ port. port.pass.seat.me.0) table 0 c.args.workers.items cs)
     (sym c.as_mut_slice.ensures.value) seat.ensures.seated in
-    let owned = own_after (λ port. port.pass.seat.table_id) (λ port. port.pass.seat.me.0) c.args.defaults.now g.T.Link.Faults
+    let owned = own_after (λ port. port.pass.seat.table_id) (λ port. port.pass.seat.me.0) c.args.interface.now.defaults g.T.Link.Faults
     g.T.Door.coming g.T.Door.given_back g.T.Door.faults g.C.Clock.moments table 0 c.args.workers.items c.as_mut_slice.result.now after
     seated c.serve_doors.ensures in
     subst (λ passes. All (λ p. p.seat.table_id ≡ c.in-Ok.made.0.table.shared.table_id) passes)
@@ -85,9 +85,9 @@ returns-clause-ok g c =
     let seated = subst (λ cs. AreSeated (λ port. port.pass.seat.table_id) (λ port. port.pass.seat.me.0) table 0 c.args.workers.items cs)
     (sym c.as_mut_slice.ensures.value) seat.ensures.seated in
     let counted : c.args.workers.len ≡ length c.args.workers.items = omega (arith, c.args.workers.ok) in
-    subst (λ workers. ServesAll c.args.defaults.now g.T.Link.Faults g.T.Door.coming g.T.Door.given_back g.T.Door.faults g.C.Clock.moments
+    subst (λ workers. ServesAll c.args.interface.now.defaults g.T.Link.Faults g.T.Door.coming g.T.Door.given_back g.T.Door.faults g.C.Clock.moments
     c.args.store c.close_store-store.result c.args.workers.items workers) (sym (rise.workers ∙ ap (map (λ caller. caller.worker)) refill))
-    (served_all (λ port. port.pass.seat.table_id) (λ port. port.pass.seat.me.0) c.args.defaults.now g.T.Link.Faults g.T.Door.coming
+    (served_all (λ port. port.pass.seat.table_id) (λ port. port.pass.seat.me.0) c.args.interface.now.defaults g.T.Link.Faults g.T.Door.coming
     g.T.Door.given_back g.T.Door.faults g.C.Clock.moments c.args.store c.close_store-store.result first table c.args.workers.items
     c.as_mut_slice.result.now after (map (λ p. p.seat.me.0) c.rise_workers-workers.result.1.items)
     (opened.0, seat.ensures.opening ∙ opened.1, opened.2) (seat.ensures.split ∙ ap (λ n. caller [] n [] ∷ []) counted) seated
