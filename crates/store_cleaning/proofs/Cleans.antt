@@ -48,11 +48,11 @@ use Rattle.office_model.specs.declared.refusal.BrokenRule.TheVariants.{BadBucket
 use Rattle.office_model.specs.declared.refusal.Refusal.{Refusal}
 use Rattle.office_model.specs.declared.refusal.Refusal.TheVariants.{Broken, DiskFault}
 use Rattle.office_model.specs.Meaning.{Carried, Nothing, Commits}
-use Rattle.office_model.specs.Office.{Office, Names, in_hosts, in_dumps, in_bases, in_restores, with_pool}
+use Rattle.office_model.specs.Office.{Office, Names, in_hosts, with_pool}
 use Rattle.office_model.specs.Pool.{byte_cmp, cleaned, fated}
 use Rattle.office_model.specs.Step.{Running, IsStep, meaning_of}
 use Rattle.office_model.specs.events.Clean as CleanEvent
-use Rattle.office_model.specs.events.Clean.{is_protected, in_bucket}
+use Rattle.office_model.specs.events.Clean.{in_bucket}
 use Rattle.office_model.specs.laws.CleanLaws.{IsSound-cleaned}
 use Rattle.office_model.specs.laws.StateLaws.{AreSound-carried}
 use Rattle.office_files.specs.Pooled.{contents_of, IsListed, HasNoIndex}
@@ -73,20 +73,20 @@ use Rattle.store_parts.specs.RefusedLaws.{runs_broken}
 use Rattle.store_parts.specs.WriteLaws.{LeadsTo, Holds, runs_write_refused, runs_written}
 use Rattle.store_parts.specs.ListLaws.{entry_found}
 use Rattle.store_parts.specs.HoldingLaws.{any_found}
-use Rattle.store_cleaning.specs.CleanLaws.{sessions_hold, hosts_count, AreKept, kept_by, listed_item, bucket_claimed, either_way, cleaned_used, cleaned_claims, cleaned_given, cleaned_index, cleaned_number, changes_in, none_cleaned, some_cleaned}
+use Rattle.store_cleaning.specs.CleanLaws.{opened_has, protected_in, sessions_hold, hosts_count, AreKept, kept_by, listed_item, bucket_claimed, either_way, cleaned_used, cleaned_claims, cleaned_given, cleaned_index, cleaned_number, changes_in, none_cleaned, some_cleaned}
 
 -- ---- the model's side
 
 abbrev after_cleaning : (List ℕ → Bool) → Office → Office
 after_cleaning inside office =
-    with_pool office (cleaned inside (is_protected office.hosts office.dumps office.restores) office.pool)
+    with_pool office (cleaned inside (protected_in office) office.pool)
 
 -- what a cleaning means of a bucket that there is
 abbrev carried_by : (List ℕ → Bool) → Office → Carried
 carried_by inside office = record {
-  answer = Cleaned (fated inside (is_protected office.hosts office.dumps office.restores) Gains office.pool)
-      (fated inside (is_protected office.hosts office.dumps office.restores) Loses office.pool)
-      (fated inside (is_protected office.hosts office.dumps office.restores) Leaves office.pool);
+  answer = Cleaned (fated inside (protected_in office) Gains office.pool)
+      (fated inside (protected_in office) Loses office.pool)
+      (fated inside (protected_in office) Leaves office.pool);
   after = after_cleaning inside office;
 }
 
@@ -141,7 +141,7 @@ not_none a b c e none =
 
 module _ {D N S : Type 0} {d : DiskGhosts D} {n : NamerGhosts N S} where
   pub protected_is_kept : (parts : StoreParts D N S d n) (office : Office) (names : Names) (at : IsRunning parts office names)
-      → AreKept parts.counts (slots parts) (contents_of at.all) (is_protected office.hosts office.dumps office.restores)
+      → AreKept parts.counts (slots parts) (contents_of at.all) (protected_in office)
   protected_is_kept parts office names at id item e =
       let content = contents_of at.all id in
       let claimed = bucket_claimed id (slots parts id) item e in
@@ -154,7 +154,7 @@ module _ {D N S : Type 0} {d : DiskGhosts D} {n : NamerGhosts N S} where
       ∙ ap (nat_lt 0) (sym (at.claimed id)) in
       (λ i. claimed.1 i || is_named parts.counts (listed.1 i))
       ∙ kept_by (in_hosts office.hosts content)
-      (in_dumps office.dumps content || (in_bases office.dumps content || in_restores office.restores content))
+      (opened_has office.volatile content)
       (nat_lt 0 (claims_of (slots parts id))) (is_named parts.counts id) hosted opened
 
   module _ (old : StoreParts D N S d n) (bucket : ℕ) (within : nat_le 16 bucket ≡ false) (cleaning : Cleaning)
@@ -170,7 +170,7 @@ module _ {D N S : Type 0} {d : DiskGhosts D} {n : NamerGhosts N S} where
 
     module _ (office : Office) (names : Names) (at : IsRunning old office names) where
       abbrev protected : List ℕ → Bool
-      protected = is_protected office.hosts office.dumps office.restores
+      protected = protected_in office
 
       number : (wanted : Fate) → is_same_fate Stays wanted ≡ false → length (wanted_ids wanted (is_kept old.counts) is.items)
           ≡ fated inside protected wanted office.pool
@@ -242,7 +242,7 @@ module _ {D N S : Type 0} {d : DiskGhosts D} {n : NamerGhosts N S} where
 
           safe : (content : List ℕ) → in_hosts office.hosts content ≡ true → protected content ≡ true
           safe content e =
-              let opened = in_dumps office.dumps content || (in_bases office.dumps content || in_restores office.restores content) in
+              let opened = opened_has office.volatile content in
               ap (λ (b : Bool). b || opened) e
 
           stands : Stands n.digest_of (index_of relisted) at.backups (applied cleaning.change.changes at.all)

@@ -1,4 +1,5 @@
 -- A cleaning of a bucket, by names as a pool does it and by contents as the model does.
+--     opened_has now content, protected_in office content      an open session has it;  a cleaning of the office keeps it
 --     sessions_hold, hosts_hold      a content is in an open session or in a backup exactly if its name is claimed or counted
 --     AreKept counts slots contents protected      a live name is kept exactly if its content is protected
 --     cleaned_index      the index after the cleaning
@@ -44,12 +45,12 @@ use Rattle.open_sessions.specs.declared.sessions.Sessions.{Sessions}
 use Rattle.open_sessions.specs.Opened.{IsDump, IsRestore, AreSessions, base_of, claims_in, claims_in_dumps, claims_in_restores}
 use Rattle.pool_fate.specs.declared.fate.Fate.{Fate}
 use Rattle.pool_fate.specs.declared.fate.Fate.TheVariants.{Stays, Gains, Loses, Leaves}
-use Rattle.office_model.specs.Office.{Volatile, Dump, Restore, in_dumps, in_bases, in_restores}
+use Rattle.office_model.specs.Office.{Office, Volatile, Dump, Restore, in_dumps, in_bases, in_restores}
 use Rattle.office_model.specs.Places.{Differ}
 use Rattle.office_model.specs.Pool.{Pool, byte_cmp, mark_of, holds, kept_as, fate, cleaned, fated}
 use Rattle.pool_fate.specs.Fates.{fate_of, mark_after, is_same_fate}
 use Rattle.office_model.specs.UsedNames.{Among}
-use Rattle.office_model.specs.events.Clean.{in_bucket}
+use Rattle.office_model.specs.events.Clean.{in_bucket, is_protected}
 use Rattle.office_model.specs.events.Stats.{total}
 use Rattle.office_model.specs.laws.PoolLaws.{byte_exact}
 use Rattle.office_files.specs.Pairs.{AtEachPair}
@@ -69,6 +70,14 @@ above_sum zero n = let same : 0 + n ≡ n = omega arith in ap (nat_lt 0) same
 above_sum (suc m) n = is_above (suc m + n) (omega arith) ∙ sym (ap (λ (b : Bool). b || nat_lt 0 n) (is_above (suc m) (omega arith)))
 
 -- ---- what open sessions hold
+
+-- an open dump's tree or base, or an open restore's tree
+abbrev pub opened_has : Volatile → List ℕ → Bool
+opened_has now content = in_dumps now.dumps content || (in_bases now.dumps content || in_restores now.restores content)
+
+-- what a cleaning of this office keeps
+abbrev pub protected_in : Office → List ℕ → Bool
+protected_in office = is_protected office.hosts office.dumps office.restores
 
 -- two tests of each of two parts
 mixed : (a b p q : Bool) → ((a || p) || (b || q)) ≡ ((a || b) || (p || q))
@@ -120,11 +129,9 @@ module _ (given : PoolId → Type 0) (contents : PoolId → List ℕ) (one : IsO
       let tree = tree_holds restore.tree s.rows is.tree is.rows.told in
       (λ i. tree i || rest i) ∙ sym (above_sum (occurrences id s.rows) (claims_in_restores sessions id))
 
-  -- an open dump's tree or base, or an open restore's tree
   pub sessions_hold : {S : Type 0} (took_in : S → List ℕ → Type 0) (now : Volatile) (sessions : Sessions S)
       → AreSessions took_in given contents now sessions
-      → (in_dumps now.dumps (contents id) || (in_bases now.dumps (contents id) || in_restores now.restores (contents id)))
-      ≡ nat_lt 0 (claims_in sessions id)
+      → opened_has now (contents id) ≡ nat_lt 0 (claims_in sessions id)
   sessions_hold took_in now sessions are =
       let dumps = dumps_hold now.dumps sessions.dumps.items are.dumps in
       let restores = restores_hold took_in now.restores sessions.restores.items are.restores in

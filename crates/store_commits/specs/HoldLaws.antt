@@ -19,7 +19,7 @@ use Rattle.pool_changes.specs.Kept.{slots_of}
 use Rattle.pool_changes.specs.Indexed.{after as relisted_after, relisted_by}
 use Rattle.open_sessions.specs.declared.sessions.OpenDump.{OpenDump}
 use Rattle.open_sessions.specs.declared.sessions.Sessions.{Sessions}
-use Rattle.open_sessions.specs.Opened.{AreSessions, claims_of_dump}
+use Rattle.open_sessions.specs.Opened.{AreSessions, claims_of_dump, OnlyDumps}
 use Rattle.open_sessions.specs.SessionLaws.{claims_in_dumps-remove}
 use Rattle.open_sessions.specs.CallLaws.{AreSessions-dump_taken, claims_in-dump_taken}
 use Rattle.office_catalog.specs.Known.{Known, with_change, with_line}
@@ -70,8 +70,7 @@ module _ {D N S : Type 0} {d : DiskGhosts D} {n : NamerGhosts N S} where
     pub catalog : new.catalog ≡ known_after plan.catalog mid.catalog
     pub counts : new.counts ≡ slice_set mid.counts plan.host plan.counts
     pub dumps : new.sessions.dumps.items ≡ remove mid.sessions.dumps.items place
-    pub restores : new.sessions.restores ≡ mid.sessions.restores
-    pub sequence : new.sessions.sequence ≡ mid.sessions.sequence
+    pub only : OnlyDumps mid.sessions new.sessions
     pub journal : new.journal ≡ mid.journal
     pub views : new.views ≡ mid.views
     pub halted : new.halted ≡ mid.halted
@@ -186,18 +185,15 @@ module _ {D N S : Type 0} {d : DiskGhosts D} {n : NamerGhosts N S} where
       dumps_are : new.sessions.dumps.items ≡ remove old.sessions.dumps.items place
       dumps_are = f.dumps ∙ ap (λ (s : Sessions S). remove s.dumps.items place) w.sessions_same
 
-      restores_are : new.sessions.restores ≡ old.sessions.restores
-      restores_are = f.restores ∙ ap (λ (s : Sessions S). s.restores) w.sessions_same
-
-      sequence_is : new.sessions.sequence ≡ old.sessions.sequence
-      sequence_is = f.sequence ∙ ap (λ (s : Sessions S). s.sequence) w.sessions_same
+      only_is : OnlyDumps old.sessions new.sessions
+      only_is = subst (λ (s : Sessions S). OnlyDumps s new.sessions) w.sessions_same f.only
 
       sessions_after : (office : Office) (names : Names) (at : IsRunning old office names)
           → AreSessions n.holds (given (slots old)) (contents_of at.all) (record office.volatile { dumps = remove office.dumps place })
           new.sessions
       sessions_after office names at =
-          AreSessions-dump_taken old.sessions new.sessions restores_are n.holds (given (slots old)) (contents_of at.all) office.volatile
-          at.sessions place dumps_are sequence_is
+          AreSessions-dump_taken old.sessions new.sessions only_is.beside n.holds (given (slots old)) (contents_of at.all) office.volatile
+          at.sessions place dumps_are only_is.sequence
 
       counts_after : (office : Office) (names : Names) (at : IsRunning old office names) (m : IsMeant old place session office names at)
           → new.counts ≡ slice_set old.counts m.dump.host planned.counts
@@ -211,7 +207,7 @@ module _ {D N S : Type 0} {d : DiskGhosts D} {n : NamerGhosts N S} where
           running_committed old mid new office (office_after office place s.m.dump s.m.host now) names at plan.changes done w
           (planned_changes old session now plan planned) (ids_in session.tree) (claims_of_dump session) s.stored.backups
           (record { go = go office names at }) f.form
-          (λ id. claims_in-dump_taken old.sessions new.sessions restores_are id place session there dumps_are)
+          (λ id. claims_in-dump_taken old.sessions new.sessions only_is.beside id place session there dumps_are)
           s.stored.stands s.stored.tells
           (sessions_after office names at)
           (subst (λ (v : Views). IsKeptView v.kept (office_after office place s.m.dump s.m.host now).hosts s.stored.backups)

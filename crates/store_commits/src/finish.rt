@@ -7,7 +7,7 @@ ghost use Rattle.pool_changes.specs.Slots.{claims_of};
 ghost use Rattle.pool_changes.specs.Indexed.{after as relisted_after};
 ghost use Rattle.office_catalog.specs.Changed.{IsFor, after as known_after};
 ghost use Rattle.open_sessions.specs.declared.sessions.OpenDump.{OpenDump};
-ghost use Rattle.open_sessions.specs.Opened.{claims_of_dump};
+ghost use Rattle.open_sessions.specs.Opened.{claims_of_dump, OnlyDumps};
 ghost use Rattle.store_parts.specs.States.{slots};
 ghost use Rattle.store_dumps.specs.Claims.{LetsGo};
 
@@ -31,8 +31,7 @@ pub fn accept_commit<D: Disk, N: Namer>(parts: &mut StoreParts<D, N>, at: usize,
     ensures catalog { parts.new.catalog ≡ known_after plan.catalog parts.old.catalog }
     ensures counts { parts.new.counts ≡ slice_set parts.old.counts plan.host plan.counts }
     ensures dumps { parts.new.sessions.dumps.items ≡ remove parts.old.sessions.dumps.items at }
-    ensures restores { parts.new.sessions.restores ≡ parts.old.sessions.restores }
-    ensures sequence { parts.new.sessions.sequence ≡ parts.old.sessions.sequence }
+    ensures only { OnlyDumps parts.old.sessions parts.new.sessions }
     ensures journal { parts.new.journal ≡ parts.old.journal }
     ensures views { parts.new.views ≡ parts.old.views }
     ensures halted { parts.new.halted ≡ parts.old.halted }

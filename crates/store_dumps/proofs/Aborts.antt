@@ -1,15 +1,15 @@
 -- What an abort leaves.
 use Rattle.std.specs.Prelude.{◌≡◌, ◌≤◌, ℕ, List, Option, Some, Ok, Err, slice_get}
 use Rattle.std.specs.List.{position_from, remove}
-use Rattle.std.proofs.Common.{refl, sym, ap, ◌∙◌, subst, arith}
+use Rattle.std.proofs.Common.{refl, sym, ◌∙◌, arith}
 use Rattle.disk_trait.specs.declared.ids.PoolId.{PoolId}
 use Rattle.disk_trait.specs.declared.disk.Disk.{Ghosts as DiskGhosts}
 use Rattle.pool_name.specs.declared.namer.Namer.{Ghosts as NamerGhosts}
 use Rattle.pool_changes.specs.Slots.{claims_of}
 use Rattle.open_sessions.specs.declared.sessions.OpenDump.{OpenDump}
-use Rattle.open_sessions.specs.declared.sessions.OpenRestore.{OpenRestore}
-use Rattle.open_sessions.specs.Opened.{IsDump, IsRestore, claims_of_dump, claims_in, claims_in_dumps, claims_in_restores}
-use Rattle.open_sessions.specs.SessionLaws.{pairs_remove, dump_index-sessions, claims_in_dumps-remove}
+use Rattle.open_sessions.specs.Opened.{IsDump, claims_of_dump, claims_in, OnlyDumps}
+use Rattle.open_sessions.specs.CallLaws.{AreSessions-dump_taken, claims_in-dump_taken}
+use Rattle.open_sessions.specs.SessionLaws.{dump_index-sessions, claims_in_dumps-remove}
 use Rattle.office_model.specs.Session.{is_same_session}
 use Rattle.office_model.specs.declared.session.SessionName.{SessionName}
 use Rattle.office_model.specs.declared.answer.Answer.TheVariants.{Done}
@@ -20,7 +20,7 @@ use Rattle.office_model.specs.Parts.{dump_at}
 use Rattle.office_model.specs.laws.Judging.{at_found}
 use Rattle.office_model.specs.laws.StateLaws.{AreSound-carried}
 use Rattle.office_model.specs.events.Abort as AbortEvent
-use Rattle.office_files.specs.Pairs.{AtEachPair, other_at}
+use Rattle.office_files.specs.Pairs.{other_at}
 use Rattle.office_files.specs.Pooled.{contents_of}
 use Rattle.store_parts.specs.declared.parts.StoreParts.{StoreParts}
 use Rattle.store_parts.specs.Held.{given}
@@ -75,9 +75,8 @@ module _ {D N S : Type 0} {d : DiskGhosts D} {n : NamerGhosts N S} where
         → (((id : PoolId) → claims_of_dump dump id ≤ claims_of (slots old id))
         → LetsGo (λ id. claims_of_dump dump id) (slots old) (slots new))
         → new.pool.in_one_file ≡ old.pool.in_one_file → new.sessions.dumps.items ≡ remove old.sessions.dumps.items index
-        → new.sessions.restores.items ≡ old.sessions.restores.items → new.sessions.sequence ≡ old.sessions.sequence
-        → Runs old (Abort session) (Ok Done) new
-    runs_aborted new index dump e there journal catalog counts views halted go form dumps restores sequence =
+        → OnlyDumps old.sessions new.sessions → Runs old (Abort session) (Ok Done) new
+    runs_aborted new index dump e there journal catalog counts views halted go form dumps only =
         runs_kept old new (Abort session) Done journal
         (λ office names at.
         let found = dump_found index dump e there office names at in
@@ -89,22 +88,9 @@ module _ {D N S : Type 0} {d : DiskGhosts D} {n : NamerGhosts N S} where
           running = running_let_go old new office next names (λ id. claims_of_dump dump id)
               (claims_in old.sessions) at.working at.claimed journal catalog counts views halted
               (go (abort_enough index dump there office names at)) form
-              (λ id. omega (
-                arith,
-                ap (λ items. claims_in_dumps items id) dumps,
-                ap (λ items. claims_in_restores items id) restores,
-                claims_in_dumps-remove old.sessions.dumps.items id index dump there,
-              ))
-              (record {
-                dumps = subst (λ (items : List OpenDump). AtEachPair (λ i. IsDump (given (slots old)) (contents_of at.all))
-                    (remove office.dumps index) items)
-                    (sym dumps) (pairs_remove (IsDump (given (slots old))
-                    (contents_of at.all)) office.dumps old.sessions.dumps.items at.sessions.dumps index);
-                restores = subst (λ (items : List (OpenRestore S)). AtEachPair
-                    (λ i. IsRestore n.holds (given (slots old)) (contents_of at.all)) office.restores items)
-                    (sym restores) at.sessions.restores;
-                sequence = sequence ∙ at.sessions.sequence;
-              })
+              (λ id. claims_in-dump_taken old.sessions new.sessions only.beside id index dump there dumps)
+              (AreSessions-dump_taken old.sessions new.sessions only.beside n.holds (given (slots old)) (contents_of at.all) office.volatile
+              at.sessions index dumps only.sequence)
               refl refl (AreSound-carried office names (Abort session) (record { answer = Done; after = next }) names at.sound judged refl);
         })
         (λ office names. refl) refl

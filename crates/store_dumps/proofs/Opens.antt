@@ -18,10 +18,10 @@ use Rattle.stored_trees.specs.ResolvedLaws.{AreTold-kept}
 use Rattle.stored_trees.specs.Occurrences.{occurrences}
 use Rattle.office_catalog.specs.Known.{Known, host_named, names_of}
 use Rattle.open_sessions.specs.declared.sessions.OpenDump.{OpenDump}
-use Rattle.open_sessions.specs.declared.sessions.OpenRestore.{OpenRestore}
 use Rattle.open_sessions.specs.declared.sessions.Sessions.{Sessions}
-use Rattle.open_sessions.specs.Opened.{AreRowsOf, IsDump, IsRestore, AreSessions, claims_in, claims_in_dumps, claims_in_restores}
-use Rattle.open_sessions.specs.SessionLaws.{dump_index_of_host-sessions, claims_in_dumps-push}
+use Rattle.open_sessions.specs.Opened.{AreRowsOf, IsDump, AreSessions, claims_in}
+use Rattle.open_sessions.specs.CallLaws.{AreSessions-dump_opened, claims_in-dump_opened}
+use Rattle.open_sessions.specs.SessionLaws.{dump_index_of_host-sessions}
 use Rattle.office_model.specs.declared.answer.Answer.TheVariants.{Dump as DumpAnswer}
 use Rattle.office_model.specs.declared.event.Event.{Event}
 use Rattle.office_model.specs.declared.event.Event.TheVariants.{OpenDump as OpenDumpEvent}
@@ -35,7 +35,6 @@ use Rattle.office_model.specs.Office.{Office, Host, Dump, Names, dump_index_of_h
 use Rattle.office_model.specs.Parts.{host_at, lines_of}
 use Rattle.office_model.specs.laws.StateLaws.{AreSound-carried}
 use Rattle.office_model.specs.events.OpenDump as OpenDumpModel
-use Rattle.office_files.specs.Pairs.{AtEachPair, pairs_push}
 use Rattle.office_files.specs.Pooled.{contents_of}
 use Rattle.office_known.specs.CatalogLaws.{IsNamed, named_host}
 use Rattle.store_parts.specs.declared.parts.StoreParts.{StoreParts}
@@ -126,17 +125,11 @@ module _ (given : PoolId → Type 0) (contents : PoolId → List ℕ) (office : 
   pub sessions_opened : {S : Type 0} (holds : S → List ℕ → Type 0) (old new : Sessions S) (epoch : ℕ) (name : SessionName)
       → epoch ≡ office.epoch → AreSessions holds given contents office.volatile old → IsOpened old epoch place kind now rows name new
       → AreSessions holds given contents (with_fresh office place kind now (resolved contents rows)).volatile new
-  sessions_opened {S} holds old new epoch name same are opened = record {
-    dumps = subst (λ (items : List OpenDump). AtEachPair (λ i. IsDump given contents)
-        (office.dumps ++ OpenDumpModel.new_dump (OpenDumpModel.next_session office) place kind now (resolved contents rows) ∷ []) items)
-        (sym opened.dumps)
-        (pairs_push (IsDump given contents) office.dumps old.dumps.items are.dumps
-        (OpenDumpModel.new_dump (OpenDumpModel.next_session office) place kind now (resolved contents rows)) opened.dump
-        (fresh_is (session_of epoch old.sequence) opened.dump (λ i. session_of (same i) (are.sequence i)) opened.fresh));
-    restores = subst (λ (items : List (OpenRestore S)). AtEachPair (λ i. IsRestore holds given contents) office.restores items)
-        (sym opened.restores) are.restores;
-    sequence = opened.sequence ∙ ap (λ m. m + 1) are.sequence;
-  }
+  sessions_opened holds old new epoch name same are opened =
+      AreSessions-dump_opened old new opened.beside holds given contents office.volatile are
+      (OpenDumpModel.new_dump (OpenDumpModel.next_session office) place kind now (resolved contents rows)) opened.dump
+      (fresh_is (session_of epoch old.sequence) opened.dump (λ i. session_of (same i) (are.sequence i)) opened.fresh) opened.dumps
+      opened.sequence
 
 pub claims_opened : {S : Type 0} (old new : Sessions S) (epoch place : ℕ) (kind : Kind) (now : ℕ) (rows : Rows) (name : SessionName)
     → IsOpened old epoch place kind now rows name new → (id : PoolId)
@@ -144,9 +137,7 @@ pub claims_opened : {S : Type 0} (old new : Sessions S) (epoch place : ℕ) (kin
 claims_opened old new epoch place kind now rows name opened id =
     omega (
       arith,
-      ap (λ items. claims_in_dumps items id) opened.dumps,
-      ap (λ items. claims_in_restores items id) opened.restores,
-      claims_in_dumps-push old.dumps.items id opened.dump,
+      claims_in-dump_opened old new opened.beside id opened.dump opened.dumps,
       ap (occurrences id) opened.fresh.base_is,
       ap (occurrences id) opened.fresh.tree_is,
     )

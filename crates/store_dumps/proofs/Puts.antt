@@ -45,10 +45,10 @@ use Rattle.stored_trees.specs.Occurrences.{occurrences}
 use Rattle.dump_session.specs.declared.session.PutFault.{PutFault}
 use Rattle.dump_session.specs.declared.session.PutFault.TheVariants as PF
 use Rattle.open_sessions.specs.declared.sessions.OpenDump.{OpenDump}
-use Rattle.open_sessions.specs.declared.sessions.OpenRestore.{OpenRestore}
 use Rattle.open_sessions.specs.declared.sessions.Sessions.{Sessions}
-use Rattle.open_sessions.specs.Opened.{AreRowsOf, IsDump, IsRestore, AreSessions, claims_in, claims_in_dumps, claims_in_restores}
-use Rattle.open_sessions.specs.SessionLaws.{pairs_set, claims_in_dumps-set, claims_in_dumps-remove, node_occurrences, found_occurrences, occurrences-with_node, broken_rule-resolved, IsTree-rows}
+use Rattle.open_sessions.specs.Opened.{AreRowsOf, IsDump, AreSessions, claims_in, OnlyDumps, AreAlike}
+use Rattle.open_sessions.specs.CallLaws.{AreSessions-dump_edited, claims_in-dump_edited}
+use Rattle.open_sessions.specs.SessionLaws.{AreSessions-alike, claims_in-alike, claims_in_dumps-remove, node_occurrences, found_occurrences, occurrences-with_node, broken_rule-resolved, IsTree-rows}
 use Rattle.office_model.specs.declared.answer.Answer.TheVariants.{Done}
 use Rattle.office_model.specs.declared.event.Event.{Event}
 use Rattle.office_model.specs.declared.event.Event.TheVariants.{Put}
@@ -66,7 +66,6 @@ use Rattle.office_model.specs.UsedNames.{IsRenamed, AreNamesAfter}
 use Rattle.office_model.specs.laws.StateLaws.{AreSound-carried}
 use Rattle.office_model.specs.events.Put as PutEvent
 use Rattle.office_model.specs.events.Put.{name_change}
-use Rattle.office_files.specs.Pairs.{AtEachPair}
 use Rattle.office_files.specs.Pooled.{contents_of}
 use Rattle.office_files.specs.Stands.{StandsFor}
 use Rattle.store_parts.specs.declared.parts.StoreParts.{StoreParts}
@@ -77,7 +76,6 @@ use Rattle.store_parts.specs.Runs.{MayRecover, Steps, Runs}
 use Rattle.store_parts.specs.StepLaws.{names_refused, recover_before}
 use Rattle.store_parts.specs.RunLaws.{counted_fine, counted_failed}
 use Rattle.store_parts.specs.StagingLaws.{with_used, working_staged, crash_staged}
-use Rattle.store_dumps.specs.Alike.{AreAlike}
 use Rattle.store_dumps.specs.Claims.{LetsGo, claims_of_content}
 use Rattle.store_dumps.specs.Putting.{record_for, content_found, TakesIn, refused_put}
 use Rattle.store_dumps.proofs.Aborts.{place_of, IsFound, dump_found}
@@ -345,14 +343,12 @@ module _ {D N S : Type 0} {d : DiskGhosts D} {n : NamerGhosts N S} where
 
             claims_put : (new : Sessions S) → new.dumps.items
                 ≡ slice_set old.sessions.dumps.items index (with_record dump path (record_for item content))
-                → new.restores.items ≡ old.sessions.restores.items → (id : PoolId)
+                → OnlyDumps old.sessions new → (id : PoolId)
                 → claims_in new id + claims_of_content (content_found (node_at dump.tree path)) id ≡ total id
-            claims_put new dumps restores id =
+            claims_put new dumps only id =
                 omega (
                   arith,
-                  ap (λ items. claims_in_dumps items id) dumps,
-                  ap (λ items. claims_in_restores items id) restores,
-                  claims_in_dumps-set old.sessions.dumps.items id index dump (with_record dump path (record_for item content)) there,
+                  claims_in-dump_edited old.sessions new only.beside id index dump (with_record dump path (record_for item content)) there dumps,
                   occurrences-with_node id dump.tree path (record_for item content) (found office names at).is.tree_rows.whole.in_order,
                   found_claims id (node_at dump.tree path),
                   record_claims id item content shape,
@@ -360,26 +356,18 @@ module _ {D N S : Type 0} {d : DiskGhosts D} {n : NamerGhosts N S} where
 
             sessions_put : (new : Sessions S)
                 → new.dumps.items ≡ slice_set old.sessions.dumps.items index (with_record dump path (record_for item content))
-                → new.restores.items ≡ old.sessions.restores.items → new.sequence ≡ old.sessions.sequence
+                → OnlyDumps old.sessions new
                 → AreSessions n.holds (given (slots mid)) (contents_of (staged office names at).has.all') (next office names at).volatile new
             unfolding working_staged
-            sessions_put new dumps restores sequence =
+            sessions_put new dumps only =
                 let f = found office names at in
                 let w = working_staged old mid office names at refl refl refl refl refl form stays (staged office names at).has in
                 let contents = contents_of (staged office names at).has.all' in
-                record {
-                  dumps = subst (λ (items : List OpenDump). AtEachPair (λ i. IsDump (given (slots mid)) contents)
-                      (slice_set office.dumps index (PutEvent.with_item f.value path item)) items) (sym dumps)
-                      (pairs_set (IsDump (given (slots mid)) contents) office.dumps old.sessions.dumps.items w.sessions.dumps index
-                      (PutEvent.with_item f.value path item) (with_record dump path (record_for item content))
-                      (dump_with (given (slots mid)) contents f.value dump path item content (staged office names at).is
-                      (staged office names at).told
-                      (w.sessions.dumps.each index f.value dump f.there there)));
-                  restores = subst (λ (items : List (OpenRestore S)). AtEachPair
-                      (λ i. IsRestore n.holds (given (slots mid)) contents) office.restores items)
-                      (sym restores) w.sessions.restores;
-                  sequence = sequence ∙ w.sessions.sequence;
-                }
+                AreSessions-dump_edited old.sessions new only.beside n.holds (given (slots mid)) contents office.volatile w.sessions index
+                (PutEvent.with_item f.value path item) (with_record dump path (record_for item content))
+                (dump_with (given (slots mid)) contents f.value dump path item content (staged office names at).is
+                (staged office names at).told
+                (w.sessions.dumps.each index f.value dump f.there there)) dumps only.sequence
 
           -- the row was put
           pub runs_put : (new : StoreParts D N S d n) {failed : Type 0} → new.journal ≡ journal → new.catalog ≡ old.catalog
@@ -389,10 +377,10 @@ module _ {D N S : Type 0} {d : DiskGhosts D} {n : NamerGhosts N S} where
               → LetsGo (λ id. claims_of_content (content_found (node_at dump.tree path)) id) (slots mid) (slots new))
               → new.pool.in_one_file ≡ pool.in_one_file
               → new.sessions.dumps.items ≡ slice_set old.sessions.dumps.items index (with_record dump path (record_for item content))
-              → new.sessions.restores.items ≡ old.sessions.restores.items → new.sessions.sequence ≡ old.sessions.sequence
+              → OnlyDumps old.sessions new.sessions
               → Counted (d.fault_count old.journal.disk) (d.fault_count journal.disk) failed → (failed → ⊥) → Runs old Event' (Ok Done) new
           unfolding working_staged
-          runs_put new same catalog counts views halted go kept dumps restores sequence counted fine = record {
+          runs_put new same catalog counts views halted go kept dumps only counted fine = record {
             steps = λ office names at.
                 let s = staged office names at in
                 let judged = put_judged office names at rule s.free in
@@ -403,8 +391,8 @@ module _ {D N S : Type 0} {d : DiskGhosts D} {n : NamerGhosts N S} where
                   in_state = running_let_go mid new office (next office names at) (names' office names at)
                       (λ id. claims_of_content (content_found (node_at dump.tree path)) id) total
                       (working_staged old mid office names at refl refl refl refl refl form stays s.has) s.claims same catalog counts
-                      views halted (go (enough office names at)) kept (claims_put office names at new.sessions dumps restores)
-                      (sessions_put office names at new.sessions dumps restores sequence) refl refl
+                      views halted (go (enough office names at)) kept (claims_put office names at new.sessions dumps only)
+                      (sessions_put office names at new.sessions dumps only) refl refl
                       (AreSound-carried office names Event' (record { answer = Done; after = next office names at }) (names' office names at)
                       at.sound judged (names_after office names at s.has.used' rule s.free s.named (Ok Done)));
                 };
@@ -436,19 +424,8 @@ module _ {D N S : Type 0} {d : DiskGhosts D} {n : NamerGhosts N S} where
                   undamaged = tt;
                   in_state = running_let_go mid new office office (names' office names at) (claims_of_content content) total w s.claims
                       same catalog counts views halted (go (λ id. omega (arith, s.claims id))) kept
-                      (λ id. omega (
-                        arith,
-                        ap (λ items. claims_in_dumps items id) alike.dumps,
-                        ap (λ items. claims_in_restores items id) alike.restores,
-                      ))
-                      (record {
-                        dumps = subst (λ (items : List OpenDump). AtEachPair (λ i. IsDump (given (slots mid)) contents) office.dumps items)
-                            (sym alike.dumps) w.sessions.dumps;
-                        restores = subst (λ (items : List (OpenRestore S)). AtEachPair
-                            (λ i. IsRestore n.holds (given (slots mid)) contents) office.restores items)
-                            (sym alike.restores) w.sessions.restores;
-                        sequence = alike.sequence ∙ w.sessions.sequence;
-                      })
+                      (λ id. omega (arith, claims_in-alike old.sessions new.sessions alike id))
+                      (AreSessions-alike n.holds (given (slots mid)) contents office.volatile old.sessions new.sessions w.sessions alike)
                       refl refl w.sound;
                 };
             crash = λ office names at. crash_may new same office names at;

@@ -14,9 +14,9 @@ use Rattle.stored_trees.specs.Resolved.{AreTold}
 use Rattle.stored_trees.specs.ResolvedLaws.{without-resolved}
 use Rattle.stored_trees.specs.Occurrences.{occurrences}
 use Rattle.open_sessions.specs.declared.sessions.OpenDump.{OpenDump}
-use Rattle.open_sessions.specs.declared.sessions.OpenRestore.{OpenRestore}
-use Rattle.open_sessions.specs.Opened.{AreRowsOf, IsDump, IsRestore, claims_in, claims_in_dumps, claims_in_restores}
-use Rattle.open_sessions.specs.SessionLaws.{pairs_set, claims_in_dumps-set, claims_in_dumps-remove, occurrences-without, is_some-resolved}
+use Rattle.open_sessions.specs.Opened.{AreRowsOf, IsDump, claims_in, OnlyDumps}
+use Rattle.open_sessions.specs.CallLaws.{AreSessions-dump_edited, claims_in-dump_edited}
+use Rattle.open_sessions.specs.SessionLaws.{claims_in_dumps-remove, occurrences-without, is_some-resolved}
 use Rattle.office_model.specs.declared.answer.Answer.TheVariants.{Done}
 use Rattle.office_model.specs.declared.event.Event.TheVariants.{Remove}
 use Rattle.office_model.specs.declared.refusal.BrokenRule.TheVariants.{NoSession, NoPath}
@@ -25,7 +25,6 @@ use Rattle.office_model.specs.Office.{Office, Dump, Names, with_dumps}
 use Rattle.office_model.specs.Parts.{dump_at}
 use Rattle.office_model.specs.laws.StateLaws.{AreSound-carried}
 use Rattle.office_model.specs.events.Remove as RemoveEvent
-use Rattle.office_files.specs.Pairs.{AtEachPair}
 use Rattle.office_files.specs.Pooled.{contents_of}
 use Rattle.store_parts.specs.declared.parts.StoreParts.{StoreParts}
 use Rattle.store_parts.specs.Held.{given}
@@ -126,9 +125,8 @@ module _ {D N S : Type 0} {d : DiskGhosts D} {n : NamerGhosts N S} where
           → LetsGo (λ id. occurrences id (within_rows path dump.tree)) (slots old) (slots new))
           → new.pool.in_one_file ≡ old.pool.in_one_file
           → new.sessions.dumps.items ≡ slice_set old.sessions.dumps.items index (removed dump path)
-          → new.sessions.restores.items ≡ old.sessions.restores.items → new.sessions.sequence ≡ old.sessions.sequence
-          → Runs old (Remove session path) (Ok Done) new
-      runs_removed new some journal catalog counts views halted go form dumps restores sequence =
+          → OnlyDumps old.sessions new.sessions → Runs old (Remove session path) (Ok Done) new
+      runs_removed new some journal catalog counts views halted go form dumps only =
           runs_kept old new (Remove session path) Done journal
           (λ office names at.
           let found = dump_found old session index dump e there office names at in
@@ -143,22 +141,12 @@ module _ {D N S : Type 0} {d : DiskGhosts D} {n : NamerGhosts N S} where
                 (go (enough office names at)) form
                 (λ id. omega (
                   arith,
-                  ap (λ items. claims_in_dumps items id) dumps,
-                  ap (λ items. claims_in_restores items id) restores,
-                  claims_in_dumps-set old.sessions.dumps.items id index dump (removed dump path) there,
+                  claims_in-dump_edited old.sessions new.sessions only.beside id index dump (removed dump path) there dumps,
                   occurrences-without id dump.tree path,
                 ))
-                (record {
-                  dumps = subst (λ (items : List OpenDump). AtEachPair (λ i. IsDump (given (slots old)) (contents_of at.all))
-                      (slice_set office.dumps index (RemoveEvent.with_removed found.value path)) items)
-                      (sym dumps) (pairs_set (IsDump (given (slots old)) (contents_of at.all)) office.dumps old.sessions.dumps.items
-                      at.sessions.dumps index (RemoveEvent.with_removed found.value path) (removed dump path)
-                      (dump_without (given (slots old)) (contents_of at.all) found.value dump path found.is));
-                  restores = subst (λ (items : List (OpenRestore S)). AtEachPair
-                      (λ i. IsRestore n.holds (given (slots old)) (contents_of at.all)) office.restores items)
-                      (sym restores) at.sessions.restores;
-                  sequence = sequence ∙ at.sessions.sequence;
-                })
+                (AreSessions-dump_edited old.sessions new.sessions only.beside n.holds (given (slots old)) (contents_of at.all) office.volatile
+                at.sessions index (RemoveEvent.with_removed found.value path) (removed dump path)
+                (dump_without (given (slots old)) (contents_of at.all) found.value dump path found.is) dumps only.sequence)
                 refl refl (AreSound-carried office names (Remove session path) (record { answer = Done; after = next }) names at.sound judged refl);
           })
           (λ office names. refl) refl

@@ -25,10 +25,8 @@ use Rattle.pool_store.specs.Fits.{Fits, IsLess, fits_less}
 use Rattle.backup_views.specs.declared.kept.Views.{Views}
 use Rattle.office_catalog.specs.Known.{Known}
 use Rattle.ref_counts.specs.Numbers.{Items}
-use Rattle.open_sessions.specs.Opened.{IsDump, IsRestore, AreSessions, claims_in, claims_in_dumps, claims_in_restores}
-use Rattle.open_sessions.specs.declared.sessions.OpenDump.{OpenDump}
-use Rattle.open_sessions.specs.declared.sessions.OpenRestore.{OpenRestore}
-use Rattle.open_sessions.specs.SessionLaws.{AreSessions-claimed}
+use Rattle.open_sessions.specs.Opened.{AreSessions, claims_in, AreAlike}
+use Rattle.open_sessions.specs.SessionLaws.{AreSessions-claimed, AreSessions-alike, claims_in-alike}
 use Rattle.office_model.specs.declared.answer.Answer.{Answer}
 use Rattle.office_model.specs.declared.event.Event.{Event}
 use Rattle.office_model.specs.declared.refusal.Refusal.{Refusal}
@@ -39,7 +37,6 @@ use Rattle.office_model.specs.Office.{Office, Durable, Host, Names}
 use Rattle.office_model.specs.Step.{Running, IsStep, IsAnswerTo, meaning_of}
 use Rattle.office_model.specs.History.{IsUndamaged}
 use Rattle.office_model.specs.UsedNames.{AreSound, AreNamesAfter}
-use Rattle.office_files.specs.Pairs.{AtEachPair}
 use Rattle.office_files.specs.Pooled.{contents_of}
 use Rattle.office_files.specs.Stands.{Stands}
 use Rattle.office_known.specs.KnownLaws.{known_of_office}
@@ -49,7 +46,6 @@ use Rattle.store_parts.specs.States.{slots, IsWorking, IsRunning}
 use Rattle.store_parts.specs.Runs.{MayRecover, Runs, Reads}
 use Rattle.store_parts.specs.RunLaws.{running_reads, crash_quiet, counted_still, counted_then}
 use Rattle.store_parts.specs.StepLaws.{step_memory, step_refused}
-use Rattle.store_dumps.specs.Alike.{AreAlike}
 use Rattle.store_dumps.specs.ClaimLaws.{lets_go_same}
 use Rattle.store_dumps.specs.Claims.{LetsGo}
 use Rattle.store_dumps.specs.Opening.{HasKept}
@@ -195,19 +191,9 @@ module _ {D N S : Type 0} {d : DiskGhosts D} {n : NamerGhosts N S} where
       in_state = running_let_go old new office office names (λ id. 0)
           (claims_in old.sessions) at.working at.claimed kept.journal kept.catalog kept.counts kept.views kept.halted
           (lets_go_same (slots old) (slots new) kept.names) kept.form
-          (λ id. omega (
-            arith,
-            ap (λ items. claims_in_dumps items id) kept.sessions.dumps,
-            ap (λ items. claims_in_restores items id) kept.sessions.restores,
-          ))
-          (record {
-            dumps = subst (λ (items : List OpenDump). AtEachPair (λ i. IsDump (given (slots old)) (contents_of at.all)) office.dumps items)
-                (sym kept.sessions.dumps) at.sessions.dumps;
-            restores = subst (λ (items : List (OpenRestore S)). AtEachPair
-                (λ i. IsRestore n.holds (given (slots old)) (contents_of at.all)) office.restores items)
-                (sym kept.sessions.restores) at.sessions.restores;
-            sequence = kept.sessions.sequence ∙ at.sessions.sequence;
-          })
+          (λ id. omega (arith, claims_in-alike old.sessions new.sessions kept.sessions id))
+          (AreSessions-alike n.holds (given (slots old)) (contents_of at.all) office.volatile old.sessions new.sessions at.sessions
+          kept.sessions)
           refl refl at.sound;
     };
     crash = λ office names at.

@@ -1,6 +1,5 @@
 pub mod Claims
 pub mod ClaimLaws
-pub mod Alike
 pub mod Base
 pub mod Opening
 pub mod Putting

@@ -26,10 +26,9 @@ use Rattle.office_model.specs.Meaning.{Reply}
 use Rattle.office_model.specs.Office.{number_limit, last_sequence}
 use Rattle.open_sessions.specs.declared.sessions.OpenDump.{OpenDump}
 use Rattle.open_sessions.specs.declared.sessions.Sessions.{Sessions}
-use Rattle.open_sessions.specs.Opened.{base_of}
+use Rattle.open_sessions.specs.Opened.{base_of, BesideDumps, AreAlike}
 use Rattle.store_parts.specs.declared.parts.StoreParts.{StoreParts}
 use Rattle.store_parts.specs.States.{slots}
-use Rattle.store_dumps.specs.Alike.{AreAlike}
 use Rattle.store_dumps.specs.Base.{TellsBase, IsNewestDamaged}
 use Rattle.store_dumps.specs.Claims.{Gains}
 
@@ -66,7 +65,7 @@ pub record IsOpened {S : Type 0} (old : Sessions S) (epoch host : ℕ) (kind : K
   pub fresh : IsFresh (session_of epoch old.sequence) host kind now base dump
   pub name_is : name ≡ session_of epoch old.sequence
   pub dumps : new.dumps.items ≡ old.dumps.items ++ dump ∷ []
-  pub restores : new.restores.items ≡ old.restores.items
+  pub beside : BesideDumps old new
   pub sequence : new.sequence ≡ old.sequence + 1
 
 -- how often a dump that begins with these rows claims a content: once for each row of its tree, and of its base

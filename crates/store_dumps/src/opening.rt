@@ -7,7 +7,7 @@ ghost use Rattle.office_model.specs.declared.event.Event.TheVariants.{OpenDump a
 ghost use Rattle.store_parts.specs.Runs.{Runs};
 ghost use Rattle.store_dumps.specs.Base.{has_base};
 ghost use Rattle.store_dumps.specs.Opening.{opening_rule, IsFresh, IsOpened, HasOpened, HasKept, OpensDump};
-ghost use Rattle.store_dumps.specs.Alike.{AreAlike};
+ghost use Rattle.open_sessions.specs.Opened.{AreAlike};
 
 use crate::base::{base_of, has_base};
 use crate::claims::{claim_dump, reserve_dump};

@@ -19,7 +19,7 @@ ghost use Rattle.open_sessions.specs.declared.sessions.OpenDump.{OpenDump};
 ghost use Rattle.office_model.specs.declared.event.Event.TheVariants.{Put};
 ghost use Rattle.tree_frames.specs.Frames.{bytes_of};
 ghost use Rattle.store_parts.specs.Runs.{Runs};
-ghost use Rattle.store_dumps.specs.Alike.{AreAlike};
+ghost use Rattle.open_sessions.specs.Opened.{OnlyDumps, AreAlike};
 ghost use Rattle.store_dumps.specs.Putting.{record_for, content_found, TakesIn, refused_put};
 
 use crate::claims::release;
@@ -153,8 +153,7 @@ fn put_item<S: Drop>(
     requires content { IsContentOf (length (bytes_of item.now)) content }
     ensures put { OnOk result ((dump : OpenDump) → slice_get sessions.old.dumps.items at ≡ Some dump
         → sessions.new.dumps.items ≡ slice_set sessions.old.dumps.items at (record dump { tree = with_node dump.tree path.now (record_for item.now content) })) }
-    ensures restores { OnOk result (sessions.new.restores.items ≡ sessions.old.restores.items) }
-    ensures sequence { OnOk result (sessions.new.sequence ≡ sessions.old.sequence) }
+    ensures only { OnOk result (OnlyDumps sessions.old sessions.new) }
     ensures err { OnErr result (AreAlike sessions.old sessions.new) }
     ensures rule { IfErr result (λ fault. (rule : PutRule) (dump : OpenDump) → fault ≡ PutFault.Broken rule
         → slice_get sessions.old.dumps.items at ≡ Some dump → IsTree is_dir dump.tree

@@ -3,7 +3,6 @@ use Rattle.std.specs.Prelude.{IsErrOf, is_some, nat_le, ◌||◌}
 use Rattle.std.proofs.Common.{◌≡◌, ℕ, ◌+◌, ◌<◌, ◌≤◌, Bool, false, true, List, [], Option, None, Some, Ok, Err, refl, sym, ap, ◌∙◌, subst, inl, inr, arith}
 use Rattle.std.proofs.lemmas.Bool.Decides.{nat_tests}
 use Rattle.fault_counts.specs.Counts.{Counted}
-use Rattle.disk_trait.specs.declared.ids.PoolId.{PoolId}
 use Rattle.disk_trait.specs.declared.ids.FileId.{FileId}
 use Rattle.disk_trait.specs.declared.disk.Disk.{Ghosts as DiskGhosts}
 use Rattle.disk_trait.specs.Files.{Files}
@@ -20,10 +19,8 @@ use Rattle.pool_store.specs.Opening.{AreFresh, AreThePoolFiles}
 use Rattle.backup_views.specs.declared.kept.KeptView.{KeptView}
 use Rattle.ref_counts.specs.Numbers.{Items}
 use Rattle.ref_counts.specs.Stored.{Backup as StoredBackup}
-use Rattle.open_sessions.specs.declared.sessions.Sessions.{Sessions}
-use Rattle.open_sessions.specs.Opened.{IsDump, IsRestore, claims_in, claims_in_dumps, claims_in_restores}
+use Rattle.open_sessions.specs.SessionLaws.{AreSessions-none, claims_in-none}
 use Rattle.office_catalog.specs.Known.{Known}
-use Rattle.office_files.specs.Pairs.{AtEachPair, no_pairs}
 use Rattle.office_files.specs.Pooled.{contents_of}
 use Rattle.office_model.specs.declared.answer.Answer.{Answer}
 use Rattle.office_model.specs.declared.answer.Answer.TheVariants.{Reopened as ReopenedAnswer}
@@ -63,12 +60,6 @@ fresh_claims (Some (Live size mark claims)) fresh = fresh
 fresh_claims (Some (Staged size claims)) fresh = absurd fresh
 fresh_claims (Some Doomed) fresh = refl
 
-pairs_none : {A B : Type 0} (P : ℕ → A → B → Type 0) (ys : List B) → ys ≡ [] → AtEachPair P [] ys
-pairs_none P ys e = subst (AtEachPair P []) (sym e) (no_pairs P)
-
-no_claims : {S : Type 0} (sessions : Sessions S) (id : PoolId) → sessions.dumps.items ≡ [] → sessions.restores.items ≡ [] → claims_in sessions id ≡ 0
-no_claims sessions id dumps restores = λ i. claims_in_dumps (dumps i) id + claims_in_restores (restores i) id
-
 kept_none : (kept : Option KeptView) (hosts : List Host) (backups : List (List StoredBackup)) → kept ≡ None → IsKeptView kept hosts backups
 kept_none kept hosts backups e = subst (λ (k : Option KeptView). IsKeptView k hosts backups) (sym e) tt
 
@@ -86,19 +77,14 @@ module _ {D N S : Type 0} {d : DiskGhosts D} {n : NamerGhosts N S} where
       ready = is.ready;
       stored = held.stored;
       counted = held.counted;
-      sessions = record {
-        dumps = pairs_none (λ i. IsDump (given (slots parts)) (contents_of held.stored.all)) parts.sessions.dumps.items is.no_dumps;
-        restores = pairs_none (λ i. IsRestore n.holds (given (slots parts)) (contents_of held.stored.all))
-            parts.sessions.restores.items is.no_restores;
-        sequence = is.first;
-      };
+      sessions = AreSessions-none n.holds (given (slots parts)) (contents_of held.stored.all) parts.sessions is.none is.first;
       view = kept_none parts.views.kept office.hosts held.stored.backups is.no_view;
       sound = record {
         office = IsSound-reopened office (not_raised office held.stored.stands.sound);
         names = record { distinct = held.stored.used.distinct };
       };
     };
-    claimed = λ id. fresh_claims (slots parts id) (fresh id) ∙ sym (no_claims parts.sessions id is.no_dumps is.no_restores);
+    claimed = λ id. fresh_claims (slots parts id) (fresh id) ∙ sym (claims_in-none parts.sessions is.none id);
   }
 
   pub raised_running : (parts : StoreParts D N S d n) (journal : Journal D d) (found : Found N S n) (a b : Durable) (epoch : ℕ)

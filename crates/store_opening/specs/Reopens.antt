@@ -24,6 +24,7 @@ use Rattle.office_model.specs.Meaning.{Reply}
 use Rattle.office_model.specs.Office.{Durable, Names, reopened, last_sequence}
 use Rattle.office_model.specs.declared.event.Event.TheVariants.{Reopen}
 use Rattle.office_model.specs.Step.{State, Running, Halted, IsAnswerTo, IsPicked}
+use Rattle.open_sessions.specs.Opened.{AreNone}
 use Rattle.store_parts.specs.declared.parts.StoreParts.{StoreParts}
 use Rattle.store_parts.specs.Held.{MayBe}
 use Rattle.store_parts.specs.States.{IsRunning}
@@ -78,8 +79,7 @@ module _ {D N S : Type 0} {d : DiskGhosts D} {n : NamerGhosts N S} where
     pub pool_is : parts.pool ≡ found.pool
     pub catalog_is : parts.catalog ≡ found.catalog
     pub counts_are : parts.counts ≡ found.counts
-    pub no_dumps : parts.sessions.dumps.items ≡ []
-    pub no_restores : parts.sessions.restores.items ≡ []
+    pub none : AreNone parts.sessions
     pub first : parts.sessions.sequence ≡ 0
     pub no_view : parts.views.kept ≡ None
 

@@ -11,7 +11,7 @@ use Rattle.pool_changes.specs.Slots.{claims_of}
 use Rattle.merge_view.specs.Views.{Rows}
 use Rattle.stored_trees.specs.Occurrences.{occurrences}
 use Rattle.open_sessions.specs.declared.sessions.OpenRestore.{OpenRestore}
-use Rattle.open_sessions.specs.Opened.{claims_in}
+use Rattle.open_sessions.specs.Opened.{claims_in, OnlyRestores}
 use Rattle.open_sessions.specs.SessionLaws.{claims_in_restores-remove, AreSessions-claimed}
 use Rattle.open_sessions.specs.CallLaws.{AreSessions-restore_taken, claims_in-restore_taken}
 use Rattle.office_model.specs.declared.session.SessionName.{SessionName}
@@ -47,7 +47,7 @@ module _ {D N S : Type 0} {d : DiskGhosts D} {n : NamerGhosts N S} (old : StoreP
       (go : ((id : PoolId) → occurrences id rows ≤ claims_of (slots old id)) → LetsGo (λ id. occurrences id rows) (slots old) (slots new))
       (form : new.pool.in_one_file ≡ old.pool.in_one_file)
       (restores : new.sessions.restores.items ≡ remove old.sessions.restores.items index)
-      (dumps : new.sessions.dumps ≡ old.sessions.dumps) (sequence : new.sessions.sequence ≡ old.sessions.sequence) where
+      (only : OnlyRestores old.sessions new.sessions) where
     gone : (office : Office) (names : Names) → IsRunning old office names
         → LetsGo (λ id. occurrences id restore.rows) (slots old) (slots new)
     gone office names at =
@@ -75,9 +75,9 @@ module _ {D N S : Type 0} {d : DiskGhosts D} {n : NamerGhosts N S} (old : StoreP
         (AreSessions-claimed n.holds (given (slots old)) (contents_of at.all) (given (slots new)) (contents_of at.all) (without office).volatile
         new.sessions
         (λ id g some. ((gone office names at id).given g (let same = claimed id in omega (arith, same, some)), refl))
-        (AreSessions-restore_taken old.sessions new.sessions dumps n.holds (given (slots old)) (contents_of at.all) office.volatile
+        (AreSessions-restore_taken old.sessions new.sessions only.beside n.holds (given (slots old)) (contents_of at.all) office.volatile
         at.sessions index
-        restores sequence))
+        restores only.sequence))
         claimed refl refl
         (AreSound-carried office names (CloseRead session) (record { answer = Done; after = without office }) names at.sound judged refl)
       where
@@ -86,7 +86,7 @@ module _ {D N S : Type 0} {d : DiskGhosts D} {n : NamerGhosts N S} (old : StoreP
           arith,
           (gone office names at id).claims,
           at.claimed id,
-          claims_in-restore_taken old.sessions new.sessions dumps id index restore there restores,
+          claims_in-restore_taken old.sessions new.sessions only.beside id index restore there restores,
         )
 
     pub runs_closed : {failed : Type 0} → Counted (count_of old) (count_of new) failed → (failed → ⊥)

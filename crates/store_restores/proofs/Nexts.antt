@@ -39,6 +39,8 @@ use Rattle.open_sessions.specs.declared.sessions.OpenRestore.{OpenRestore}
 use Rattle.open_sessions.specs.declared.sessions.Place.{Place}
 use Rattle.open_sessions.specs.declared.sessions.Place.TheVariants.{Entry, Content, Piece, Wrong}
 use Rattle.open_sessions.specs.declared.sessions.Sessions.{Sessions}
+use Rattle.open_sessions.specs.Opened.{OnlyRestores}
+use Rattle.open_sessions.specs.SessionLaws.{OnlyRestores-then}
 use Rattle.open_sessions.specs.Places.{IsAt, next_in, behind_entry}
 use Rattle.open_sessions.specs.PlaceLaws as PlaceLaws
 use Rattle.open_sessions.specs.EditLaws.{IsRestore-moved}
@@ -92,8 +94,7 @@ moved_twice {S} old mid new at restore place next first second = record {
   restores = second.restores
       ∙ ap (λ (items : List (OpenRestore S)). slice_set items at (record restore { place = next })) first.restores
       ∙ set_twice old.restores.items at (record restore { place = place }) (record restore { place = next });
-  dumps = second.dumps ∙ first.dumps;
-  sequence = second.sequence ∙ first.sequence;
+  only = OnlyRestores-then old mid new first.only second.only;
 }
 
 module _ {D N S : Type 0} {d : DiskGhosts D} {n : NamerGhosts N S} where
@@ -131,20 +132,19 @@ module _ {D N S : Type 0} {d : DiskGhosts D} {n : NamerGhosts N S} where
           ap (λ (items : List (OpenRestore S)). slice_get items index) (set restore mid_there)
           ∙ set_at mid.sessions.restores.items index restore between mid_there
 
-      pub moves_back : first.dumps ≡ mid.sessions.dumps → first.sequence ≡ mid.sessions.sequence
+      pub moves_back : OnlyRestores mid.sessions first
           → (place : Place S) (new : Sessions S)
           → ((r : OpenRestore S) → slice_get first.restores.items index ≡ Some r
           → new.restores.items ≡ slice_set first.restores.items index (record r { place = place }))
-          → new.dumps ≡ first.dumps → new.sequence ≡ first.sequence → MovesTo old.sessions index restore place new
-      moves_back dumps sequence place new again dumps' sequence' =
+          → OnlyRestores first new → MovesTo old.sessions index restore place new
+      moves_back only place new again only' =
           moved_twice old.sessions first new index restore (Entry 0) place
           (record {
             restores = set restore mid_there
                 ∙ ap (λ (s : Sessions S). slice_set s.restores.items index between) looks.sessions_same;
-            dumps = dumps ∙ ap (λ (s : Sessions S). s.dumps) looks.sessions_same;
-            sequence = sequence ∙ ap (λ (s : Sessions S). s.sequence) looks.sessions_same;
+            only = subst (λ (s : Sessions S). OnlyRestores s first) looks.sessions_same only;
           })
-          (record { restores = again between first_there; dumps = dumps'; sequence = sequence' })
+          (record { restores = again between first_there; only = only' })
 
   -- what is given next, of the restore that was found
   pub gives_found : (old new : StoreParts D N S d n) (session : SessionName) (at : ℕ)
@@ -245,13 +245,13 @@ module _ {D N S : Type 0} {d : DiskGhosts D} {n : NamerGhosts N S} where
       running_moved new office names at position place stays same moves is sound =
           running_stays old new office next names at stays
           (sessions_given old new office names at next.volatile (λ id g. ap is_given (same id) ∙ g)
-          (AreSessions-restore_moved old.sessions new.sessions moves.dumps n.holds (given (slots old)) (contents_of at.all) office.volatile
+          (AreSessions-restore_moved old.sessions new.sessions moves.only.beside n.holds (given (slots old)) (contents_of at.all) office.volatile
           at.sessions index
           (record (found office names at).value { position = position }) (record restore { place = place })
           (IsRestore-moved n.holds (given (slots old)) (contents_of at.all) (found office names at).value restore position place is
-          (found office names at).is) moves.restores moves.sequence))
+          (found office names at).is) moves.restores moves.only.sequence))
           (λ id. ap claims_of (same id) ∙ at.claimed id
-          ∙ sym (claims_in-restore_moved old.sessions new.sessions moves.dumps id index restore place there moves.restores))
+          ∙ sym (claims_in-restore_moved old.sessions new.sessions moves.only.beside id index restore place there moves.restores))
           refl refl sound
         where
           next : Office

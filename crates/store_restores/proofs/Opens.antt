@@ -39,7 +39,7 @@ use Rattle.office_model.specs.events.OpenDump.{next_session}
 use Rattle.office_model.specs.events.OpenRead as OpenReadEvent
 use Rattle.office_files.specs.Pooled.{contents_of, IsListed}
 use Rattle.open_sessions.specs.declared.sessions.Sessions.{Sessions}
-use Rattle.open_sessions.specs.Opened.{IsRestore, claims_in}
+use Rattle.open_sessions.specs.Opened.{IsRestore, claims_in, AreAlike}
 use Rattle.open_sessions.specs.PlaceLaws.{IsAt-start}
 use Rattle.open_sessions.specs.CallLaws.{AreSessions-restore_opened, claims_in-restore_opened}
 use Rattle.store_parts.specs.declared.parts.StoreParts.{StoreParts}
@@ -186,11 +186,7 @@ module _ {D N S : Type 0} {d : DiskGhosts D} {n : NamerGhosts N S} where
         views = kept.views ∙ looks.views_same;
         halted = kept.halted ∙ looks.halted_same;
         form = kept.form ∙ ap (λ (p : Pool N S n). p.in_one_file) looks.pool_same;
-        sessions = record {
-          dumps = kept.sessions.dumps ∙ ap (λ (s : Sessions S). s.dumps.items) looks.sessions_same;
-          restores = kept.sessions.restores ∙ ap (λ (s : Sessions S). s.restores.items) looks.sessions_same;
-          sequence = kept.sessions.sequence ∙ ap (λ (s : Sessions S). s.sequence) looks.sessions_same;
-        };
+        sessions = subst (λ (s : Sessions S). AreAlike s new.sessions) looks.sessions_same kept.sessions;
         names = λ id. kept.names id ∙ ap (λ (p : Pool N S n). slots_of p.names id) looks.pool_same;
       }
 
@@ -248,7 +244,7 @@ module _ {D N S : Type 0} {d : DiskGhosts D} {n : NamerGhosts N S} where
           arith,
           (gains id).claims,
           at.claimed id,
-          claims_in-restore_opened old.sessions new.sessions has.sessions.dumps id (fresh session rows) has.sessions.restores,
+          claims_in-restore_opened old.sessions new.sessions has.sessions.beside id (fresh session rows) has.sessions.restores,
         )
 
         running_opened : OpenReadEvent.carried name number office ≡ Ok (record { answer = RestoreAnswer session; after = next })
@@ -265,7 +261,7 @@ module _ {D N S : Type 0} {d : DiskGhosts D} {n : NamerGhosts N S} where
               names = near_gained (slots old) (slots new) (λ id. occurrences id rows) gains;
             })
             (sessions_given old new office names at next.volatile (λ id g. (gains id).given ∙ g)
-            (AreSessions-restore_opened old.sessions new.sessions has.sessions.dumps n.holds (given (slots old)) (contents_of at.all) office.volatile
+            (AreSessions-restore_opened old.sessions new.sessions has.sessions.beside n.holds (given (slots old)) (contents_of at.all) office.volatile
             at.sessions (OpenReadEvent.new_restore (next_session office) shows.backup.tree) (fresh session rows)
             is_restore has.sessions.restores has.sessions.sequence))
             claimed refl refl

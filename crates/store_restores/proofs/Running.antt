@@ -4,7 +4,7 @@
 --     running_stays      then the parts are at work, if the sessions are those of the office and claim what is claimed
 --     runs_ok, runs_err, runs_kept      an event was answered as promised
 use Rattle.std.specs.Prelude.{◌≡◌, ℕ, Bool, true, List, Option, Some, None, Ok, Err, is_some}
-use Rattle.std.proofs.Common.{refl, sym, ap, ◌∙◌, subst, arith}
+use Rattle.std.proofs.Common.{refl, sym, ap, ◌∙◌, subst}
 use Rattle.fault_counts.specs.Counts.{Counted}
 use Rattle.disk_trait.specs.declared.ids.PoolId.{PoolId}
 use Rattle.disk_trait.specs.declared.ids.FileId.TheVariants.{Pool as PoolFile}
@@ -29,14 +29,11 @@ use Rattle.office_model.specs.Meaning.{Carried, Judged}
 use Rattle.office_model.specs.Office.{Office, Durable, Volatile, Host, Names}
 use Rattle.office_model.specs.Step.{Running, IsAnswerTo, meaning_of}
 use Rattle.office_model.specs.UsedNames.{AreSound, AreNamesAfter}
-use Rattle.office_files.specs.Pairs.{AtEachPair}
 use Rattle.office_files.specs.Pooled.{contents_of}
 use Rattle.office_files.specs.Stands.{Stands}
 use Rattle.office_known.specs.KnownLaws.{known_of_office}
-use Rattle.open_sessions.specs.declared.sessions.OpenDump.{OpenDump}
-use Rattle.open_sessions.specs.declared.sessions.OpenRestore.{OpenRestore}
-use Rattle.open_sessions.specs.Opened.{IsDump, IsRestore, AreSessions, claims_in, claims_in_dumps, claims_in_restores}
-use Rattle.open_sessions.specs.SessionLaws.{AreSessions-kept}
+use Rattle.open_sessions.specs.Opened.{AreSessions, claims_in}
+use Rattle.open_sessions.specs.SessionLaws.{AreSessions-kept, AreSessions-alike, claims_in-alike}
 use Rattle.store_parts.specs.declared.parts.StoreParts.{StoreParts}
 use Rattle.store_parts.specs.Held.{given, AreCountsOf, IsKeptView}
 use Rattle.store_parts.specs.States.{slots, IsRunning}
@@ -180,22 +177,11 @@ module _ {D N S : Type 0} {d : DiskGhosts D} {n : NamerGhosts N S} where
     pub running_kept : HasKept old new → IsRunning new office names
     running_kept kept =
         running_stays old new office office names at (stays_kept old new kept)
-        (sessions_given office.volatile (λ id g. ap is_given (kept.names id) ∙ g) (record {
-          dumps = subst (λ (items : List OpenDump). AtEachPair (λ i. IsDump (given (slots old)) (contents_of at.all)) office.dumps items)
-              (sym kept.sessions.dumps) at.sessions.dumps;
-          restores = subst (λ (items : List (OpenRestore S)). AtEachPair (λ i. IsRestore n.holds (given (slots old)) (contents_of at.all))
-              office.restores items)
-              (sym kept.sessions.restores) at.sessions.restores;
-          sequence = kept.sessions.sequence ∙ at.sessions.sequence;
-        }))
-        (λ id. ap claims_of (kept.names id) ∙ at.claimed id ∙ sym (claims_same id)) refl refl at.sound
-      where
-        claims_same : (id : PoolId) → claims_in new.sessions id ≡ claims_in old.sessions id
-        claims_same id = omega (
-          arith,
-          ap (λ items. claims_in_dumps items id) kept.sessions.dumps,
-          ap (λ items. claims_in_restores items id) kept.sessions.restores,
-        )
+        (sessions_given office.volatile (λ id g. ap is_given (kept.names id) ∙ g)
+        (AreSessions-alike n.holds (given (slots old)) (contents_of at.all) office.volatile old.sessions new.sessions at.sessions
+        kept.sessions))
+        (λ id. ap claims_of (kept.names id) ∙ at.claimed id ∙ sym (claims_in-alike old.sessions new.sessions kept.sessions id))
+        refl refl at.sound
 
   -- ---- events
 

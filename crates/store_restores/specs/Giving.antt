@@ -29,6 +29,7 @@ use Rattle.open_sessions.specs.declared.sessions.OpenRestore.{OpenRestore}
 use Rattle.open_sessions.specs.declared.sessions.Place.{Place}
 use Rattle.open_sessions.specs.declared.sessions.Place.TheVariants.{Entry, Content, Piece, Wrong}
 use Rattle.open_sessions.specs.declared.sessions.Sessions.{Sessions}
+use Rattle.open_sessions.specs.Opened.{OnlyRestores}
 use Rattle.open_sessions.specs.Places.{behind_entry}
 use Rattle.store_parts.specs.declared.parts.StoreParts.{StoreParts}
 use Rattle.store_reads.specs.Shown.{node_in}
@@ -96,8 +97,7 @@ IsDamagedOr content digest refusal = ⊥
 
 pub record MovesTo {S : Type 0} (old : Sessions S) (at : ℕ) (restore : OpenRestore S) (place : Place S) (new : Sessions S) : Type 0 where
   pub restores : new.restores.items ≡ slice_set old.restores.items at (record restore { place = place })
-  pub dumps : new.dumps ≡ old.dumps
-  pub sequence : new.sequence ≡ old.sequence
+  pub only : OnlyRestores old new
 
 -- ---- whatever the files hold
 

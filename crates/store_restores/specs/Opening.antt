@@ -18,9 +18,9 @@ use Rattle.office_model.specs.Meaning.{Reply}
 use Rattle.open_sessions.specs.declared.sessions.OpenRestore.{OpenRestore}
 use Rattle.open_sessions.specs.declared.sessions.Place.TheVariants.{Entry}
 use Rattle.open_sessions.specs.declared.sessions.Sessions.{Sessions}
+use Rattle.open_sessions.specs.Opened.{BesideRestores, AreAlike}
 use Rattle.store_parts.specs.declared.parts.StoreParts.{StoreParts}
 use Rattle.store_parts.specs.States.{slots}
-use Rattle.store_dumps.specs.Alike.{AreAlike}
 use Rattle.store_dumps.specs.Claims.{Gains}
 
 abbrev pub session_of : ℕ → ℕ → SessionName
@@ -33,7 +33,7 @@ fresh name rows = record { name = name; rows = rows; place = Entry 0 }
 pub record IsOpened {S : Type 0} (old : Sessions S) (epoch : ℕ) (rows : Rows) (name : SessionName) (new : Sessions S) : Type 0 where
   pub name_is : name ≡ session_of epoch old.sequence
   pub restores : new.restores.items ≡ old.restores.items ++ fresh name rows ∷ []
-  pub dumps : new.dumps ≡ old.dumps
+  pub beside : BesideRestores old new
   pub sequence : new.sequence ≡ old.sequence + 1
 
 abbrev pub OpensRestore : {S : Type 0} → Sessions S → ℕ → Rows → Reply → Sessions S → Type 0

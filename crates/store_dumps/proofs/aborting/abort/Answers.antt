@@ -1,4 +1,4 @@
-use Rattle.std.proofs.Common.{refl, ap}
+use Rattle.std.proofs.Common.{refl}
 use Rattle.store_parts.specs.RefusalLaws.{runs_broken_by}
 use Rattle.store_parts.specs.RefusedLaws.{runs_no_dump}
 use Rattle.store_parts.specs.RunLaws.{runs_memory, counted_still}
@@ -16,5 +16,5 @@ returns-in-Err g c = runs_memory _ _ _ (reads_same _ _ refl c.in-Err.ensures.err
 pub returns : goal.returns
 returns g c = runs_aborted _ c.args.session _ c.in_ok-at.at c.dump-2.result.now c.in_ok-at.ensures.found
     c.dump-2.ensures refl refl refl refl refl
-    c.in-Ok.ensures.go c.release_dump.ensures.form c.take_dump-dump.ensures.others (ap (λ v. v.items) c.take_dump-dump.ensures.restores)
-    c.take_dump-dump.ensures.sequence
+    c.in-Ok.ensures.go c.release_dump.ensures.form c.take_dump-dump.ensures.others
+    c.take_dump-dump.ensures.only

@@ -43,8 +43,8 @@ returns-in-Ok-put_item g c =
     _ refl refl refl refl refl
     (go_content (slots_of c.stage.new.pool.names) (slots_of c.release.new.pool.names) _ _
     (c.content_of-before.ensures ∙ ap content_found (c.find.ensures c.index.result.now there)) c.release.ensures.go)
-    c.release.ensures.form (c.in-Ok-put_item.ensures.put c.index.result.now there) c.in-Ok-put_item.ensures.restores
-    c.in-Ok-put_item.ensures.sequence c.in-Ok.ensures.counted (λ e. absurd cc)
+    c.release.ensures.form (c.in-Ok-put_item.ensures.put c.index.result.now there) c.in-Ok-put_item.ensures.only
+    c.in-Ok.ensures.counted (λ e. absurd cc)
 
 pub returns-in-Err-put_item : goal.returns-in-Err-put_item
 returns-in-Err-put_item g c =

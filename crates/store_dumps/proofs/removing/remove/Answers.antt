@@ -1,4 +1,4 @@
-use Rattle.std.proofs.Common.{refl, ap, ◌∙◌}
+use Rattle.std.proofs.Common.{refl, ◌∙◌}
 use Rattle.std.proofs.lemmas.Option.{slice_get_read}
 use Rattle.pool_changes.specs.Kept.{slots_of}
 use Rattle.store_parts.specs.RefusalLaws.{runs_broken_by}
@@ -24,26 +24,15 @@ returns-in-Ok-remove g c = runs_removed _ c.args.session c.args.path.now c.in_ok
     (c.rows.ensures.rows ∙ c.in-Ok.ensures) c.release_rows.ensures.go)
     c.release_rows.ensures.form
     (c.in-Ok-remove.ensures.remove c.index.result.now (slice_get_read _ _ _ _ refl c.in_ok-at.ensures.within c.index.ensures))
-    (ap (λ v. v.items) c.in-Ok-remove.ensures.restores) c.in-Ok-remove.ensures.sequence
+    c.in-Ok-remove.ensures.only
 
 pub returns-in-Err-NoPath : goal.returns-in-Err-NoPath
 returns-in-Err-NoPath g c = runs_alike_refused _ _ _ _ refl refl refl refl refl refl
-    (record {
-      dumps = c.in-Err-NoPath.ensures.err;
-      restores = ap
-          (λ v. v.items) c.in-Err-NoPath.ensures.restores;
-      sequence = c.in-Err-NoPath.ensures.sequence;
-    })
+    c.in-Err-NoPath.ensures.err
     (no_path _ c.args.session c.args.path.now c.in_ok-at.at c.index.result.now c.in_ok-at.ensures.found
     (slice_get_read _ _ _ _ refl c.in_ok-at.ensures.within c.index.ensures)
     (c.in-Err-NoPath.ensures.no_path c.index.result.now c.in-Err-NoPath.field-0-is
     (slice_get_read _ _ _ _ refl c.in_ok-at.ensures.within c.index.ensures)))
 
 pub returns : goal.returns
-returns g c = runs_alike_memory _ _ _ refl refl refl refl refl refl
-    (record {
-      dumps = c.in-Err-Memory.ensures.err;
-      restores = ap
-          (λ v. v.items) c.in-Err-Memory.ensures.restores;
-      sequence = c.in-Err-Memory.ensures.sequence;
-    })
+returns g c = runs_alike_memory _ _ _ refl refl refl refl refl refl c.in-Err-Memory.ensures.err

@@ -39,8 +39,8 @@ returns-in-None-clause-runs g c = λ session e.
     (subst (λ (bytes : List ℕ). IsBehind g.N.Namer.holds g.N.Namer.digest_of c.set_place-place.result c.args.asked.now bytes c.place_behind-next.result) c.as_slice.ensures
     c.place_behind-next.ensures))
     (moves_back c.args.parts.now c.read_piece.new.parts c.in-Ok.ensures.looks c.args.at w.0 w.1 c.set_place-place.new.self
-    c.set_place-place.ensures.set c.set_place-place.ensures.dumps c.set_place-place.ensures.sequence c.place_behind-next.result
-    c.set_place.new.self c.set_place.ensures.set c.set_place.ensures.dumps c.set_place.ensures.sequence)
+    c.set_place-place.ensures.set c.set_place-place.ensures.only c.place_behind-next.result
+    c.set_place.new.self c.set_place.ensures.set c.set_place.ensures.only)
 
 pub returns-in-Some-clause-runs : goal.returns-in-Some-clause-runs
 returns-in-Some-clause-runs g c = λ session e.
@@ -81,8 +81,8 @@ returns-in-None-clause-gives g c = λ restore there.
               (subst (λ (bytes : List ℕ). IsBehind g.N.Namer.holds g.N.Namer.digest_of c.set_place-place.result c.args.asked.now bytes
               c.place_behind-next.result) c.as_slice.ensures c.place_behind-next.ensures);
           moves = moves_back c.args.parts.now c.read_piece.new.parts c.in-Ok.ensures.looks c.args.at restore there c.set_place-place.new.self
-              c.set_place-place.ensures.set c.set_place-place.ensures.dumps c.set_place-place.ensures.sequence c.place_behind-next.result
-              c.set_place.new.self c.set_place.ensures.set c.set_place.ensures.dumps c.set_place.ensures.sequence;
+              c.set_place-place.ensures.set c.set_place-place.ensures.only c.place_behind-next.result
+              c.set_place.new.self c.set_place.ensures.set c.set_place.ensures.only;
         },
         sym c.in-None.ensures,
       ),
@@ -103,8 +103,8 @@ returns-in-Some-clause-gives g c = λ restore there.
             (subst (λ (bytes : List ℕ). IsBehind g.N.Namer.holds g.N.Namer.digest_of c.set_place-place.result c.args.asked.now bytes
             c.place_behind-next.result) c.as_slice.ensures c.place_behind-next.ensures);
         moves = moves_back c.args.parts.now c.read_piece.new.parts c.in-Ok.ensures.looks c.args.at restore there c.set_place-place.new.self
-            c.set_place-place.ensures.set c.set_place-place.ensures.dumps c.set_place-place.ensures.sequence c.place_behind-next.result
-            c.set_place.new.self c.set_place.ensures.set c.set_place.ensures.dumps c.set_place.ensures.sequence;
+            c.set_place-place.ensures.set c.set_place-place.ensures.only c.place_behind-next.result
+            c.set_place.new.self c.set_place.ensures.set c.set_place.ensures.only;
       };
       digest = c.in-Some.digest;
       is = c.in-Some.ensures;
