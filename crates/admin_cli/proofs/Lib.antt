@@ -1,3 +1,4 @@
+pub mod ForeignLaws
 pub mod HeadlineLaws
 pub mod NightLaws
 pub mod RefusalLaws

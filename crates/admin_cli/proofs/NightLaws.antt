@@ -36,6 +36,7 @@ use Rattle.command_line.specs.Line.{Line, Night}
 use Rattle.admin_cli.specs.Command.{AsksFor}
 use Rattle.admin_cli.specs.Nights.{note_of_all, note_of_refused, note_of_night, IsRefusedFor, HasCause, Says, DoesNight}
 use Rattle.admin_cli.specs.Run.{IsServed, IsComplete}
+use Rattle.admin_cli.proofs.ForeignLaws.{night_foreign}
 use Rattle.admin_cli.proofs.RunLaws.{is_served, EndsWell}
 use Rattle.admin_cli.proofs.StopLaws.{later_by, night_stops}
 
@@ -115,6 +116,9 @@ module _ {D N S : Type 0} {d : DiskGhosts D} {n : NamerGhosts N S} (disk : D) (s
             (local_of works.moment (ahead_at read.zone works.moment)).day read.period works.ends
             (is_served disk store store' settles calm listed works.calls moved a b stands);
         later = omega (arith, calm, moved.later);
+        foreign = λ file is.
+            night_foreign store store' works.calls works.moment (local_of works.moment (ahead_at read.zone works.moment)).day read.period end
+            failed (store'.parts.halted || store'.parts.journal.halted) file moved works.ends is;
         note_is = refl;
       })
 

@@ -1,14 +1,20 @@
 -- What the program promises for its command `night`.
 --     note_of_night      the note of a run that did its night, or ended at a refusal
+--     IsDamagedTable      a file that a night names
 --     HasCause      why a night of a store at work is refused
 --     Says      what is said on the link
 --     DoesNight      the store was opened, and the night's calls were made
 --     RunsOnLink      what the program promises of a run over the one link
-use Rattle.std.specs.Prelude.{◌≡◌, ℕ, ◌≤◌, Bool, true, false, if◌then◌else◌, List, Option, None, Some, ◌⊎◌}
+use Rattle.std.specs.Prelude.{◌≡◌, ℕ, ◌≤◌, Bool, true, false, if◌then◌else◌, List, Option, None, Some, option_map, ◌⊎◌}
 use Rattle.fault_counts.specs.Counts.{Rose, Counted}
+use Rattle.disk_trait.specs.declared.ids.FileId.{FileId}
+use Rattle.disk_trait.specs.declared.ids.FileId.TheVariants.{Table}
 use Rattle.disk_trait.specs.declared.disk.Disk.{Ghosts as DiskGhosts}
+use Rattle.disk_trait.specs.Files.{Files}
 use Rattle.stream_traits.specs.Seen.{LinkSeen}
 use Rattle.stream_traits.specs.Told.{behind, WroteFront}
+use Rattle.journal_view.specs.Found.{seen}
+use Rattle.backup_views.specs.Faults.{IsNoTable}
 use Rattle.office_model.specs.Office.{Durable}
 use Rattle.office_model.specs.declared.refusal.Refusal.{Refusal}
 use Rattle.office_model.specs.declared.refusal.Refusal.TheVariants as R
@@ -42,6 +48,14 @@ note_of_night E.NotNow failed halted = note_of_all failed halted
 note_of_night (E.Refused refusal) failed halted = note_of_refused refusal halted
 note_of_night E.Memory failed halted = NoMemory
 
+-- the file is a backup's table, and what these files tell of it, that it is absent too, is no table's
+pub record IsDamagedTable (told : Option Files) (file : FileId) : Type 0 where
+  pub host : ℕ
+  pub number : ℕ
+  pub file_is : file ≡ Table host number
+  pub found : Option (List ℕ)
+  pub no_table : IsNoTable told file found
+
 -- a refusal of a store at work: for want of memory, or by a fault of the disk, which is counted. A night breaks no rule
 abbrev pub IsRefusedFor : Refusal → (faults faults' : ℕ) → Type 0
 IsRefusedFor (R.Broken rule) faults faults' = ⊥
@@ -70,7 +84,8 @@ Says (Some text) link link' failed = SaysText text link link' failed
 
 module _ {D : Type 0} (d : DiskGhosts D) (digest_of : List ℕ → List ℕ) where
   -- the words ask for `night`, the store was opened, and the night was done by the settings that were read: its calls lead from the
-  -- disk that came in to that handed back, and its line, if it ran to its end, was said on the link
+  -- disk that came in to that handed back, and its line, if it ran to its end, was said on the link. Over any disk a file is named only
+  -- if it is a table that the disk handed back holds none in
   pub record DoesNight (disk disk' : D) (line : Option Line) (settings : List ℕ) (link link' : LinkSeen)
       (moments moments' : Option (List ℕ)) (note : Note) : Type 0 where
     pub scheduled : Bool
@@ -84,6 +99,7 @@ module _ {D : Type 0} (d : DiskGhosts D) (digest_of : List ℕ → List ℕ) whe
     pub says : Says (text_of end) link link' failed
     pub cause : (a b : Durable) → StandsForEither d digest_of disk a b → HasCause end (d.fault_count disk) (d.fault_count disk')
     pub later : d.fault_count disk ≤ d.fault_count disk'
+    pub foreign : (file : FileId) → note ≡ Foreign file → IsDamagedTable (option_map seen (d.files disk')) file
     pub note_is : note ≡ note_of_night end failed halted
 
   -- the command was carried out over the one link, or no store was opened

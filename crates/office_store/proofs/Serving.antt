@@ -1,6 +1,6 @@
 -- From what the parts of a store do to what the store promises.
 use Rattle.std.specs.Prelude.{◌||◌}
-use Rattle.std.proofs.Common.{◌≡◌, ℕ, Bool, false, true, List, Option, None, Some, Err, refl, sym, ap, ◌∙◌, subst}
+use Rattle.std.proofs.Common.{◌≡◌, ℕ, Bool, false, true, List, Option, None, Some, Ok, Err, refl, sym, ap, ◌∙◌, subst}
 use Rattle.std.proofs.lemmas.Bool.{false≢true, or_parts}
 use Rattle.disk_trait.specs.declared.disk.Disk.{Ghosts as DiskGhosts}
 use Rattle.attr_records.specs.Items.{content_of}
@@ -9,18 +9,20 @@ use Rattle.journal_view.specs.View.{FindsOnly}
 use Rattle.journal_view.specs.ViewLaws.{FindsOnly-still}
 use Rattle.office_model.specs.declared.event.Event.{Event}
 use Rattle.office_model.specs.declared.event.Event.TheVariants.{Put, Reopen}
-use Rattle.office_model.specs.declared.refusal.Refusal.TheVariants.{Halted as HaltedReply, DiskFault}
+use Rattle.office_model.specs.declared.refusal.Refusal.TheVariants.{Broken, Halted as HaltedReply, DiskFault, Damaged, Memory}
 use Rattle.office_model.specs.Meaning.{Reply}
 use Rattle.office_model.specs.Office.{Office, Durable, Names}
 use Rattle.office_model.specs.Step.{State, Running, Halted, IsHaltedReply, IsStep, meaning_of}
 use Rattle.office_model.specs.UsedNames.{AreHaltedNamesAfter}
 use Rattle.office_model.specs.events.Put.{name_change}
+use Rattle.store_parts.specs.declared.parts.StoreParts.{StoreParts}
 use Rattle.store_parts.specs.States.{IsRunning, InState}
 use Rattle.store_parts.specs.Runs.{Steps, Runs}
 use Rattle.store_parts.specs.RunLaws.{counted_still}
 use Rattle.store_opening.specs.Begins.{MayLeave}
 use Rattle.store_opening.specs.Reopens.{Reopens, first_of, second_of}
 use Rattle.office_store.specs.declared.store.Store.{Store}
+use Rattle.office_store.specs.Damage.{IsThere, SaysOfFiles, TellsDamage}
 use Rattle.office_store.specs.Serves.{is_reopen, LeftBy, MayRecover, Serves}
 
 -- ---- whether an event is a reopening
@@ -47,9 +49,29 @@ stays_halted a b names (Put session path item) other = put_stays a b names (cont
 stays_halted a b names event other = ((refl, refl, refl), refl)
 
 module _ {D N S : Type 0} {d : DiskGhosts D} {n : NamerGhosts N S} where
+  -- what an answer says of the files, whatever it is
+  tells : (old : StoreParts D N S d n) (event : Event) (reply : Reply) (new : StoreParts D N S d n) → IsThere old event reply
+      → SaysOfFiles old event reply new → TellsDamage old event reply new
+  tells old event (Ok answer) new there says = (there, says)
+  tells old event (Err (Broken rule)) new there says = (there, says)
+  tells old event (Err HaltedReply) new there says = tt
+  tells old event (Err DiskFault) new there says = (there, says)
+  tells old event (Err (Damaged file found)) new there says = (there, says)
+  tells old event (Err Memory) new there says = (there, says)
+
+  reopening_tells : (old : StoreParts D N S d n) (reply : Reply) (new : StoreParts D N S d n) → Reopens old reply new
+      → TellsDamage old Reopen reply new
+  reopening_tells old (Ok answer) new reopens = (tt, reopens.whole)
+  reopening_tells old (Err (Broken rule)) new reopens = (tt, tt)
+  reopening_tells old (Err HaltedReply) new reopens = tt
+  reopening_tells old (Err DiskFault) new reopens = (tt, tt)
+  reopening_tells old (Err (Damaged file found)) new reopens = (tt, reopens.damaged file found refl)
+  reopening_tells old (Err Memory) new reopens = (tt, tt)
+
   -- an event of a store at work
   module _ (old new : Store D N S d n) (event : Event) (reply : Reply) (ready : old.parts.halted ≡ false)
-      (runs : Runs old.parts event reply new.parts) where
+      (runs : Runs old.parts event reply new.parts) (there : IsThere old.parts event reply)
+      (says : SaysOfFiles old.parts event reply new.parts) where
     event_steps : (state : State) → InState old.parts state → Steps state event reply new.parts
     event_steps (Running office names) at = runs.steps office names at
     event_steps (Halted a b names) at = absurd (false≢true (sym ready ∙ at.stuck))
@@ -66,6 +88,7 @@ module _ {D N S : Type 0} {d : DiskGhosts D} {n : NamerGhosts N S} where
           subst (λ (r : Bool). FindsOnly old.parts.journal new.parts.journal (LeftBy n.digest_of r state event)) (sym other)
           (event_left state at);
       in_kind = runs.in_kind;
+      damaged = tells old.parts event reply new.parts there says;
       counted = runs.counted;
     }
 
@@ -88,6 +111,7 @@ module _ {D N S : Type 0} {d : DiskGhosts D} {n : NamerGhosts N S} where
       steps = halted_steps;
       crash = λ state at. FindsOnly-still old.parts.journal (MayRecover n.digest_of state event);
       in_kind = tt;
+      damaged = tt;
       counted = counted_still (d.fault_count old.parts.journal.disk) (Err HaltedReply ≡ Err DiskFault) (λ e. absurd cc);
     }
 
@@ -99,14 +123,21 @@ module _ {D N S : Type 0} {d : DiskGhosts D} {n : NamerGhosts N S} where
       → Reopens old.parts reply new.parts → Serves old event reply new
   serves_reopen old new event reply asked is one steps crash reopens =
       subst (λ (e : Event). Serves old e reply new) (sym (reopening event (sym is ∙ one)))
-      (record { steps = steps; crash = crash; in_kind = reopens.in_kind; counted = reopens.counted })
+      (record {
+        steps = steps;
+        crash = crash;
+        in_kind = reopens.in_kind;
+        damaged = reopening_tells old.parts reply new.parts reopens;
+        counted = reopens.counted;
+      })
 
   -- the store asked whether it is halted, and went on
   pub answers : (old new : Store D N S d n) (event : Event) (reply : Reply) (asked halted : Bool) → asked ≡ is_reopen event
       → asked ≡ false → halted ≡ (old.parts.halted || old.parts.journal.halted) → halted ≡ false → Runs old.parts event reply new.parts
-      → Serves old event reply new
-  answers old new event reply asked halted is other stuck at_work runs =
-      serves_event old new event reply (or_parts old.parts.halted old.parts.journal.halted (sym stuck ∙ at_work)).0 runs (sym is ∙ other)
+      → IsThere old.parts event reply → SaysOfFiles old.parts event reply new.parts → Serves old event reply new
+  answers old new event reply asked halted is other stuck at_work runs there says =
+      serves_event old new event reply (or_parts old.parts.halted old.parts.journal.halted (sym stuck ∙ at_work)).0 runs there says
+      (sym is ∙ other)
 
   -- or was, and answered so
   pub refuses : (old : Store D N S d n) (event : Event) (asked halted : Bool) → asked ≡ is_reopen event → asked ≡ false

@@ -1,3 +1,4 @@
+pub mod Damage
 pub mod EndLaws
 pub mod Moves
 pub mod MovesLaws

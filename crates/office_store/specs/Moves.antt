@@ -1,8 +1,9 @@
 -- What a list of calls does to a store: a legal history from each state that it was in, and what a crash meanwhile leaves.
+--     AreServed old calls new      the events were answered one after the other
 --     MayRecoverIn digest_of state faults calls found      what an opening finds after a crash during one of the calls
 --     Goes old state calls new      the calls go from this state to one that the store is in
 --     Moves old calls new      so from each sound state that it was in
-use Rattle.std.specs.Prelude.{◌≡◌, ℕ, ◌≤◌, List, ◌∷◌, ◌++◌}
+use Rattle.std.specs.Prelude.{◌≡◌, ℕ, ◌≤◌, List, [], ◌∷◌, ◌++◌}
 use Rattle.disk_trait.specs.declared.disk.Disk.{Ghosts as DiskGhosts}
 use Rattle.disk_trait.specs.Files.{Files}
 use Rattle.pool_name.specs.declared.namer.Namer.{Ghosts as NamerGhosts}
@@ -11,7 +12,7 @@ use Rattle.office_model.specs.Step.{Call, State, IsSoundState}
 use Rattle.office_model.specs.History.{Leads}
 use Rattle.store_parts.specs.States.{InState}
 use Rattle.office_store.specs.declared.store.Store.{Store}
-use Rattle.office_store.specs.Serves.{MayRecover}
+use Rattle.office_store.specs.Serves.{MayRecover, Serves}
 
 -- a crash during one of the calls leaves what it may leave of its event, in a state to which the calls before it lead
 pub record MayRecoverIn (digest_of : List ℕ → List ℕ) (state : State) (faults : ℕ) (calls : List Call) (found : Files) : Type 0 where
@@ -25,6 +26,11 @@ pub record MayRecoverIn (digest_of : List ℕ → List ℕ) (state : State) (fau
   pub may : MayRecover digest_of mid call.0 found
 
 module _ {D N S : Type 0} {d : DiskGhosts D} {n : NamerGhosts N S} where
+  -- each store between came from the one before by one of the calls
+  abbrev pub AreServed : Store D N S d n → List Call → Store D N S d n → Type 0
+  AreServed old [] new = new ≡ old
+  AreServed old (call ∷ calls) new = (mid : Store D N S d n) × Serves old call.0 call.1 mid × AreServed mid calls new
+
   -- there is one legal history of these calls from this state to one that the store is in, and a crash meanwhile leaves what a
   -- crash during one of them does
   pub record Goes (old : Store D N S d n) (state : State) (calls : List Call) (new : Store D N S d n) : Type 0 where
@@ -39,3 +45,4 @@ module _ {D N S : Type 0} {d : DiskGhosts D} {n : NamerGhosts N S} where
   pub record Moves (old : Store D N S d n) (calls : List Call) (new : Store D N S d n) : Type 0 where
     pub goes : (state : State) → InState old.parts state → IsSoundState state → Goes old state calls new
     pub later : d.fault_count old.parts.journal.disk ≤ d.fault_count new.parts.journal.disk
+    pub each : AreServed old calls new

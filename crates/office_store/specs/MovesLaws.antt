@@ -1,7 +1,7 @@
 -- The laws of `Moves`: no calls, one call, and one list of calls after another.
 --     Moves-none, Moves-one, Moves-append
 use Rattle.std.specs.Prelude.{◌++◌}
-use Rattle.std.proofs.Common.{◌≡◌, ℕ, List, [], ◌∷◌, refl, sym, ap, ◌∙◌, arith}
+use Rattle.std.proofs.Common.{◌≡◌, ℕ, List, [], ◌∷◌, refl, sym, ap, ◌∙◌, subst, arith}
 use Rattle.std.proofs.lemmas.List.{append_assoc}
 use Rattle.disk_trait.specs.declared.disk.Disk.{Ghosts as DiskGhosts}
 use Rattle.disk_trait.specs.Files.{Files}
@@ -15,7 +15,7 @@ use Rattle.office_model.specs.laws.HistoryLaws.{Leads-none, Leads-one, Leads-app
 use Rattle.office_model.specs.laws.StateLaws.{IsSoundState-step}
 use Rattle.office_store.specs.declared.store.Store.{Store}
 use Rattle.office_store.specs.Serves.{MayRecover, Serves}
-use Rattle.office_store.specs.Moves.{MayRecoverIn, Goes, Moves}
+use Rattle.office_store.specs.Moves.{AreServed, MayRecoverIn, Goes, Moves}
 
 -- ---- a crash during one of two lists of calls
 
@@ -61,6 +61,7 @@ module _ {D N S : Type 0} {d : DiskGhosts D} {n : NamerGhosts N S} where
       crash = FindsOnly-still store.parts.journal (MayRecoverIn n.digest_of state (faults store) []);
     };
     later = omega arith;
+    each = refl;
   }
 
   in_one : (old : Store D N S d n) (state : State) (event : Event) (reply : Reply) (found : Files)
@@ -99,7 +100,12 @@ module _ {D N S : Type 0} {d : DiskGhosts D} {n : NamerGhosts N S} where
               (in_one old state event reply) (serves.crash state at);
         };
     later = serves.counted.later;
+    each = (new, serves, refl);
   }
+
+  served_append : (p q r : Store D N S d n) (xs ys : List Call) → AreServed p xs q → AreServed q ys r → AreServed p (xs ++ ys) r
+  served_append p q r [] ys a b = subst (λ (s : Store D N S d n). AreServed s ys r) a b
+  served_append p q r (x ∷ xs) ys a b = (a.0, a.1, served_append a.0 q r xs ys a.2 b)
 
   Goes-append : (p q r : Store D N S d n) (state : State) (xs ys : List Call) (a : Goes p state xs q) → Goes q a.next ys r
       → Goes p state (xs ++ ys) r
@@ -122,4 +128,5 @@ module _ {D N S : Type 0} {d : DiskGhosts D} {n : NamerGhosts N S} where
         let first = a.goes state at sound in
         Goes-append p q r state xs ys first (b.goes first.next first.in_state first.sound);
     later = omega (arith, a.later, b.later);
+    each = served_append p q r xs ys a.each b.each;
   }

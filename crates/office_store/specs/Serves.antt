@@ -19,6 +19,7 @@ use Rattle.store_parts.specs.Runs.{Steps, MayRecover as MayRecoverOf}
 use Rattle.store_opening.specs.Begins.{MayLeave}
 use Rattle.store_opening.specs.Reopens.{first_of, second_of}
 use Rattle.office_store.specs.declared.store.Store.{Store}
+use Rattle.office_store.specs.Damage.{TellsDamage}
 
 abbrev pub is_reopen : Event → Bool
 is_reopen Reopen = true
@@ -36,10 +37,12 @@ MayRecover digest_of state event found = LeftBy digest_of (is_reopen event) stat
 
 module _ {D N S : Type 0} {d : DiskGhosts D} {n : NamerGhosts N S} where
   -- The store answered an event: from each state that it was in by a step to a state that it is in; and a crash meanwhile leaves
-  -- what an opening finds to be an office of that step. Over any disk an answer is of the event's kind.
+  -- what an opening finds to be an office of that step. Over any disk an answer is of the event's kind, and says of the files that were
+  -- called for whether they are damaged.
   pub record Serves (old : Store D N S d n) (event : Event) (reply : Reply) (new : Store D N S d n) : Type 0 where
     pub steps : (state : State) → InState old.parts state → Steps state event reply new.parts
     pub crash : (state : State) → InState old.parts state
         → FindsOnly old.parts.journal new.parts.journal (MayRecover n.digest_of state event)
     pub in_kind : IfOk reply (IsAnswerTo event)
+    pub damaged : TellsDamage old.parts event reply new.parts
     pub counted : Counted (d.fault_count old.parts.journal.disk) (d.fault_count new.parts.journal.disk) (reply ≡ Err DiskFault)

@@ -1,6 +1,7 @@
 //! One event of a store, whichever it is.
 
 ghost use Rattle.std.specs.Prelude.{◌≡◌, ◌||◌, false};
+ghost use Rattle.office_store.specs.Damage.{IsThere, SaysOfFiles};
 ghost use Rattle.office_store.specs.Serves.{is_reopen};
 ghost use Rattle.store_parts.specs.Runs.{Runs};
 
@@ -34,7 +35,9 @@ fn carry_out<D: Disk, N: Namer>(
     requires ready { parts.old.halted ≡ false }
     requires journal_ready { parts.old.journal.halted ≡ false }
     requires other { is_reopen event.now ≡ false }
-    ensures { Runs parts.old event.now result parts.new }
+    ensures runs { Runs parts.old event.now result parts.new }
+    ensures there { IsThere parts.old event.now result }
+    ensures files { SaysOfFiles parts.old event.now result parts.new }
 {
     match event {
         Event::AddHost { host, rules } => add_host(parts, alloc, host, rules),

@@ -7,6 +7,10 @@
 //! of `office_model` to a state that it is in, and whatever a crash meanwhile leaves, an opening finds an office of that step.
 //! `Moves` of `specs/Moves` says it of a list of calls: a legal history.
 //!
+//! Over any disk that tells its files, a damaged one too, `TellsDamage` of `specs/Damage` holds of each answer: after Ok each
+//! table, content and index that the event called for was there, in its grammar or with its digest, and `Damaged` names one
+//! that wasn't, with what was found of it. An event that calls for no file never answers `Damaged`.
+//!
 //! ```text
 //! let mut store = Store::open(alloc, disk, Md5Namer)?;
 //! store.apply(alloc, &Event::AddHost { host, rules })?;

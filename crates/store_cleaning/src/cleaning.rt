@@ -2,6 +2,7 @@
 
 ghost use Rattle.std.specs.Prelude.{◌≡◌, ◌==◌, ◌&&◌, false};
 ghost use Rattle.office_model.specs.declared.event.Event.TheVariants.{Clean};
+ghost use Rattle.office_model.specs.History.{IsUndamaged};
 ghost use Rattle.store_parts.specs.Runs.{Runs};
 
 use disk_trait::Disk;
@@ -30,7 +31,8 @@ pub fn clean<D: Disk, N: Namer>(
     bucket: u8,
 ) -> Result<Answer, Refusal>
     requires { parts.old.journal.halted ≡ false }
-    ensures { Runs parts.old (Clean bucket) result parts.new }
+    ensures runs { Runs parts.old (Clean bucket) result parts.new }
+    ensures undamaged { IsUndamaged result }
 {
     if bucket >= BUCKETS {
         return Err(Refusal::Broken(BrokenRule::BadBucket));

@@ -2,6 +2,7 @@
 
 ghost use Rattle.std.specs.Prelude.{◌≡◌, false};
 ghost use Rattle.office_model.specs.declared.event.Event.TheVariants.{Sweep};
+ghost use Rattle.office_model.specs.History.{IsUndamaged};
 ghost use Rattle.store_parts.specs.Runs.{Runs};
 
 use disk_trait::Disk;
@@ -13,7 +14,8 @@ use store_parts::StoreParts;
 /// other Pool file; after `DiskFault` some may be left. The office stays, and so does the store at work.
 pub fn sweep<D: Disk, N: Namer>(parts: &mut StoreParts<D, N>) -> Result<Answer, Refusal>
     requires { parts.old.journal.halted ≡ false }
-    ensures { Runs parts.old Sweep result parts.new }
+    ensures runs { Runs parts.old Sweep result parts.new }
+    ensures undamaged { IsUndamaged result }
 {
     match parts.pool.sweep(&mut parts.journal) {
         Ok(()) => {}

@@ -5,6 +5,7 @@
 --     said_broken, said_memory      of a broken rule, and of want of memory
 --     said_none      of an event that calls for none
 --     said_at, said_of_host      of the host of a name
+--     hostless_broken, hostless_memory, has_host      whether there is such a host
 use Rattle.std.specs.Prelude.{◌≡◌, ℕ, false, List, [], ◌∷◌, Option, Some, Result, Ok, Err, slice_get}
 use Rattle.std.specs.Result.{IsErrAnd}
 use Rattle.std.proofs.Common.{refl, sym, ap, ◌∙◌, subst, arith}
@@ -17,13 +18,13 @@ use Rattle.backup_index.specs.Index.{Index as HostIndex}
 use Rattle.merge_view.specs.Views.{Rows}
 use Rattle.backup_views.specs.Stored.{AreTableFiles}
 use Rattle.backup_delete.specs.Windows.{part, any_gone, IsWindow}
-use Rattle.office_catalog.specs.Known.{Known, IsCatalog}
+use Rattle.office_catalog.specs.Known.{Known, IsCatalog, host_named, names_of}
 use Rattle.office_model.specs.declared.refusal.BrokenRule.{BrokenRule}
 use Rattle.office_model.specs.declared.refusal.Refusal.{Refusal}
 use Rattle.office_model.specs.declared.refusal.Refusal.TheVariants as R
 use Rattle.store_parts.specs.declared.parts.StoreParts.{StoreParts}
 use Rattle.store_parts.specs.Writes.{IsWriteFault}
-use Rattle.store_deletions.specs.Called.{HasCalled, SaysOfTables}
+use Rattle.store_deletions.specs.Called.{HasCalled, SaysOfTables, HasHost}
 
 some_same : {A : Type 0} (x y : A) → Some x ≡ Some y → x ≡ y
 some_same x y e = cc
@@ -120,3 +121,26 @@ module _ {D N S : Type 0} {d : DiskGhosts D} {n : NamerGhosts N S} where
 
   pub said_none : {A : Type 0} (old new : StoreParts D N S d n) (p : ℕ) (done : A) → SaysOfTables old new p [] (Ok done)
   said_none old new p done index here = none_called (told old.journal) p index.lines
+
+  -- ---- whether there is a host of the name
+
+  pub hostless_broken : {A : Type 0} (old : StoreParts D N S d n) (name : List ℕ) (result : Result A Refusal) (rule : BrokenRule)
+      → IsErrAnd result (λ refusal. refusal ≡ R.Broken rule) → HasHost old name result
+  hostless_broken old name (Ok done) rule e = absurd e
+  hostless_broken {A} old name (Err refusal) rule e = subst (λ (r : Refusal). HasHost {A = A} old name (Err r)) (sym e) tt
+
+  pub hostless_memory : {A : Type 0} (old : StoreParts D N S d n) (name : List ℕ) (result : Result A Refusal)
+      → IsErrAnd result (λ refusal. refusal ≡ R.Memory) → HasHost old name result
+  hostless_memory old name (Ok done) e = absurd e
+  hostless_memory {A} old name (Err refusal) e = subst (λ (r : Refusal). HasHost {A = A} old name (Err r)) (sym e) tt
+
+  pub has_host : {A : Type 0} (old : StoreParts D N S d n) (name : List ℕ) (place : ℕ) (index : HostIndex)
+      → Some place ≡ host_named (names_of old.catalog.hosts) name → slice_get old.catalog.hosts place ≡ Some index
+      → (result : Result A Refusal) → HasHost old name result
+  has_host old name place index named here (Ok done) = record { place = place; index = index; named = named; here = here }
+  has_host old name place index named here (Err (R.Damaged file found)) =
+      record { place = place; index = index; named = named; here = here }
+  has_host old name place index named here (Err (R.Broken rule)) = tt
+  has_host old name place index named here (Err R.Halted) = tt
+  has_host old name place index named here (Err R.DiskFault) = tt
+  has_host old name place index named here (Err R.Memory) = tt

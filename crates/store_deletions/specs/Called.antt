@@ -2,6 +2,7 @@
 --     IsRead old new      files were read, and all stays
 --     HasCalled told host lines numbers      the tables that the deletion of these numbers calls for are there
 --     SaysOfTables old new p numbers result      what Ok says of them, and what Damaged says
+--     HasHost old name result      both are said only if there is a host of the name
 use Rattle.std.specs.Prelude.{⊤, ◌≡◌, ℕ, List, Option, Some, Result, Ok, Err, slice_get}
 use Rattle.disk_trait.specs.declared.disk.Disk.{Ghosts as DiskGhosts}
 use Rattle.disk_trait.specs.Files.{Files}
@@ -13,9 +14,17 @@ use Rattle.merge_view.specs.Views.{Rows}
 use Rattle.backup_views.specs.Stored.{AreTableFiles}
 use Rattle.backup_views.specs.Faults.{IsDamaged}
 use Rattle.backup_delete.specs.Windows.{part, IsWindow}
+use Rattle.office_catalog.specs.Known.{Known, host_named, names_of}
 use Rattle.office_model.specs.declared.refusal.Refusal.{Refusal}
 use Rattle.office_model.specs.declared.refusal.Refusal.TheVariants as R
 use Rattle.store_parts.specs.declared.parts.StoreParts.{StoreParts}
+
+-- a host of this name is here
+pub record IsHostHere (known : Known) (name : List ℕ) : Type 0 where
+  pub place : ℕ
+  pub index : HostIndex
+  pub named : Some place ≡ host_named (names_of known.hosts) name
+  pub here : slice_get known.hosts place ≡ Some index
 
 -- the tables of a window of these backups, which a deletion of these numbers touches, are there, each in its grammar
 pub record HasCalled (told : Option Files) (host : ℕ) (lines : List Line) (numbers : List ℕ) : Type 0 where
@@ -40,3 +49,8 @@ module _ {D N S : Type 0} {d : DiskGhosts D} {n : NamerGhosts N S} where
       IsRead old new
       × ((index : HostIndex) → slice_get old.catalog.hosts p ≡ Some index → IsDamaged (told old.journal) p index.lines file found)
   SaysOfTables old new p numbers (Err refusal) = ⊤
+
+  abbrev pub HasHost : {A : Type 0} → StoreParts D N S d n → List ℕ → Result A Refusal → Type 0
+  HasHost old name (Ok done) = IsHostHere old.catalog name
+  HasHost old name (Err (R.Damaged file found)) = IsHostHere old.catalog name
+  HasHost old name (Err refusal) = ⊤

@@ -4,7 +4,7 @@ ghost use Rattle.std.specs.Prelude.{◌≡◌, ℕ, [], ◌∷◌, Some, false};
 ghost use Rattle.office_catalog.specs.Known.{host_named, names_of};
 ghost use Rattle.office_model.specs.declared.event.Event.TheVariants.{Delete};
 ghost use Rattle.store_parts.specs.Runs.{Runs};
-ghost use Rattle.store_deletions.specs.Called.{SaysOfTables};
+ghost use Rattle.store_deletions.specs.Called.{SaysOfTables, HasHost};
 
 use crate::judge::deletable;
 use crate::shorten::shorten;
@@ -28,6 +28,7 @@ pub fn delete<D: Disk, N: Namer>(
     ensures runs { Runs parts.old (Delete host.now number) result parts.new }
     ensures tables { (place : ℕ) → Some place ≡ host_named (names_of parts.old.catalog.hosts) host.now
         → SaysOfTables parts.old parts.new place (number ∷ []) result }
+    ensures host { HasHost parts.old host.now result }
 {
     let at = parts.host(host)?;
     deletable(parts, at, number)?;

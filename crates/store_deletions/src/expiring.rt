@@ -5,7 +5,7 @@ ghost use Rattle.backup_index.specs.Index.{Index};
 ghost use Rattle.office_catalog.specs.Known.{host_named, names_of};
 ghost use Rattle.office_model.specs.declared.event.Event.TheVariants.{Expire};
 ghost use Rattle.store_parts.specs.Runs.{Runs};
-ghost use Rattle.store_deletions.specs.Called.{SaysOfTables};
+ghost use Rattle.store_deletions.specs.Called.{SaysOfTables, HasHost};
 ghost use Rattle.store_deletions.specs.Shortens.{named_numbers};
 
 use crate::judge::named_numbers;
@@ -32,6 +32,7 @@ pub fn expire<D: Disk, N: Namer>(
     ensures tables { (place : ℕ) (index : Index) → Some place ≡ host_named (names_of parts.old.catalog.hosts) host.now
         → slice_get parts.old.catalog.hosts place ≡ Some index
         → SaysOfTables parts.old parts.new place (named_numbers index.rules now index.lines) result }
+    ensures host { HasHost parts.old host.now result }
 {
     let at = parts.host(host)?;
     let numbers = named_numbers(alloc, &parts.catalog.hosts()[at], now)?;

@@ -6,6 +6,7 @@ pub mod Counting
 pub mod Seen
 pub mod Staging
 pub mod Staged
+pub mod Undamaged
 pub mod Puts
 pub mod Gaining
 pub mod Bases

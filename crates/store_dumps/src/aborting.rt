@@ -2,6 +2,7 @@
 
 ghost use Rattle.std.specs.Prelude.{◌≡◌, false};
 ghost use Rattle.office_model.specs.declared.event.Event.TheVariants.{Abort};
+ghost use Rattle.office_model.specs.History.{IsUndamaged};
 ghost use Rattle.store_parts.specs.Runs.{Runs};
 
 use crate::claims::release_dump;
@@ -19,7 +20,8 @@ pub fn abort<D: Disk, N: Namer>(
     session: SessionName,
 ) -> Result<Answer, Refusal>
     requires ready { parts.old.halted ≡ false }
-    ensures { Runs parts.old (Abort session) result parts.new }
+    ensures runs { Runs parts.old (Abort session) result parts.new }
+    ensures undamaged { IsUndamaged result }
 {
     let at = parts.dump(session)?;
     match release_dump(&mut parts.pool, alloc, parts.sessions.dump(at)) {

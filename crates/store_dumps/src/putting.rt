@@ -3,6 +3,7 @@
 ghost use Rattle.std.specs.Prelude.{◌≡◌, ◌<◌, ℕ, List, Option, false, Some, None, length, slice_get, slice_set, IfOk, IfErr, OnOk, OnErr, IsErrOf};
 ghost use Rattle.std.specs.Option.{option_copied};
 ghost use Rattle.fault_counts.specs.Counts.{Counted};
+ghost use Rattle.disk_trait.specs.declared.ids.PoolId.{PoolId};
 ghost use Rattle.disk_trait.specs.Files.{Files};
 ghost use Rattle.disk_trait.specs.Images.{Leaves};
 ghost use Rattle.intent_journal.specs.Overlay.{ComesTo};
@@ -18,6 +19,7 @@ ghost use Rattle.pool_store.specs.Pools.{Misses, IsCertain, IsNotForeign};
 ghost use Rattle.open_sessions.specs.declared.sessions.OpenDump.{OpenDump};
 ghost use Rattle.office_model.specs.declared.event.Event.TheVariants.{Put};
 ghost use Rattle.tree_frames.specs.Frames.{bytes_of};
+ghost use Rattle.office_model.specs.History.{IsUndamaged};
 ghost use Rattle.store_parts.specs.Runs.{Runs};
 ghost use Rattle.open_sessions.specs.Opened.{OnlyDumps, AreAlike};
 ghost use Rattle.store_dumps.specs.Putting.{record_for, content_found, TakesIn, refused_put};
@@ -97,6 +99,7 @@ fn stage<D: Disk, N: Namer>(
     ensures damaged { IfErr result (SaysDamaged N.digest_of (D.files journal.old.disk)) }
     ensures given { IfErr result (SaysGiven (slots_of pool.old.names)) }
     ensures kind { IfErr result IsNotForeign }
+    ensures undamaged { IfErr result (λ fault. (other : PoolId) (found : Option (List ℕ)) → fault ≡ PoolFault.Damaged other found → ⊥) }
     ensures certain { IsCertain (slots_of pool.old.names) (D.uncertain journal.old.disk) → IsCertain (slots_of pool.old.names) (D.uncertain journal.new.disk) }
     ensures crash { (all : Files) → D.files journal.old.disk ≡ Some all → IsCertain (slots_of pool.old.names) (D.uncertain journal.old.disk)
         → Leaves D.moment D.left_since journal.old.disk journal.new.disk (ComesTo all (unlisted (slots_of pool.old.names))) }
@@ -176,7 +179,8 @@ pub fn put<D: Disk, N: Namer>(
 ) -> Result<Answer, Refusal>
     requires ready { parts.old.halted ≡ false }
     requires journal_ready { parts.old.journal.halted ≡ false }
-    ensures { Runs parts.old (Put session path.now item.now) result parts.new }
+    ensures runs { Runs parts.old (Put session path.now item.now) result parts.new }
+    ensures undamaged { IsUndamaged result }
 {
     let at = parts.dump(session)?;
     match broken_rule(&parts.sessions.dumps[at].tree, path, item) {

@@ -2,6 +2,7 @@
 
 ghost use Rattle.std.specs.Prelude.{◌≡◌, false};
 ghost use Rattle.office_model.specs.declared.event.Event.TheVariants.{Remove};
+ghost use Rattle.office_model.specs.History.{IsUndamaged};
 ghost use Rattle.store_parts.specs.Runs.{Runs};
 
 use crate::claims::release_rows;
@@ -22,7 +23,8 @@ pub fn remove<D: Disk, N: Namer>(
     path: &PathName,
 ) -> Result<Answer, Refusal>
     requires ready { parts.old.halted ≡ false }
-    ensures { Runs parts.old (Remove session path.now) result parts.new }
+    ensures runs { Runs parts.old (Remove session path.now) result parts.new }
+    ensures undamaged { IsUndamaged result }
 {
     let at = parts.dump(session)?;
     let removed = match parts.sessions.dumps[at].tree.within(alloc, path) {

@@ -4,3 +4,4 @@ pub mod Closes
 pub mod Opens
 pub mod Steps
 pub mod Nexts
+pub mod Heres

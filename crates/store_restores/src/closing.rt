@@ -2,6 +2,7 @@
 
 ghost use Rattle.std.specs.Prelude.{◌≡◌, false};
 ghost use Rattle.office_model.specs.declared.event.Event.TheVariants.{CloseRead};
+ghost use Rattle.office_model.specs.History.{IsUndamaged};
 ghost use Rattle.store_parts.specs.Runs.{Runs};
 
 use disk_trait::Disk;
@@ -17,7 +18,8 @@ pub fn close_read<D: Disk, N: Namer>(
     restore: SessionName,
 ) -> Result<Answer, Refusal>
     requires ready { parts.old.halted ≡ false }
-    ensures { Runs parts.old (CloseRead restore) result parts.new }
+    ensures runs { Runs parts.old (CloseRead restore) result parts.new }
+    ensures undamaged { IsUndamaged result }
 {
     let at = parts.restore(restore)?;
     let closed = parts.sessions.take_restore(at);

@@ -7,7 +7,7 @@ ghost use Rattle.open_sessions.specs.declared.sessions.Next.TheVariants.{Piece a
 ghost use Rattle.open_sessions.specs.declared.sessions.OpenRestore.{OpenRestore};
 ghost use Rattle.open_sessions.specs.Places.{next_in};
 ghost use Rattle.store_parts.specs.Runs.{Runs};
-ghost use Rattle.store_restores.specs.Finding.{place_of};
+ghost use Rattle.store_restores.specs.Finding.{place_of, HasRestore};
 ghost use Rattle.store_restores.specs.Giving.{IsDamagedOr, GivesNext};
 
 use crate::digests::{place_behind, room_of, wrong_at};
@@ -79,6 +79,7 @@ pub fn read_next<D: Disk, N: Namer>(
     ensures gives { (at : ℕ) (session : OpenRestore N.State) → Some at ≡ place_of parts.old.sessions.restores.items restore
         → slice_get parts.old.sessions.restores.items at ≡ Some session
         → GivesNext (next_in session.rows session.place) parts.old at session result parts.new }
+    ensures here { HasRestore parts.old restore result }
 {
     let at = parts.restore(restore)?;
     match parts.sessions.next(at) {

@@ -9,7 +9,7 @@ use Rattle.store_parts.specs.RefusalLaws.{runs_broken_by}
 use Rattle.store_parts.specs.RefusedLaws.{runs_no_host, runs_broken}
 use Rattle.store_deletions.specs.MeaningLaws.{no_host_delete, deleting_broken, deleting}
 use Rattle.store_deletions.specs.AfterLaws.{within_there}
-use Rattle.store_deletions.proofs.Calling.{said_again, said_broken, said_at}
+use Rattle.store_deletions.proofs.Calling.{said_again, said_broken, said_at, hostless_broken, has_host}
 use Rattle.store_deletions.proofs.deleting.delete.Goals as goal
 
 pub returns-in_err-at-clause-runs : goal.returns-in_err-at-clause-runs
@@ -60,3 +60,20 @@ pub returns-in-Err-clause-tables : goal.returns-in-Err-clause-tables
 returns-in-Err-clause-tables g c =
     said_at {A = Answer} c.args.parts.now c.shorten.new.parts _ c.in_ok-at.at (c.args.number ∷ []) (Err c.in-Err.refusal) c.in_ok-at.ensures.found
     (said_again (Unit {0}) Answer c.args.parts.now c.shorten.new.parts c.in_ok-at.at (c.args.number ∷ []) c.in-Err.refusal c.in-Err.ensures.tables)
+
+pub returns-in_err-at-clause-host : goal.returns-in_err-at-clause-host
+returns-in_err-at-clause-host g c = hostless_broken c.args.parts.now c.args.host.now c.from_residual.result _ c.from_residual.ensures.1
+
+pub returns-in_err-deletable-clause-host : goal.returns-in_err-deletable-clause-host
+returns-in_err-deletable-clause-host g c =
+    hostless_broken c.args.parts.now c.args.host.now c.from_residual-in_err-deletable.result _ c.from_residual-in_err-deletable.ensures.1
+
+pub returns-in-Ok-clause-host : goal.returns-in-Ok-clause-host
+returns-in-Ok-clause-host g c =
+    let index = within_there c.args.parts.now.catalog.hosts c.in_ok-at.at c.in_ok-at.ensures.within in
+    has_host {A = Answer} c.args.parts.now c.args.host.now c.in_ok-at.at index.0 c.in_ok-at.ensures.found index.1 (Ok Done)
+
+pub returns-in-Err-clause-host : goal.returns-in-Err-clause-host
+returns-in-Err-clause-host g c =
+    let index = within_there c.args.parts.now.catalog.hosts c.in_ok-at.at c.in_ok-at.ensures.within in
+    has_host {A = Answer} c.args.parts.now c.args.host.now c.in_ok-at.at index.0 c.in_ok-at.ensures.found index.1 (Err c.in-Err.refusal)

@@ -12,7 +12,7 @@ use Rattle.store_deletions.specs.MeaningLaws.{no_host_expire, expiring_none, exp
 use Rattle.store_deletions.specs.RunLaws.{runs_still}
 use Rattle.store_deletions.proofs.Flagging.{few_named}
 use Rattle.store_deletions.specs.Shortens.{named_numbers}
-use Rattle.store_deletions.proofs.Calling.{said_again, said_broken, said_memory, said_of_host, said_none}
+use Rattle.store_deletions.proofs.Calling.{said_again, said_broken, said_memory, said_of_host, said_none, hostless_broken, hostless_memory, has_host}
 use Rattle.store_deletions.proofs.Lookups.{index_there, none_there, some_there}
 use Rattle.store_deletions.proofs.expiring.expire.Goals as goal
 
@@ -101,3 +101,31 @@ returns-clause-tables g c =
     (c.as_slice-named.ensures.value ∙ c.in_ok-numbers.ensures)
     (said_again (Unit {0}) Answer c.args.parts.now c.shorten.new.parts c.in_ok-at.at c.as_slice-named.result.now c.in-Err.refusal
     c.in-Err.ensures.tables)
+
+pub returns-in_err-at-clause-host : goal.returns-in_err-at-clause-host
+returns-in_err-at-clause-host g c = hostless_broken c.args.parts.now c.args.host.now c.from_residual.result _ c.from_residual.ensures.1
+
+pub returns-in_err-numbers-clause-host : goal.returns-in_err-numbers-clause-host
+returns-in_err-numbers-clause-host g c =
+    hostless_memory c.args.parts.now c.args.host.now c.from_residual-in_err-numbers.result c.from_residual-in_err-numbers.ensures.1
+
+pub returns-then-is_empty-clause-host : goal.returns-then-is_empty-clause-host
+returns-then-is_empty-clause-host g c =
+    let there = index_there c.args.parts.now.catalog.hosts c.hosts.result.now c.in_ok-at.at c.index-hosts-at.result c.hosts.ensures.hosts
+    c.in_ok-at.ensures.within c.index-hosts-at.is in
+    has_host {A = Answer} c.args.parts.now c.args.host.now c.in_ok-at.at c.index-hosts-at.result c.in_ok-at.ensures.found there
+    (Ok (Expired 0))
+
+pub returns-in-Ok-clause-host : goal.returns-in-Ok-clause-host
+returns-in-Ok-clause-host g c =
+    let there = index_there c.args.parts.now.catalog.hosts c.hosts.result.now c.in_ok-at.at c.index-hosts-at.result c.hosts.ensures.hosts
+    c.in_ok-at.ensures.within c.index-hosts-at.is in
+    has_host {A = Answer} c.args.parts.now c.args.host.now c.in_ok-at.at c.index-hosts-at.result c.in_ok-at.ensures.found there
+    (Ok (Expired (length c.as_slice-named.result.now)))
+
+pub returns-clause-host : goal.returns-clause-host
+returns-clause-host g c =
+    let there = index_there c.args.parts.now.catalog.hosts c.hosts.result.now c.in_ok-at.at c.index-hosts-at.result c.hosts.ensures.hosts
+    c.in_ok-at.ensures.within c.index-hosts-at.is in
+    has_host {A = Answer} c.args.parts.now c.args.host.now c.in_ok-at.at c.index-hosts-at.result c.in_ok-at.ensures.found there
+    (Err c.in-Err.refusal)

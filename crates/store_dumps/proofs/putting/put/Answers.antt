@@ -7,19 +7,21 @@ use Rattle.store_dumps.specs.Putting.{TakesIn, content_found}
 use Rattle.store_parts.specs.RefusalLaws.{runs_broken_by}
 use Rattle.store_parts.specs.RefusedLaws.{runs_broken, runs_no_dump}
 use Rattle.store_dumps.proofs.Puts.{runs_same, no_dump_put, put_broken, runs_put, runs_put_back, runs_missed, go_content}
+use Rattle.store_parts.specs.UndamagedLaws.{undamaged_broken}
+use Rattle.store_dumps.proofs.Undamaged.{undamaged_pool, undamaged_put}
 use Rattle.store_dumps.proofs.putting.put.Goals as goal
 
-pub returns-in_err-at : goal.returns-in_err-at
-returns-in_err-at g c = runs_broken_by _ _ _ _ _ _ c.from_residual.ensures.1 c.in_err-at.ensures.rule
+pub returns-in_err-at-clause-runs : goal.returns-in_err-at-clause-runs
+returns-in_err-at-clause-runs g c = runs_broken_by _ _ _ _ _ _ c.from_residual.ensures.1 c.in_err-at.ensures.rule
     (runs_no_dump _ _ _ c.in_err-at.ensures.none (no_dump_put c.args.session c.args.path.now c.args.item.now))
 
-pub returns-in-Some : goal.returns-in-Some
-returns-in-Some g c = runs_broken _ _ _
+pub returns-in-Some-clause-runs : goal.returns-in-Some-clause-runs
+returns-in-Some-clause-runs g c = runs_broken _ _ _
     (put_broken _ c.args.session c.args.path.now c.args.item.now c.in_ok-at.at c.index.result.now c.in_ok-at.ensures.found
     (slice_get_read _ _ _ _ refl c.in_ok-at.ensures.within c.index.ensures) c.in-Some.rule c.in-Some.ensures)
 
-pub returns-in-Err : goal.returns-in-Err
-returns-in-Err g c = runs_same _ _ _ _ _ c.refusal_of_pool.ensures.value
+pub returns-in-Err-clause-runs : goal.returns-in-Err-clause-runs
+returns-in-Err-clause-runs g c = runs_same _ _ _ _ _ c.refusal_of_pool.ensures.value
     (runs_missed c.args.parts.now c.args.session c.args.path.now c.args.item.now c.in_ok-at.at c.index.result.now c.in_ok-at.ensures.found
     (slice_get_read _ _ _ _ refl c.in_ok-at.ensures.within c.index.ensures) c.stage.new.journal c.stage.new.pool
     c.in-None.ensures
@@ -30,8 +32,8 @@ returns-in-Err g c = runs_same _ _ _ _ _ c.refusal_of_pool.ensures.value
     (g.D.Disk.files c.stage.new.journal.disk) b c.in-Err.fault) c.bytes_of.ensures c.in-Err.ensures.misses)
     c.in-Err.ensures.damaged c.in-Err.ensures.given c.in-Err.ensures.kind c.in-Err.ensures.counted)
 
-pub returns-in-Ok-put_item : goal.returns-in-Ok-put_item
-returns-in-Ok-put_item g c =
+pub returns-in-Ok-put_item-clause-runs : goal.returns-in-Ok-put_item-clause-runs
+returns-in-Ok-put_item-clause-runs g c =
     let there = slice_get_read _ _ _ _ refl c.in_ok-at.ensures.within c.index.ensures in
     runs_put c.args.parts.now c.args.session c.args.path.now c.args.item.now c.in_ok-at.at c.index.result.now c.in_ok-at.ensures.found
     there c.stage.new.journal c.stage.new.pool c.in-None.ensures
@@ -46,8 +48,8 @@ returns-in-Ok-put_item g c =
     c.release.ensures.form (c.in-Ok-put_item.ensures.put c.index.result.now there) c.in-Ok-put_item.ensures.only
     c.in-Ok.ensures.counted (λ e. absurd cc)
 
-pub returns-in-Err-put_item : goal.returns-in-Err-put_item
-returns-in-Err-put_item g c =
+pub returns-in-Err-put_item-clause-runs : goal.returns-in-Err-put_item-clause-runs
+returns-in-Err-put_item-clause-runs g c =
     let there = slice_get_read _ _ _ _ refl c.in_ok-at.ensures.within c.index.ensures in
     runs_same _ _ _ _ _ c.refused_put.ensures
     (runs_put_back c.args.parts.now c.args.session c.args.path.now c.args.item.now c.in_ok-at.at c.index.result.now c.in_ok-at.ensures.found
@@ -61,3 +63,12 @@ returns-in-Err-put_item g c =
     (λ broken is tree. c.in-Err-put_item.ensures.rule broken c.index.result.now is there tree) refl refl refl refl refl
     c.release-in-Err-put_item.ensures.go c.release-in-Err-put_item.ensures.form c.in-Err-put_item.ensures.err c.in-Ok.ensures.counted
     (λ e. absurd cc))
+
+pub returns-in_err-at-clause-undamaged : goal.returns-in_err-at-clause-undamaged
+returns-in_err-at-clause-undamaged g c = undamaged_broken c.from_residual.result _ c.from_residual.ensures.1
+
+pub returns-in-Err-clause-undamaged : goal.returns-in-Err-clause-undamaged
+returns-in-Err-clause-undamaged g c = undamaged_pool c.refusal_of_pool.result c.in-Err.fault c.refusal_of_pool.ensures.value c.in-Err.ensures.kind c.in-Err.ensures.undamaged
+
+pub returns-in-Err-put_item-clause-undamaged : goal.returns-in-Err-put_item-clause-undamaged
+returns-in-Err-put_item-clause-undamaged g c = undamaged_put c.refused_put.result c.in-Err-put_item.fault c.refused_put.ensures

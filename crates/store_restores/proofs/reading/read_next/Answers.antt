@@ -1,8 +1,9 @@
-use Rattle.std.proofs.Common.{refl, ap}
+use Rattle.std.proofs.Common.{Ok, Err, refl, ap}
 use Rattle.office_model.specs.declared.answer.Answer.TheVariants.{Next as NextAnswer}
 use Rattle.store_parts.specs.RefusalLaws.{runs_broken_by}
 use Rattle.store_parts.specs.RefusedLaws.{runs_no_restore}
 use Rattle.store_restores.proofs.Nexts.{there_is, no_restore_next, next_entry, next_memory, next_known, none_found, gives_found}
+use Rattle.store_restores.proofs.Heres.{no_restore_said, has_restore}
 use Rattle.store_restores.proofs.reading.read_next.Goals as goal
 
 pub returns-in_err-at-clause-runs : goal.returns-in_err-at-clause-runs
@@ -52,3 +53,21 @@ pub returns-in-Wrong-clause-gives : goal.returns-in-Wrong-clause-gives
 returns-in-Wrong-clause-gives g c =
     gives_found c.args.parts.now _ c.args.restore c.in_ok-at.at c.in_ok-at.ensures.found _ _ (λ session there. c.in-Wrong.ensures.is session there)
     (λ session there. (c.wrong_content.ensures, refl))
+
+pub returns-in_err-at-clause-here : goal.returns-in_err-at-clause-here
+returns-in_err-at-clause-here g c = no_restore_said c.args.parts.now c.args.restore c.from_residual.result _ c.from_residual.ensures.1
+
+pub returns-in-Ok-clause-here : goal.returns-in-Ok-clause-here
+returns-in-Ok-clause-here g c =
+    let w = there_is c.args.parts.now.sessions.restores.items c.in_ok-at.at c.in_ok-at.ensures.within in
+    has_restore c.args.parts.now c.args.restore c.in_ok-at.at w.0 c.in_ok-at.ensures.found w.1 (Ok (NextAnswer c.in-Ok.frame))
+
+pub returns-in-Piece-clause-here : goal.returns-in-Piece-clause-here
+returns-in-Piece-clause-here g c =
+    let w = there_is c.args.parts.now.sessions.restores.items c.in_ok-at.at c.in_ok-at.ensures.within in
+    has_restore c.args.parts.now c.args.restore c.in_ok-at.at w.0 c.in_ok-at.ensures.found w.1 c.give_piece.result
+
+pub returns-in-Wrong-clause-here : goal.returns-in-Wrong-clause-here
+returns-in-Wrong-clause-here g c =
+    let w = there_is c.args.parts.now.sessions.restores.items c.in_ok-at.at c.in_ok-at.ensures.within in
+    has_restore c.args.parts.now c.args.restore c.in_ok-at.at w.0 c.in_ok-at.ensures.found w.1 (Err c.wrong_content.result)

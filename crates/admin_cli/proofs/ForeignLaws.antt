@@ -1,0 +1,159 @@
+-- Which file a night names: over any disk, a table that isn't there, or is in no table's grammar.
+--     night_foreign
+use Rattle.std.specs.Prelude.{map}
+use Rattle.std.specs.List.{All}
+use Rattle.std.proofs.Common.{◌≡◌, ℕ, ℤ, Bool, true, false, List, [], ◌∷◌, ◌++◌, Option, Some, Ok, Err, sym, ◌∙◌, subst}
+use Rattle.std.proofs.lemmas.List.Elements.{All-nil, All-cons, All-head, All-tail, All-append, All-map}
+use Rattle.disk_trait.specs.declared.ids.FileId.{FileId}
+use Rattle.disk_trait.specs.declared.disk.Disk.{Ghosts as DiskGhosts}
+use Rattle.pool_name.specs.declared.namer.Namer.{Ghosts as NamerGhosts}
+use Rattle.journal_view.specs.View.{told}
+use Rattle.office_model.specs.declared.event.Event.{Event}
+use Rattle.office_model.specs.declared.event.Event.TheVariants as E
+use Rattle.office_model.specs.declared.answer.Answer.TheVariants as A
+use Rattle.office_model.specs.declared.refusal.Refusal.{Refusal}
+use Rattle.office_model.specs.declared.refusal.Refusal.TheVariants as R
+use Rattle.office_model.specs.Step.{Call}
+use Rattle.office_store.specs.declared.store.Store.{Store}
+use Rattle.office_store.specs.Damage.{TellsDamage}
+use Rattle.office_store.specs.Serves.{Serves}
+use Rattle.office_store.specs.Moves.{AreServed, Moves}
+use Rattle.browse_http.specs.Scripts.{FollowsAfter}
+use Rattle.night_work.specs.declared.ends.NightEnd.{NightEnd}
+use Rattle.night_work.specs.declared.ends.NightEnd.TheVariants as N
+use Rattle.night_work.specs.Script.{events_after, each_of, night_buckets, night_script}
+use Rattle.night_work.specs.Ends.{EndRefused, Ends}
+use Rattle.admin_cli.specs.declared.note.Note.TheVariants.{Foreign}
+use Rattle.admin_cli.specs.Nights.{note_of_all, note_of_night, IsDamagedTable}
+
+-- ---- which events a night calls, whatever is answered
+
+abbrev IsOfNight : Event → Type 0
+IsOfNight E.Hosts = Unit {0}
+IsOfNight (E.Expire name now) = Unit {0}
+IsOfNight (E.Clean bucket) = Unit {0}
+IsOfNight E.Sweep = Unit {0}
+IsOfNight event = ⊥
+
+abbrev AreOfNight : List Call → Type 0
+AreOfNight [] = Unit {0}
+AreOfNight (call ∷ calls) = IsOfNight call.0 × AreOfNight calls
+
+each_of_night : (events : List Event) (done : List Call) (event : Event) → All IsOfNight events → each_of events done ≡ Some event
+    → IsOfNight event
+each_of_night [] done event all is = let no : ⊥ = cc (is) in absurd no
+each_of_night (next ∷ events) [] event all is =
+    let e : next ≡ event = cc (is) in subst IsOfNight e (All-head IsOfNight next events all)
+each_of_night (next ∷ events) ((asked, Ok answer) ∷ done) event all is =
+    each_of_night events done event (All-tail IsOfNight next events all) is
+each_of_night (next ∷ events) ((asked, Err refusal) ∷ done) event all is = let no : ⊥ = cc (is) in absurd no
+
+any_name : (names : List (List ℕ)) → All (λ (name : List ℕ). Unit {0}) names
+any_name [] = All-nil (λ (name : List ℕ). Unit {0})
+any_name (name ∷ names) = All-cons (λ (name : List ℕ). Unit {0}) name names tt (any_name names)
+
+any_bucket : (buckets : List ℕ) → All (λ (bucket : ℕ). Unit {0}) buckets
+any_bucket [] = All-nil (λ (bucket : ℕ). Unit {0})
+any_bucket (bucket ∷ buckets) = All-cons (λ (bucket : ℕ). Unit {0}) bucket buckets tt (any_bucket buckets)
+
+events_of_night : (moment : ℕ) (buckets : List ℕ) (hosts : List (List ℕ)) → All IsOfNight (events_after moment buckets hosts)
+events_of_night moment buckets hosts =
+    All-append IsOfNight (map (λ host. E.Expire host moment) hosts) (map E.Clean buckets ++ E.Sweep ∷ [])
+    (All-map IsOfNight (λ host. E.Expire host moment) hosts (any_name hosts))
+    (All-append IsOfNight (map E.Clean buckets) (E.Sweep ∷ []) (All-map IsOfNight E.Clean buckets (any_bucket buckets))
+    (All-cons IsOfNight E.Sweep [] tt (All-nil IsOfNight)))
+
+called : (moment : ℕ) (buckets : List ℕ) (made : List Call) (event : Event) → night_script moment buckets made ≡ Some event
+    → IsOfNight event
+called moment buckets [] event is = let e : E.Hosts ≡ event = cc (is) in subst IsOfNight e tt
+called moment buckets ((asked, Ok (A.Hosts hosts)) ∷ made) event is =
+    each_of_night (events_after moment buckets hosts) made event (events_of_night moment buckets hosts) is
+called moment buckets (call ∷ made) event is = let no : ⊥ = cc (is) in absurd no
+
+all_called : (moment : ℕ) (buckets : List ℕ) (made calls : List Call) → FollowsAfter (night_script moment buckets) made calls
+    → AreOfNight calls
+all_called moment buckets made [] follows = tt
+all_called moment buckets made (call ∷ calls) follows =
+    (called moment buckets made call.0 follows.0, all_called moment buckets (made ++ call ∷ []) calls follows.1)
+
+-- ---- what the note names
+
+not_of_all : (failed halted : Bool) (file : FileId) → note_of_all failed halted ≡ Foreign file → ⊥
+not_of_all true halted file e = cc (e)
+not_of_all false true file e = cc (e)
+not_of_all false false file e = cc (e)
+
+-- it names what the last refusal named
+named_by : (end : NightEnd) (failed halted : Bool) (file : FileId) → note_of_night end failed halted ≡ Foreign file
+    → (found : Option (List ℕ)) × (end ≡ N.Refused (R.Damaged file found))
+named_by (N.Done night) failed halted file e = absurd (not_of_all failed halted file e)
+named_by N.NotNow failed halted file e = absurd (not_of_all failed halted file e)
+named_by (N.Refused (R.Broken rule)) failed halted file e = absurd (not_of_all false halted file e)
+named_by (N.Refused R.Halted) failed halted file e = let no : ⊥ = cc (e) in absurd no
+named_by (N.Refused R.DiskFault) failed halted file e = let no : ⊥ = cc (e) in absurd no
+named_by (N.Refused (R.Damaged other found)) failed halted file e =
+    let is : other ≡ file = cc (e) in (found, λ i. N.Refused (R.Damaged (is i) found))
+named_by (N.Refused R.Memory) failed halted file e = let no : ⊥ = cc (e) in absurd no
+named_by N.Memory failed halted file e = let no : ⊥ = cc (e) in absurd no
+
+module _ {D N S : Type 0} {d : DiskGhosts D} {n : NamerGhosts N S} where
+  -- the call that was refused
+  record IsRefusedLast (refusal : Refusal) (new : Store D N S d n) : Type 0 where
+    mid : Store D N S d n
+    event : Event
+    of_night : IsOfNight event
+    serves : Serves mid event (Err refusal) new
+
+  refused_last : (refusal : Refusal) (old new : Store D N S d n) (calls : List Call) → AreServed old calls new → AreOfNight calls
+      → EndRefused refusal calls → IsRefusedLast refusal new
+  refused_last refusal old new [] served each ended = absurd ended
+  refused_last refusal old new ((event, Ok answer) ∷ calls) served each ended =
+      refused_last refusal served.0 new calls served.2 each.1 ended
+  refused_last refusal old new ((event, Err named) ∷ calls) served each ended =
+      let rest : AreServed served.0 [] new = subst (λ (more : List Call). AreServed served.0 more new) ended.1 served.2 in
+      record {
+        mid = old;
+        event = event;
+        of_night = each.0;
+        serves = subst (λ (told : Refusal). Serves old event (Err told) new) ended.0
+            (subst (λ (s : Store D N S d n). Serves old event (Err named) s) (sym rest) served.1);
+      }
+
+  -- only an expiry finds a damaged file
+  table_of : (mid new : Store D N S d n) (event : Event) (file : FileId) (found : Option (List ℕ)) → IsOfNight event
+      → TellsDamage mid.parts event (Err (R.Damaged file found)) new.parts → IsDamagedTable (told new.parts.journal) file
+  table_of mid new E.Hosts file found of_night says = absurd says.1
+  table_of mid new (E.Expire name now) file found of_night says =
+      let here = says.0 in
+      let said = says.1 here.place here.index here.named here.here in
+      let damaged = said.1 here.index here.here in
+      record {
+        host = here.place;
+        number = damaged.line.number;
+        file_is = damaged.file_is;
+        found = found;
+        no_table = record {
+          there = λ all is. damaged.no_table.there all (sym said.0.quiet.told_same ∙ is);
+          none = damaged.no_table.none;
+        };
+      }
+  table_of mid new (E.Clean bucket) file found of_night says = absurd says.1
+  table_of mid new E.Sweep file found of_night says = absurd says.1
+  table_of mid new event file found of_night says = absurd of_night
+
+  by_refusal : (old new : Store D N S d n) (calls : List Call) (moment : ℕ) (day : ℤ) (period : ℕ) (file : FileId)
+      (found : Option (List ℕ)) → Moves old calls new → Ends moment day period (N.Refused (R.Damaged file found)) calls
+      → IsDamagedTable (told new.parts.journal) file
+  by_refusal old new calls moment day period file found moved ends =
+      let last = refused_last (R.Damaged file found) old new calls moved.each
+      (all_called moment (night_buckets day period) [] calls ends.0) ends.1 in
+      table_of last.mid new last.event file found last.of_night last.serves.damaged
+
+  -- a night names a table that the disk holds none in when it ends
+  pub night_foreign : (old new : Store D N S d n) (calls : List Call) (moment : ℕ) (day : ℤ) (period : ℕ) (end : NightEnd)
+      (failed halted : Bool) (file : FileId) → Moves old calls new → Ends moment day period end calls
+      → note_of_night end failed halted ≡ Foreign file → IsDamagedTable (told new.parts.journal) file
+  night_foreign old new calls moment day period end failed halted file moved ends is =
+      let named = named_by end failed halted file is in
+      by_refusal old new calls moment day period file named.0 moved
+      (subst (λ (e : NightEnd). Ends moment day period e calls) named.1 ends)

@@ -1,0 +1,76 @@
+-- What an answer says of the files that its event called for, over any disk that tells its files.
+--     IsThere old event reply      Ok and Damaged are said only of a host or a restore that is there
+--     NextSays, ReopeningSays      of a restore's next frame, and of a reopening
+--     SaysOfFiles old event reply new      Ok is said only if they were there, each in its grammar or with its digest; Damaged names one
+--         that wasn't, with what was found of it
+--     TellsDamage old event reply new      both, if the store didn't answer that it is halted
+use Rattle.std.specs.Prelude.{⊤, ◌≡◌, ℕ, [], ◌∷◌, Some, Ok, Err, slice_get}
+use Rattle.disk_trait.specs.declared.disk.Disk.{Ghosts as DiskGhosts}
+use Rattle.pool_name.specs.declared.namer.Namer.{Ghosts as NamerGhosts}
+use Rattle.backup_index.specs.Index.{Index}
+use Rattle.journal_view.specs.View.{told}
+use Rattle.office_catalog.specs.Known.{host_named, names_of}
+use Rattle.office_model.specs.declared.event.Event.{Event}
+use Rattle.office_model.specs.declared.event.Event.TheVariants as E
+use Rattle.office_model.specs.declared.refusal.Refusal.TheVariants as R
+use Rattle.office_model.specs.declared.session.SessionName.{SessionName}
+use Rattle.office_model.specs.Meaning.{Reply}
+use Rattle.office_model.specs.History.{IsUndamaged}
+use Rattle.open_sessions.specs.declared.sessions.OpenRestore.{OpenRestore}
+use Rattle.open_sessions.specs.Places.{next_in}
+use Rattle.store_parts.specs.declared.parts.StoreParts.{StoreParts}
+use Rattle.store_dumps.specs.Opening.{OpensDump}
+use Rattle.store_reads.specs.Told.{ReadsTree, TellsBackup, HasDamagedTable, IsReadReply, ListsRows, SaysNode, GivesFile}
+use Rattle.store_restores.specs.Finding.{place_of, HasRestore}
+use Rattle.store_restores.specs.Giving.{GivesNext}
+use Rattle.store_restores.specs.Opening.{OpensRestore}
+use Rattle.store_commits.specs.Tables.{HeedsTables}
+use Rattle.store_deletions.specs.Called.{SaysOfTables, HasHost}
+use Rattle.store_deletions.specs.Shortens.{named_numbers}
+use Rattle.store_opening.specs.Recovers.{IsForeignTo}
+use Rattle.store_opening.specs.Whole.{HasAllOf}
+
+module _ {D N S : Type 0} {d : DiskGhosts D} {n : NamerGhosts N S} where
+  -- the look-ups of the other events are in what they say of the files
+  abbrev pub IsThere : StoreParts D N S d n → Event → Reply → Type 0
+  IsThere old (E.ReadNext restore) reply = HasRestore old restore reply
+  IsThere old (E.Delete host number) reply = HasHost old host reply
+  IsThere old (E.Expire host now) reply = HasHost old host reply
+  IsThere old event reply = ⊤
+
+  -- of the restore of this name, at its place in memory
+  abbrev pub NextSays : StoreParts D N S d n → SessionName → Reply → StoreParts D N S d n → Type 0
+  NextSays old restore reply new = (at : ℕ) (session : OpenRestore S) → Some at ≡ place_of old.sessions.restores.items restore
+      → slice_get old.sessions.restores.items at ≡ Some session → GivesNext (next_in session.rows session.place) old at session reply new
+
+  -- after Ok the parts have what the files hold, and no other file is there
+  abbrev pub ReopeningSays : StoreParts D N S d n → Reply → StoreParts D N S d n → Type 0
+  ReopeningSays old (Ok answer) new = HasAllOf new
+  ReopeningSays old (Err (R.Damaged file found)) new = IsForeignTo (d.files old.journal.disk) (d.files new.journal.disk) file found
+  ReopeningSays old (Err refusal) new = ⊤
+
+  -- of a store at work, or one that was reopened; the other events call for no file, and say of none that it is damaged
+  abbrev pub SaysOfFiles : StoreParts D N S d n → Event → Reply → StoreParts D N S d n → Type 0
+  SaysOfFiles old (E.List host number directory) reply new =
+      IsReadReply (ReadsTree old host number) (HasDamagedTable old host number) (ListsRows directory) reply
+  SaysOfFiles old (E.Lookup host number path) reply new =
+      IsReadReply (ReadsTree old host number) (HasDamagedTable old host number) (SaysNode path) reply
+  SaysOfFiles old (E.ReadFile host number path) reply new =
+      IsReadReply (ReadsTree old host number) (HasDamagedTable old host number) (GivesFile n.digest_of (told old.journal) path) reply
+  SaysOfFiles old (E.OpenDump host kind now) reply new = OpensDump old host kind now reply new
+  SaysOfFiles old (E.Commit session now) reply new = HeedsTables old session reply new
+  SaysOfFiles old (E.OpenRead host number) reply new = IsReadReply (TellsBackup old host number) (HasDamagedTable old host number)
+      (λ rows answer. OpensRestore old.sessions old.catalog.epoch rows answer new.sessions) reply
+  SaysOfFiles old (E.ReadNext restore) reply new = NextSays old restore reply new
+  SaysOfFiles old (E.Delete host number) reply new =
+      (place : ℕ) → Some place ≡ host_named (names_of old.catalog.hosts) host → SaysOfTables old new place (number ∷ []) reply
+  SaysOfFiles old (E.Expire host now) reply new =
+      (place : ℕ) (index : Index) → Some place ≡ host_named (names_of old.catalog.hosts) host
+      → slice_get old.catalog.hosts place ≡ Some index
+      → SaysOfTables old new place (named_numbers index.rules now index.lines) reply
+  SaysOfFiles old E.Reopen reply new = ReopeningSays old reply new
+  SaysOfFiles old event reply new = IsUndamaged reply
+
+  abbrev pub TellsDamage : StoreParts D N S d n → Event → Reply → StoreParts D N S d n → Type 0
+  TellsDamage old event (Err R.Halted) new = ⊤
+  TellsDamage old event reply new = IsThere old event reply × SaysOfFiles old event reply new
