@@ -5,6 +5,8 @@
 #[cfg(test)]
 mod store_cleaning_tests;
 #[cfg(test)]
+mod store_dumps_tests;
+#[cfg(test)]
 mod store_hosts_tests;
 #[cfg(test)]
 mod store_opening_tests;

@@ -11,7 +11,8 @@ use Rattle.journal_view.specs.FoundLaws.{told_raw, seen_there}
 use Rattle.journal_view.specs.ViewLaws.{seen_changed}
 use Rattle.pool_changes.specs.Slots.{Slots}
 use Rattle.pool_store.specs.Chains.{AreOthers}
-use Rattle.pool_store.specs.Pools.{Matches, Adds, Takes}
+use Rattle.pool_store.specs.Pools.{Matches, Adds}
+use Rattle.store_dumps.specs.Putting.{TakesName}
 
 others_seen : (old : Slots) (raw : Option Files) (digest content : List ℕ) (bound : ℕ)
     → ((all : Files) → raw ≡ Some all → AreOthers old digest all content bound)
@@ -23,13 +24,13 @@ others_seen old raw digest content bound others all e =
     (sym (seen_there w.0 _ refl) ∙ ap (λ (f : Files). f (PoolFile (record { digest = digest; extension = extension }))) w.2 ∙ is)
 
 module _ (digest_of : List ℕ → List ℕ) (old new : Slots) (raw raw' : Option Files) where
-  pub takes_seen : (id : PoolId) (content : List ℕ) → Takes digest_of old new raw raw' id content
-      → Takes digest_of old new (option_map seen raw) (option_map seen raw') id content
-  takes_seen id content takes = record { digest = takes.digest; either = step takes.either }
+  pub takes_seen : (id : PoolId) (content : List ℕ) → TakesName digest_of old new raw raw' id content
+      → TakesName digest_of old new (option_map seen raw) (option_map seen raw') id content
+  takes_seen id content takes = step takes
     where
-      step : Matches old new raw raw' id content ⊎ Adds old new raw raw' id content
+      step : Matches old new raw raw' id content ⊎ (Adds old new raw raw' id content × (id.digest ≡ digest_of content))
           → Matches old new (option_map seen raw) (option_map seen raw') id content
-          ⊎ Adds old new (option_map seen raw) (option_map seen raw') id content
+          ⊎ (Adds old new (option_map seen raw) (option_map seen raw') id content × (id.digest ≡ digest_of content))
       step (inl m) = inl (record {
         given = m.given;
         holds = λ all e.
@@ -38,13 +39,16 @@ module _ (digest_of : List ℕ → List ℕ) (old new : Slots) (raw raw' : Optio
         set = m.set;
         same = ap (option_map seen) m.same;
       })
-      step (inr a) = inr (record {
-        near = a.near;
-        free = a.free;
-        others = others_seen old raw id.digest content 65536 a.others;
-        set = a.set;
-        told_is = ap (option_map seen) a.told_is ∙ seen_changed raw (PoolFile id) (Some content) refl;
-      })
+      step (inr (a, digest)) = inr (
+        record {
+          near = a.near;
+          free = a.free;
+          others = others_seen old raw id.digest content 65536 a.others;
+          set = a.set;
+          told_is = ap (option_map seen) a.told_is ∙ seen_changed raw (PoolFile id) (Some content) refl;
+        },
+        digest,
+      )
 
   pub misses_others : (digest content : List ℕ) → ((all : Files) → raw ≡ Some all → AreOthers old digest all content 65536)
       → (all : Files) → option_map seen raw ≡ Some all → AreOthers old digest all content 65536

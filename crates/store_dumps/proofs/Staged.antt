@@ -20,7 +20,7 @@ use Rattle.pool_changes.specs.Slots.{is_given, claims_of, id_of}
 use Rattle.pool_changes.specs.Kept.{IsSame, IsSet}
 use Rattle.pool_store.specs.Chains.{IsFree, AreOthers}
 use Rattle.pool_store.specs.Chains as C
-use Rattle.pool_store.specs.Pools.{IsCertain, IsUnstaged, IsFull, Matches, Adds, Takes}
+use Rattle.pool_store.specs.Pools.{IsCertain, IsUnstaged, IsFull, Matches, Adds}
 use Rattle.stored_trees.specs.Resolved.{bytes_of, IsToldContent}
 use Rattle.open_sessions.specs.Opened.{claims_in}
 use Rattle.office_model.specs.events.Put.{is_spent, is_chain_full, name_change}
@@ -35,7 +35,7 @@ use Rattle.store_parts.specs.HoldingLaws.{given_held, not_held}
 use Rattle.store_parts.specs.StagingLaws.{with_used, HasStaged}
 use Rattle.store_dumps.specs.Claims.{claims_of_content}
 use Rattle.store_dumps.specs.ClaimLaws.{one_of}
-use Rattle.store_dumps.specs.Putting.{TakesIn}
+use Rattle.store_dumps.specs.Putting.{TakesName, TakesIn}
 use Rattle.store_dumps.proofs.Counting.{spent, unspent}
 use Rattle.store_dumps.proofs.Seen.{takes_seen, misses_others, one_seen}
 use Rattle.store_dumps.proofs.Staging.{staged_none, staged_matches, staged_adds, staged_doomed, claims_matches, claims_adds, claims_doomed, set_there, adds_name}
@@ -189,15 +189,15 @@ module _ {D N S : Type 0} {d : DiskGhosts D} {n : NamerGhosts N S} where
                 (subst (λ (d : List ℕ). slots old (id_of d id.extension) ≡ None) digest a.free.unused) a.near;
           }
 
-      taken : Takes n.digest_of (slots old) (slots mid) (told old.journal) (told mid.journal) id content
+      taken : TakesName n.digest_of (slots old) (slots mid) (told old.journal) (told mid.journal) id content
           → StagedAs old mid office names at (Some id) content
-      taken takes = step takes.either
+      taken takes = step takes
         where
           step : Matches (slots old) (slots mid) (told old.journal) (told mid.journal) id content
-              ⊎ Adds (slots old) (slots mid) (told old.journal) (told mid.journal) id content
+              ⊎ (Adds (slots old) (slots mid) (told old.journal) (told mid.journal) id content × (id.digest ≡ n.digest_of content))
               → StagedAs old mid office names at (Some id) content
           step (inl m) = matched m
-          step (inr a) = added a takes.digest
+          step (inr (a, digest)) = added a digest
 
     -- there was none to name
     untaken : (bytes : List ℕ) → IsSame (slots old) (slots mid) → told mid.journal ≡ told old.journal → length bytes ≡ 0

@@ -16,6 +16,7 @@
 mod aborting;
 mod base;
 mod claims;
+mod comparing;
 mod opening;
 mod putting;
 mod removing;

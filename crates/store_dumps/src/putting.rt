@@ -25,6 +25,7 @@ ghost use Rattle.open_sessions.specs.Opened.{OnlyDumps, AreAlike};
 ghost use Rattle.store_dumps.specs.Putting.{record_for, content_found, TakesIn, refused_put};
 
 use crate::claims::release;
+use crate::comparing::{claim_again, held_by, likely_content};
 use attr_records::{Item, PathName, PutRule};
 use attr_tables::{Record, StoredFile};
 use disk_trait::{Disk, PoolId};
@@ -84,11 +85,13 @@ fn broken_rule(tree: &Session, path: &PathName, item: &Item) -> Option<PutRule>
     }
 }
 
-/// The name of a content, which is staged if it is new, and claimed; none if there are no bytes.
+/// The name of a content, which is staged if it is new, and claimed; none if there are no bytes. Bytes that the likely content
+/// holds have its name, and no digest is made; all others are hashed.
 fn stage<D: Disk, N: Namer>(
     pool: &mut Pool<N>,
     journal: &mut Journal<D>,
     alloc: Global,
+    likely: Option<PoolId>,
     bytes: &[u8],
 ) -> Result<Option<PoolId>, PoolFault>
     requires { journal.old.halted ≡ false }
@@ -109,6 +112,16 @@ fn stage<D: Disk, N: Namer>(
 {
     if bytes.is_empty() {
         return Ok(None);
+    }
+    match held_by(pool, journal, alloc, likely, bytes) {
+        Ok(Some(id)) => {
+            return match claim_again(pool, id) {
+                Ok(()) => Ok(Some(id)),
+                Err(_) => Err(PoolFault::Memory),
+            };
+        }
+        Ok(None) => {}
+        Err(fault) => return Err(fault),
     }
     match pool.match_or_stage(alloc, journal, bytes) {
         Ok(id) => Ok(Some(id)),
@@ -187,7 +200,9 @@ pub fn put<D: Disk, N: Namer>(
         Some(rule) => return Err(Refusal::Broken(BrokenRule::Put(rule))),
         None => {}
     }
-    let content = match stage(&mut parts.pool, &mut parts.journal, alloc, bytes_of(item)) {
+    let bytes = bytes_of(item);
+    let likely = likely_content(&parts.sessions, at, path, bytes.len());
+    let content = match stage(&mut parts.pool, &mut parts.journal, alloc, likely, bytes) {
         Ok(content) => content,
         Err(fault) => return Err(refusal_of_pool(fault)),
     };

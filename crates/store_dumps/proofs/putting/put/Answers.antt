@@ -26,10 +26,10 @@ returns-in-Err-clause-runs g c = runs_same _ _ _ _ _ c.refusal_of_pool.ensures.v
     (slice_get_read _ _ _ _ refl c.in_ok-at.ensures.within c.index.ensures) c.stage.new.journal c.stage.new.pool
     c.in-None.ensures
     c.in-Err.ensures.form c.in-Err.ensures.stays c.in-Err.ensures.certain c.in-Err.ensures.crash c.in-Err.fault
-    (subst (λ (b : List ℕ). 0 < length b) c.bytes_of.ensures c.in-Err.ensures.some)
+    (subst (λ (b : List ℕ). 0 < length b) c.bytes_of-bytes.ensures c.in-Err.ensures.some)
     (subst (λ (b : List ℕ). Misses g.N.Namer.digest_of (slots_of c.args.parts.now.pool.names) (slots_of c.stage.new.pool.names)
     (g.D.Disk.files c.args.parts.now.journal.disk)
-    (g.D.Disk.files c.stage.new.journal.disk) b c.in-Err.fault) c.bytes_of.ensures c.in-Err.ensures.misses)
+    (g.D.Disk.files c.stage.new.journal.disk) b c.in-Err.fault) c.bytes_of-bytes.ensures c.in-Err.ensures.misses)
     c.in-Err.ensures.damaged c.in-Err.ensures.given c.in-Err.ensures.kind c.in-Err.ensures.counted)
 
 pub returns-in-Ok-put_item-clause-runs : goal.returns-in-Ok-put_item-clause-runs
@@ -38,10 +38,10 @@ returns-in-Ok-put_item-clause-runs g c =
     runs_put c.args.parts.now c.args.session c.args.path.now c.args.item.now c.in_ok-at.at c.index.result.now c.in_ok-at.ensures.found
     there c.stage.new.journal c.stage.new.pool c.in-None.ensures
     c.in-Ok.ensures.form c.in-Ok.ensures.stays c.in-Ok.ensures.certain c.in-Ok.ensures.crash c.in-Ok.content
-    (subst (λ (b : List ℕ). IsContentOf (length b) c.in-Ok.content) c.bytes_of.ensures c.in-Ok.ensures.shape)
+    (subst (λ (b : List ℕ). IsContentOf (length b) c.in-Ok.content) c.bytes_of-bytes.ensures c.in-Ok.ensures.shape)
     (subst (λ (b : List ℕ). TakesIn g.N.Namer.digest_of (slots_of c.args.parts.now.pool.names) (slots_of c.stage.new.pool.names)
     (g.D.Disk.files c.args.parts.now.journal.disk)
-    (g.D.Disk.files c.stage.new.journal.disk) c.in-Ok.content b) c.bytes_of.ensures c.in-Ok.ensures.takes)
+    (g.D.Disk.files c.stage.new.journal.disk) c.in-Ok.content b) c.bytes_of-bytes.ensures c.in-Ok.ensures.takes)
     _ refl refl refl refl refl
     (go_content (slots_of c.stage.new.pool.names) (slots_of c.release.new.pool.names) _ _
     (c.content_of-before.ensures ∙ ap content_found (c.find.ensures c.index.result.now there)) c.release.ensures.go)
@@ -55,10 +55,10 @@ returns-in-Err-put_item-clause-runs g c =
     (runs_put_back c.args.parts.now c.args.session c.args.path.now c.args.item.now c.in_ok-at.at c.index.result.now c.in_ok-at.ensures.found
     there c.stage.new.journal c.stage.new.pool c.in-None.ensures
     c.in-Ok.ensures.form c.in-Ok.ensures.stays c.in-Ok.ensures.certain c.in-Ok.ensures.crash c.in-Ok.content
-    (subst (λ (b : List ℕ). IsContentOf (length b) c.in-Ok.content) c.bytes_of.ensures c.in-Ok.ensures.shape)
+    (subst (λ (b : List ℕ). IsContentOf (length b) c.in-Ok.content) c.bytes_of-bytes.ensures c.in-Ok.ensures.shape)
     (subst (λ (b : List ℕ). TakesIn g.N.Namer.digest_of (slots_of c.args.parts.now.pool.names) (slots_of c.stage.new.pool.names)
     (g.D.Disk.files c.args.parts.now.journal.disk)
-    (g.D.Disk.files c.stage.new.journal.disk) c.in-Ok.content b) c.bytes_of.ensures c.in-Ok.ensures.takes)
+    (g.D.Disk.files c.stage.new.journal.disk) c.in-Ok.content b) c.bytes_of-bytes.ensures c.in-Ok.ensures.takes)
     _ c.in-Err-put_item.fault
     (λ broken is tree. c.in-Err-put_item.ensures.rule broken c.index.result.now is there tree) refl refl refl refl refl
     c.release-in-Err-put_item.ensures.go c.release-in-Err-put_item.ensures.form c.in-Err-put_item.ensures.err c.in-Ok.ensures.counted
