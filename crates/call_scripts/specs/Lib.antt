@@ -1,0 +1,4 @@
+pub mod Scripts
+pub mod Moments
+pub mod ScriptLaws
+pub mod FirstCalls

@@ -1,0 +1,88 @@
+-- In each legal history of its calls a dump of a tree becomes a backup that is this tree.
+use Rattle.std.specs.Prelude.{◌≡◌, ℕ, List, [], ◌∷◌, ◌++◌, Ok}
+use Rattle.std.proofs.Common.{sym, subst}
+use Rattle.attr_records.specs.Items.{Tree}
+use Rattle.backup_rules.specs.declared.lines.Kind.TheVariants.{Full}
+use Rattle.office_model.specs.declared.session.SessionName.{SessionName}
+use Rattle.office_model.specs.declared.event.Event.TheVariants as E
+use Rattle.office_model.specs.declared.answer.Answer.TheVariants as A
+use Rattle.office_model.specs.Office.{Office, Names, IsSound}
+use Rattle.office_model.specs.Step.{Call, State, Running}
+use Rattle.office_model.specs.History.{Leads}
+use Rattle.office_model.specs.Meaning.{Judged}
+use Rattle.call_scripts.specs.FirstCalls.{answered, none_left}
+use Rattle.folder_laws.specs.Calls.{open_call, put_calls, commit_call}
+use Rattle.folder_laws.specs.Replays.{with_all}
+use Rattle.folder_laws.specs.OfficeLaws.{HasDump, Shows, opened, put_step, commit_step}
+
+-- ---- puts
+
+pub record AfterPuts (dump : SessionName) (name : List ℕ) (tree : Tree) (more : List Call) (state' : State) (faults' : ℕ) : Type 0 where
+  pub office : Office
+  pub names : Names
+  pub faults : ℕ
+  pub sound : IsSound office
+  pub has : HasDump office dump name tree
+  pub rest : Leads (Running office names) faults more state' faults'
+
+pub after_puts : (rows : Tree) (office : Office) (names : Names) (faults : ℕ) (dump : SessionName) (name : List ℕ) (tree : Tree) (more : List Call)
+    (state' : State) (faults' : ℕ) → IsSound office → HasDump office dump name tree
+    → Leads (Running office names) faults (put_calls dump rows ++ more) state' faults'
+    → AfterPuts dump name (with_all tree rows) more state' faults'
+after_puts [] office names faults dump name tree more state' faults' sound has leads =
+    record { office = office; names = names; faults = faults; sound = sound; has = has; rest = leads }
+after_puts (row ∷ rows) office names faults dump name tree more state' faults' sound has leads =
+    let a = answered office names faults (E.Put dump row.0 row.1) A.Done (put_calls dump rows ++ more) state' faults' leads in
+    after_puts rows a.after a.after_names a.faults dump name _ more state' faults' a.sound
+    (put_step office names dump name tree row.0 row.1 A.Done a.after sound has a.carried) a.rest
+
+-- ---- a full dump
+
+-- the host has a backup of this number with this tree, in an office at work
+pub record Committed (name : List ℕ) (number : ℕ) (tree : Tree) (state : State) : Type 0 where
+  pub office : Office
+  pub names : Names
+  pub is : state ≡ Running office names
+  pub shows : Shows office name number tree
+
+pub committed : (office : Office) (names : Names) (faults : ℕ) (dump : SessionName) (name : List ℕ) (tree : Tree) (now number : ℕ) (state' : State) (faults' : ℕ)
+    → IsSound office → HasDump office dump name tree
+    → Leads (Running office names) faults (commit_call dump now number ∷ []) state' faults' → Committed name number tree state'
+committed office names faults dump name tree now number state' faults' sound has leads =
+    let a = answered office names faults (E.Commit dump now) (A.Committed number) [] state' faults' leads in
+    record {
+      office = a.after;
+      names = a.after_names;
+      is = none_left (Running a.after a.after_names) a.faults state' faults' a.rest;
+      shows = commit_step office dump name tree now number a.after sound a.sound has a.carried;
+    }
+
+empty_base : (base : Tree) → (let none : Judged Tree = Ok [] in none ≡ Ok base) → [] ≡ base
+empty_base base e = cc
+
+-- what leads from the opening of a full dump to its puts
+pub opened_full : (office : Office) (names : Names) (faults : ℕ) (host : List ℕ) (now : ℕ) (dump : SessionName) (more : List Call)
+    (state' : State) (faults' : ℕ)
+    → Leads (Running office names) faults (open_call host Full now dump ∷ more) state' faults' → AfterPuts dump host [] more state' faults'
+opened_full office names faults host now dump more state' faults' leads =
+    let a = answered office names faults (E.OpenDump host Full now) (A.Dump dump) more state' faults' leads in
+    let b = opened office host Full now dump a.after a.carried in
+    let base : [] ≡ b.1 = empty_base b.1 b.3 in
+    record {
+      office = a.after;
+      names = a.after_names;
+      faults = a.faults;
+      sound = a.sound;
+      has = subst (λ t. HasDump a.after dump host t) (sym base) b.4;
+      rest = a.rest;
+    }
+
+-- puts of a tree that replace all of a dump's tree, and a commit
+pub filled : (office : Office) (names : Names) (faults : ℕ) (host : List ℕ) (dump : SessionName) (base tree : Tree) (later number : ℕ)
+    (state' : State) (faults' : ℕ) → IsSound office → HasDump office dump host base → with_all base tree ≡ tree
+    → Leads (Running office names) faults (put_calls dump tree ++ commit_call dump later number ∷ []) state' faults'
+    → Committed host number tree state'
+filled office names faults host dump base tree later number state' faults' sound has whole leads =
+    let p = after_puts tree office names faults dump host base (commit_call dump later number ∷ []) state' faults' sound has leads in
+    committed p.office p.names p.faults dump host tree later number state' faults' p.sound
+    (subst (λ t. HasDump p.office dump host t) whole p.has) p.rest

@@ -1,0 +1,16 @@
+pub mod Walks
+pub mod WalkLaws
+pub mod Replays
+pub mod ReplayLaws
+pub mod OfficeLaws
+pub mod Calls
+pub mod DumpLaws
+pub mod Compares
+pub mod CompareLaws
+pub mod RestoreLaws
+pub mod Lists
+pub mod IncrLaws
+pub mod ShownLaws
+pub mod FindLaws
+pub mod DumpScript
+pub mod DumpScriptLaws
