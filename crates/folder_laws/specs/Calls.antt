@@ -44,7 +44,8 @@ next_call restore frame = (E.ReadNext restore, Ok (A.Next frame))
 -- a restore: it is opened, its frames are asked for up to the end, and it is closed
 abbrev pub restore_calls : List ℕ → ℕ → SessionName → List Frame → ℕ → List Call
 restore_calls host number restore frames count =
-    (E.OpenRead host number, Ok (A.Restore restore)) ∷ (map (next_call restore) frames ++ next_call restore (End count) ∷ (E.CloseRead restore, Ok A.Done) ∷ [])
+    (E.OpenRead host number, Ok (A.Restore restore))
+    ∷ (map (next_call restore) frames ++ next_call restore (End count) ∷ (E.CloseRead restore, Ok A.Done) ∷ [])
 
 -- no frame is the end
 abbrev pub ArePlain : List Frame → Type 0

@@ -61,7 +61,8 @@ list_call host number known entries = (E.List host number known.directory, Ok (A
 abbrev pub AreLists : Tree → List ℕ → ℕ → List Known → List (List ℕ) → List Call → List Known → List (List ℕ) → Type 0
 AreLists seen host number pending gone [] left all = (pending ≡ left) × (gone ≡ all)
 AreLists seen host number pending gone (call ∷ calls) left all =
-    (known : Known) × (rest : List Known) × (entries : List NamedNode) × (pending ≡ known ∷ rest) × (call ≡ list_call host number known entries)
+    (known : Known) × (rest : List Known) × (entries : List NamedNode) × (pending ≡ known ∷ rest)
+    × (call ≡ list_call host number known entries)
     × AreLists seen host number (known_from seen known entries ++ rest) (gone ++ gone_from seen known entries) calls left all
 
 -- the backups of a host were asked for
