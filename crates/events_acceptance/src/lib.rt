@@ -3,6 +3,8 @@
 #![tactic(auto)]
 
 #[cfg(test)]
+mod parts;
+#[cfg(test)]
 mod store_cleaning_tests;
 #[cfg(test)]
 mod store_dumps_tests;

@@ -1,5 +1,6 @@
 use disk_trait::{Choice, Disk, DiskRoom, FileId, MemoryDisk};
 use office_model::{Answer, Refusal};
+use office_talks::expect;
 use pool_name::Md5Namer;
 use std::alloc::{AllocError, Global};
 use std::test::Fail;
@@ -12,10 +13,6 @@ const ROOM: DiskRoom = DiskRoom {
 };
 
 const CHOICES: [Choice; 3] = [Choice::Written, Choice::Absent, Choice::One(0x4F)];
-
-fn expect(holds: bool, text: &'static str) -> Result<(), Fail> {
-    if holds { Ok(()) } else { Err(Fail::new(text)) }
-}
 
 // A disk without files, of which one call fails.
 fn disk_failing(alloc: Global, call: u64) -> Result<MemoryDisk, AllocError> {

@@ -1,24 +1,14 @@
-ghost use Rattle.std.specs.Prelude.{◌≡◌, false, length, IfOk};
+ghost use Rattle.std.specs.Prelude.{◌≡◌, length};
 ghost use Rattle.attr_tables.specs.Records.{IsSound, IsContentOf};
-ghost use Rattle.intent_journal.specs.Changes.{AreChanges};
-ghost use Rattle.office_catalog.specs.Changed.{IsFor};
 
-use attr_records::{Attr, Dir, HostName, PathName};
-use attr_tables::{Record, Row, StoredFile, Table, write_table};
-use backup_rules::{Kind, Line, Rules};
-use backup_views::Views;
+use crate::parts::{expect_rows, parts_with};
+use attr_records::{Attr, Dir, PathName};
+use attr_tables::{Record, Row as TableRow, StoredFile, Table, write_table};
 use disk_trait::{Disk, DiskRoom, FileId, MemoryDisk, PoolId};
-use host_counts::HostCounts;
-use intent_journal::Journal;
-use office_catalog::{Catalog, CatalogChange};
-use office_model::{Answer, EntryList, Node, Refusal};
-use open_sessions::Sessions;
+use office_talks::Row;
 use pool_name::{FirstByteNamer, Namer};
-use pool_store::Pool;
 use std::alloc::Global;
 use std::test::Fail;
-use store_parts::StoreParts;
-use store_reads::{list, lookup, read_file};
 
 const ROOM: DiskRoom = DiskRoom {
     changes: 200,
@@ -38,34 +28,54 @@ const MIDDLE: [(&[u8], &[u8]); 2] = [(b"d/x", b"gone"), (b"d/y", b"banana")];
 
 const OLDEST: [(&[u8], &[u8]); 1] = [(b"z", b"banana")];
 
-// Backups, paths, and the bytes that are read there, or the rule that is broken.
-const FILES: [(u32, &[u8], &[u8]); 9] = [
-    (5, b"d/x", b"apple"),
-    (5, b"z", b""),
-    (2, b"d/x", b"NoPath"),
-    (2, b"d/y", b"banana"),
-    (0, b"z", b"banana"),
-    (0, b"d/y", b"banana"),
-    (2, b"z", b""),
-    (5, b"d", b"NotAFile"),
-    (1, b"z", b"NoBackup"),
+// What is read: files, nodes and directories. The root is the one of the middle backup.
+const ROWS: &[Row] = &[
+    Row("GET /hosts/a/backups/5/file?path=d/x", "", "apple"),
+    Row("GET /hosts/a/backups/5/file?path=z", "", ""),
+    Row("GET /hosts/a/backups/2/file?path=d/x", "", NO_PATH),
+    Row("GET /hosts/a/backups/2/file?path=d/y", "", "banana"),
+    Row("GET /hosts/a/backups/0/file?path=z", "", "banana"),
+    Row("GET /hosts/a/backups/0/file?path=d/y", "", "banana"),
+    Row("GET /hosts/a/backups/2/file?path=z", "", ""),
+    Row(
+        "GET /hosts/a/backups/5/file?path=d",
+        "",
+        "{\"refused\":\"NotAFile\"}",
+    ),
+    Row("GET /hosts/a/backups/1/file?path=z", "", NO_BACKUP),
+    Row("GET /hosts/a/backups/0/entry?path=z", "", FRUIT),
+    Row("GET /hosts/a/backups/2/entry?path=d", "", DIRECTORY),
+    Row("GET /hosts/a/backups/5/entry?path=d/y", "", NO_PATH),
+    Row("GET /hosts/a/backups/9/entry?path=d", "", NO_BACKUP),
+    Row("GET /hosts/a/backups/5/list?path=d", "", NEWEST_NAMES),
+    Row("GET /hosts/a/backups/2/list?path=d", "", MIDDLE_NAMES),
+    Row(
+        "GET /hosts/a/backups/5/list?path=z",
+        "",
+        "{\"refused\":\"NotADirectory\"}",
+    ),
+    Row("GET /hosts/a/backups/2/list?path=d/x", "", NO_PATH),
+    Row("GET /hosts/a/backups/2/list", "", ROOT_NAMES),
 ];
 
-// The same of nodes; a file of as many bytes.
-const NODES: [(u32, &[u8], &[u8]); 4] = [
-    (0, b"z", b"banana"),
-    (2, b"d", b"dir"),
-    (5, b"d/y", b"NoPath"),
-    (9, b"d", b"NoBackup"),
-];
+const NO_PATH: &str = "{\"refused\":\"NoPath\"}";
 
-// And of directories, with the names in them.
-const LISTS: [(u32, &[u8], &[&[u8]]); 4] = [
-    (5, b"d", &[b"e", b"x"]),
-    (2, b"d", &[b"e", b"y"]),
-    (5, b"z", &[b"NotADirectory"]),
-    (2, b"d/x", &[b"NoPath"]),
-];
+const NO_BACKUP: &str = "{\"refused\":\"NoBackup\"}";
+
+const FRUIT: &str =
+    "{\"gid\":0,\"group\":0,\"kind\":\"file\",\"mode\":\"0644\",\"mtime\":0,\"nanos\":0,\"size\":6,\"uid\":0}";
+
+const DIRECTORY: &str =
+    "{\"gid\":0,\"kind\":\"dir\",\"mode\":\"0755\",\"mtime\":0,\"nanos\":0,\"uid\":0}";
+
+const NEWEST_NAMES: &str =
+    "{\"entries\":[{\"gid\":0,\"kind\":\"dir\",\"mode\":\"0755\",\"mtime\":0,\"name\":\"e\",\"nanos\":0,\"uid\":0},{\"gid\":0,\"group\":0,\"kind\":\"file\",\"mode\":\"0644\",\"mtime\":0,\"name\":\"x\",\"nanos\":0,\"size\":5,\"uid\":0}]}";
+
+const MIDDLE_NAMES: &str =
+    "{\"entries\":[{\"gid\":0,\"kind\":\"dir\",\"mode\":\"0755\",\"mtime\":0,\"name\":\"e\",\"nanos\":0,\"uid\":0},{\"gid\":0,\"group\":0,\"kind\":\"file\",\"mode\":\"0644\",\"mtime\":0,\"name\":\"y\",\"nanos\":0,\"size\":6,\"uid\":0}]}";
+
+const ROOT_NAMES: &str =
+    "{\"entries\":[{\"gid\":0,\"kind\":\"dir\",\"mode\":\"0755\",\"mtime\":0,\"name\":\"d\",\"nanos\":0,\"uid\":0},{\"gid\":0,\"group\":0,\"kind\":\"file\",\"mode\":\"0644\",\"mtime\":0,\"name\":\"z\",\"nanos\":0,\"size\":0,\"uid\":0}]}";
 
 fn id_of(content: &[u8]) -> PoolId {
     PoolId {
@@ -112,7 +122,7 @@ fn write(
 ) -> Result<(), Fail> {
     let mut table = Table::new(alloc);
     for (path, said) in rows {
-        table.push(Row::new(PathName::read(alloc, path)?, record_of(said)))?;
+        table.push(TableRow::new(PathName::read(alloc, path)?, record_of(said)))?;
     }
     let bytes = write_table(alloc, &table)?;
     disk.write(FileId::Table(0, number), bytes.as_slice())?;
@@ -129,201 +139,9 @@ fn disk_of(alloc: Global) -> Result<MemoryDisk, Fail> {
     Ok(disk)
 }
 
-fn journal_of(alloc: Global) -> Result<Journal<MemoryDisk>, Fail>
-    ensures { IfOk result (λ journal. journal.halted ≡ false) }
-{
-    match journal_view::open(alloc, disk_of(alloc)?) {
-        Ok(journal) => Ok(journal),
-        Err(_) => Err(Fail::new("the journal doesn't open")),
-    }
-}
-
-// Commits a change and makes it.
-fn make(
-    alloc: Global,
-    journal: &mut Journal<MemoryDisk>,
-    catalog: &mut Catalog,
-    change: CatalogChange,
-) -> Result<(), Fail>
-    requires are { AreChanges change.changes }
-    requires fits { IsFor catalog.old change }
-{
-    journal.commit(alloc, change.changes())?;
-    catalog.accept(change);
-    Ok(())
-}
-
-// Adds the host `a`.
-fn add(
-    alloc: Global,
-    journal: &mut Journal<MemoryDisk>,
-    catalog: &mut Catalog,
-) -> Result<(), Fail> {
-    let name = HostName::read(alloc, b"a")?;
-    if catalog.is_full() || catalog.has(&name) {
-        return Err(Fail::new("no room"));
-    }
-    let change = catalog.propose_host(alloc, name, Rules::defaults(alloc)?)?;
-    make(alloc, journal, catalog, change)
-}
-
-// Puts the line of a backup behind the others, of which the last is no longer filled.
-fn put(
-    alloc: Global,
-    journal: &mut Journal<MemoryDisk>,
-    catalog: &mut Catalog,
-    number: u32,
-) -> Result<(), Fail> {
-    if catalog.hosts().is_empty() {
-        return Err(Fail::new("no host"));
-    }
-    if !catalog.may_follow(0, number) {
-        return Err(Fail::new("the number is given"));
-    }
-    let line = Line {
-        number,
-        start: 0,
-        end: 0,
-        kind: Kind::Incr,
-        filled: true,
-        keep: false,
-    };
-    let change = catalog.propose_line(alloc, 0, line, false)?;
-    make(alloc, journal, catalog, change)
-}
-
-fn parts_of(alloc: Global) -> Result<StoreParts<MemoryDisk, FirstByteNamer>, Fail> {
-    let mut journal = journal_of(alloc)?;
-    let mut catalog = office_catalog::open(alloc, &mut journal)?;
-    add(alloc, &mut journal, &mut catalog)?;
-    for number in [0, 2, 5] {
-        put(alloc, &mut journal, &mut catalog, number)?;
-    }
-    if journal.halted() {
-        return Err(Fail::new("the journal is halted"));
-    }
-    let pool = Pool::open(alloc, &mut journal, FirstByteNamer)?;
-    Ok(StoreParts {
-        journal,
-        pool,
-        catalog,
-        counts: HostCounts::new(alloc)?,
-        sessions: Sessions::new(alloc),
-        views: Views::new(),
-        halted: false,
-    })
-}
-
-fn is_node(node: &Node, wanted: &[u8]) -> bool {
-    match node {
-        Node::File(file) => file.size == wanted.len() as u64,
-        Node::Dir(_) => wanted == b"dir".as_slice(),
-        Node::Link(_) => false,
-    }
-}
-
-// Whether a reply has these bytes, is of a file of as many bytes, or names this rule.
-fn says(reply: &Result<Answer, Refusal>, wanted: &[u8]) -> bool {
-    match reply {
-        Ok(Answer::Content(bytes)) => bytes.as_slice() == wanted,
-        Ok(Answer::Entry(node)) => is_node(node, wanted),
-        Err(Refusal::Broken(rule)) => rule.name().as_bytes() == wanted,
-        _ => false,
-    }
-}
-
-fn has_names(entries: &EntryList, wanted: &[&[u8]]) -> bool {
-    if entries.as_slice().len() != wanted.len() {
-        return false;
-    }
-    for (entry, name) in entries.as_slice().iter().zip(wanted) {
-        if entry.name.as_slice() != *name {
-            return false;
-        }
-    }
-    true
-}
-
-fn lists(reply: &Result<Answer, Refusal>, wanted: &[&[u8]]) -> bool {
-    match reply {
-        Ok(Answer::Entries(entries)) => has_names(entries, wanted),
-        _ => match wanted {
-            [rule] => says(reply, rule),
-            _ => false,
-        },
-    }
-}
-
-fn expect(holds: bool, text: &'static str) -> Result<(), Fail> {
-    if holds { Ok(()) } else { Err(Fail::new(text)) }
-}
-
-fn expect_file(
-    alloc: Global,
-    parts: &mut StoreParts<MemoryDisk, FirstByteNamer>,
-    asked: &(u32, &[u8], &[u8]),
-) -> Result<(), Fail> {
-    if parts.halted || parts.journal.halted() {
-        return Err(Fail::new("the store is halted"));
-    }
-    let host = HostName::read(alloc, b"a")?;
-    let path = PathName::read(alloc, asked.1)?;
-    let reply = read_file(parts, alloc, &host, asked.0, &path);
-    expect(says(&reply, asked.2), "another file")
-}
-
-fn expect_node(
-    alloc: Global,
-    parts: &mut StoreParts<MemoryDisk, FirstByteNamer>,
-    asked: &(u32, &[u8], &[u8]),
-) -> Result<(), Fail> {
-    if parts.halted || parts.journal.halted() {
-        return Err(Fail::new("the store is halted"));
-    }
-    let host = HostName::read(alloc, b"a")?;
-    let path = PathName::read(alloc, asked.1)?;
-    let reply = lookup(parts, alloc, &host, asked.0, &path);
-    expect(says(&reply, asked.2), "another node")
-}
-
-fn expect_names(
-    alloc: Global,
-    parts: &mut StoreParts<MemoryDisk, FirstByteNamer>,
-    asked: &(u32, &[u8], &[&[u8]]),
-) -> Result<(), Fail> {
-    if parts.halted || parts.journal.halted() {
-        return Err(Fail::new("the store is halted"));
-    }
-    let host = HostName::read(alloc, b"a")?;
-    let path = PathName::read(alloc, asked.1)?;
-    let reply = list(parts, alloc, &host, asked.0, Some(&path));
-    expect(lists(&reply, asked.2), "other names")
-}
-
-fn expect_root(
-    alloc: Global,
-    parts: &mut StoreParts<MemoryDisk, FirstByteNamer>,
-) -> Result<(), Fail> {
-    if parts.halted || parts.journal.halted() {
-        return Err(Fail::new("the store is halted"));
-    }
-    let host = HostName::read(alloc, b"a")?;
-    let reply = list(parts, alloc, &host, 2, None);
-    expect(lists(&reply, &[b"d", b"z"]), "another root")
-}
-
 #[test]
 fn backups_are_read_through_newer_ones(rt: HostRuntime) -> Result<(), Fail> {
     let alloc = rt.alloc();
-    let mut parts = parts_of(alloc)?;
-    for asked in &FILES {
-        expect_file(alloc, &mut parts, asked)?;
-    }
-    for asked in &NODES {
-        expect_node(alloc, &mut parts, asked)?;
-    }
-    for asked in &LISTS {
-        expect_names(alloc, &mut parts, asked)?;
-    }
-    expect_root(alloc, &mut parts)
+    let mut parts = parts_with(alloc, disk_of(alloc)?, &[0, 2, 5])?;
+    expect_rows(alloc, &mut parts, ROWS)
 }

@@ -1,24 +1,15 @@
-ghost use Rattle.std.specs.Prelude.{◌≡◌, false, IfOk};
+ghost use Rattle.std.specs.Prelude.{IfOk};
 ghost use Rattle.attr_tables.specs.Records.{IsSound};
-ghost use Rattle.intent_journal.specs.Changes.{AreChanges};
-ghost use Rattle.office_catalog.specs.Changed.{IsFor};
 
-use attr_records::{Attr, HostName, Link, LinkTarget, PathName};
-use attr_tables::{Record, Row, StoredFile, Table, write_table};
-use backup_rules::{Kind, Line, Rules};
-use backup_views::Views;
+use crate::parts::{Parts, expect_rows, parts_with, reply_to};
+use attr_records::{Attr, Link, LinkTarget, PathName};
+use attr_tables::{Record, Row as TableRow, StoredFile, Table, write_table};
 use disk_trait::{Bytes, Disk, DiskRoom, FileId, MemoryDisk, PoolId};
-use host_counts::HostCounts;
-use intent_journal::Journal;
-use office_catalog::{Catalog, CatalogChange};
-use office_model::{Answer, Frame, Node, Refusal, SessionName};
-use open_sessions::Sessions;
+use office_model::{Answer, Event, Frame, Node, Refusal, SessionName};
+use office_talks::{Row, expect};
 use pool_name::{FirstByteNamer, Namer};
-use pool_store::Pool;
 use std::alloc::{AllocError, Global};
 use std::test::Fail;
-use store_parts::StoreParts;
-use store_restores::{close_read, open_read, read_next};
 
 const ROOM: DiskRoom = DiskRoom {
     changes: 100,
@@ -83,7 +74,7 @@ fn link_of(alloc: Global) -> Result<Record, Fail>
 fn push(alloc: Global, table: &mut Table, path: &[u8], node: Record) -> Result<(), Fail>
     requires { IsSound node }
 {
-    table.push(Row::new(PathName::read(alloc, path)?, node))?;
+    table.push(TableRow::new(PathName::read(alloc, path)?, node))?;
     Ok(())
 }
 
@@ -106,86 +97,8 @@ fn disk_of(alloc: Global, second: &[u8]) -> Result<MemoryDisk, Fail> {
     Ok(disk)
 }
 
-fn journal_of(alloc: Global, second: &[u8]) -> Result<Journal<MemoryDisk>, Fail>
-    ensures { IfOk result (λ journal. journal.halted ≡ false) }
-{
-    match journal_view::open(alloc, disk_of(alloc, second)?) {
-        Ok(journal) => Ok(journal),
-        Err(_) => Err(Fail::new("the journal doesn't open")),
-    }
-}
-
-// Commits a change and makes it.
-fn make(
-    alloc: Global,
-    journal: &mut Journal<MemoryDisk>,
-    catalog: &mut Catalog,
-    change: CatalogChange,
-) -> Result<(), Fail>
-    requires are { AreChanges change.changes }
-    requires fits { IsFor catalog.old change }
-{
-    journal.commit(alloc, change.changes())?;
-    catalog.accept(change);
-    Ok(())
-}
-
-// Adds the host `a`.
-fn add(
-    alloc: Global,
-    journal: &mut Journal<MemoryDisk>,
-    catalog: &mut Catalog,
-) -> Result<(), Fail> {
-    let name = HostName::read(alloc, b"a")?;
-    if catalog.is_full() || catalog.has(&name) {
-        return Err(Fail::new("no room"));
-    }
-    let change = catalog.propose_host(alloc, name, Rules::defaults(alloc)?)?;
-    make(alloc, journal, catalog, change)
-}
-
-// Puts the line of its backup.
-fn put(
-    alloc: Global,
-    journal: &mut Journal<MemoryDisk>,
-    catalog: &mut Catalog,
-) -> Result<(), Fail> {
-    if catalog.hosts().is_empty() {
-        return Err(Fail::new("no host"));
-    }
-    if !catalog.may_follow(0, NUMBER) {
-        return Err(Fail::new("the number is given"));
-    }
-    let line = Line {
-        number: NUMBER,
-        start: 0,
-        end: 0,
-        kind: Kind::Incr,
-        filled: true,
-        keep: false,
-    };
-    let change = catalog.propose_line(alloc, 0, line, false)?;
-    make(alloc, journal, catalog, change)
-}
-
-fn parts_of(alloc: Global, second: &[u8]) -> Result<StoreParts<MemoryDisk, FirstByteNamer>, Fail> {
-    let mut journal = journal_of(alloc, second)?;
-    let mut catalog = office_catalog::open(alloc, &mut journal)?;
-    add(alloc, &mut journal, &mut catalog)?;
-    put(alloc, &mut journal, &mut catalog)?;
-    if journal.halted() {
-        return Err(Fail::new("the journal is halted"));
-    }
-    let pool = Pool::open(alloc, &mut journal, FirstByteNamer)?;
-    Ok(StoreParts {
-        journal,
-        pool,
-        catalog,
-        counts: HostCounts::new(alloc)?,
-        sessions: Sessions::new(alloc),
-        views: Views::new(),
-        halted: false,
-    })
+fn parts_of(alloc: Global, second: &[u8]) -> Result<Parts<FirstByteNamer>, Fail> {
+    parts_with(alloc, disk_of(alloc, second)?, &[NUMBER])
 }
 
 fn is_entry(path: &PathName, node: &Node, wanted: &Wanted) -> bool {
@@ -214,65 +127,41 @@ fn is_frame(frame: &Frame, wanted: &Wanted) -> bool {
     }
 }
 
-fn expect(holds: bool, text: &'static str) -> Result<(), Fail> {
-    if holds { Ok(()) } else { Err(Fail::new(text)) }
-}
+const RESTORE: Event = Event::ReadNext {
+    restore: SessionName {
+        epoch: 0,
+        sequence: 0,
+    },
+};
 
-type TestParts = StoreParts<MemoryDisk, FirstByteNamer>;
+const OPEN: [Row; 1] = [Row(
+    "POST /hosts/a/backups/5/restores",
+    "",
+    "{\"restore\":\"0-0\"}",
+)];
 
-// The restore that is opened of this backup, or the rule that is broken.
-fn open(
-    alloc: Global,
-    parts: &mut TestParts,
-    host: &[u8],
-    number: u32,
-) -> Result<Option<SessionName>, Fail> {
-    if parts.halted || parts.journal.halted() {
-        return Err(Fail::new("the store is halted"));
-    }
-    let host = HostName::read(alloc, host)?;
-    match open_read(parts, alloc, &host, number) {
-        Ok(Answer::Restore(name)) => Ok(Some(name)),
-        Err(Refusal::Broken(_)) => Ok(None),
-        _ => Err(Fail::new("another answer")),
-    }
-}
+const CLOSE: [Row; 2] = [
+    Row("DELETE /restores/0-0", "", "{}"),
+    Row("DELETE /restores/0-0", "", "{\"refused\":\"NoSession\"}"),
+];
 
 fn expect_next(
     alloc: Global,
-    parts: &mut TestParts,
-    restore: SessionName,
+    parts: &mut Parts<FirstByteNamer>,
     wanted: &Wanted,
 ) -> Result<(), Fail> {
-    if parts.halted || parts.journal.halted() {
-        return Err(Fail::new("the store is halted"));
-    }
-    match read_next(parts, alloc, restore) {
+    match reply_to(alloc, parts, &RESTORE)? {
         Ok(Answer::Next(frame)) => expect(is_frame(&frame, wanted), "another frame"),
         _ => Err(Fail::new("no frame")),
     }
 }
 
 // Whether the next frame is refused for a damaged file.
-fn is_damaged(alloc: Global, parts: &mut TestParts, restore: SessionName) -> Result<bool, Fail> {
-    if parts.halted || parts.journal.halted() {
-        return Err(Fail::new("the store is halted"));
-    }
-    match read_next(parts, alloc, restore) {
+fn is_damaged(alloc: Global, parts: &mut Parts<FirstByteNamer>) -> Result<bool, Fail> {
+    match reply_to(alloc, parts, &RESTORE)? {
         Ok(_) => Ok(false),
         Err(Refusal::Damaged { .. }) => Ok(true),
         Err(_) => Err(Fail::new("another refusal")),
-    }
-}
-
-fn expect_closed(parts: &mut TestParts, restore: SessionName, is_open: bool) -> Result<(), Fail> {
-    if parts.halted {
-        return Err(Fail::new("the store is halted"));
-    }
-    match close_read(parts, restore) {
-        Ok(Answer::Done) => expect(is_open, "closed twice"),
-        Err(Refusal::Broken(_)) => expect(!is_open, "not open"),
-        _ => Err(Fail::new("another answer")),
     }
 }
 
@@ -280,41 +169,50 @@ fn expect_closed(parts: &mut TestParts, restore: SessionName, is_open: bool) -> 
 fn a_restore_gives_each_frame_of_its_backup(rt: HostRuntime) -> Result<(), Fail> {
     let alloc = rt.alloc();
     let mut parts = parts_of(alloc, &content_of(alloc, b'b', b'c')?)?;
-    let Some(restore) = open(alloc, &mut parts, b"a", NUMBER)? else {
-        return Err(Fail::new("no restore"));
-    };
+    expect_rows(alloc, &mut parts, &OPEN)?;
     for wanted in &FRAMES {
-        expect_next(alloc, &mut parts, restore, wanted)?;
+        expect_next(alloc, &mut parts, wanted)?;
     }
-    expect_closed(&mut parts, restore, true)?;
-    expect_closed(&mut parts, restore, false)
+    expect_rows(alloc, &mut parts, &CLOSE)
 }
+
+const NO_BACKUP: [Row; 2] = [
+    Row(
+        "POST /hosts/a/backups/4/restores",
+        "",
+        "{\"refused\":\"NoBackup\"}",
+    ),
+    Row(
+        "POST /hosts/b/backups/5/restores",
+        "",
+        "{\"refused\":\"NoHost\"}",
+    ),
+];
 
 #[test]
 fn only_a_backup_is_restored(rt: HostRuntime) -> Result<(), Fail> {
     let alloc = rt.alloc();
     let mut parts = parts_of(alloc, &content_of(alloc, b'b', b'c')?)?;
-    for (host, number) in [(b"a", 4), (b"b", NUMBER)] {
-        if open(alloc, &mut parts, host, number)?.is_some() {
-            return Err(Fail::new("a restore of no backup"));
-        }
-    }
+    expect_rows(alloc, &mut parts, &NO_BACKUP)?;
     expect(parts.sessions.restores.is_empty(), "an open restore")
+}
+
+const DAMAGED: [bool; 7] = [false, false, false, false, false, true, true];
+
+// A second content of these bytes is told to be damaged.
+fn expect_damaged(alloc: Global, second: &[u8]) -> Result<(), Fail> {
+    let mut parts = parts_of(alloc, second)?;
+    expect_rows(alloc, &mut parts, &OPEN)?;
+    for damaged in DAMAGED {
+        expect(is_damaged(alloc, &mut parts)? == damaged, "another answer")?;
+    }
+    Ok(())
 }
 
 // A content of another digest, and one that is a byte too short.
 #[test]
 fn another_content_is_damaged_in_the_place_of_its_last_piece(rt: HostRuntime) -> Result<(), Fail> {
     let alloc = rt.alloc();
-    for (first, last) in [(b'x', b'c'), (b'b', 0)] {
-        let mut parts = parts_of(alloc, &content_of(alloc, first, last)?)?;
-        let Some(restore) = open(alloc, &mut parts, b"a", NUMBER)? else {
-            return Err(Fail::new("no restore"));
-        };
-        for damaged in [false, false, false, false, false, true, true] {
-            let answer = is_damaged(alloc, &mut parts, restore)?;
-            expect(answer == damaged, "another answer")?;
-        }
-    }
-    Ok(())
+    expect_damaged(alloc, &content_of(alloc, b'x', b'c')?)?;
+    expect_damaged(alloc, &content_of(alloc, b'b', 0)?)
 }

@@ -1,16 +1,12 @@
-ghost use Rattle.std.specs.Prelude.{◌≤◌};
-
-use attr_records::{Attr, File, HostName, Item, PathName};
-use backup_rules::{Kind, Line, RuleChange, Rules, Setting};
-use disk_trait::{Bytes, Choice, Disk, DiskRoom, MemoryDisk};
-use office_model::{Answer, Event, Frame, Port, Refusal, SessionName};
-use office_store::Store;
+use disk_trait::{Choice, Disk, DiskRoom, MemoryDisk};
+use office_store::{DirectPort, Store};
+use office_talks::{HOST, NOW, Row, expect, expect_rows, is_answered, moment_at, place_answered};
 use pool_name::Md5Namer;
 use std::alloc::Global;
 use std::test::Fail;
-use stream_traits::Moment;
 use tree_office::TreeOffice;
-use wake_schedule::Local;
+
+type TestPort = DirectPort<MemoryDisk, Md5Namer>;
 
 const ROOM: DiskRoom = DiskRoom {
     changes: 200,
@@ -19,454 +15,414 @@ const ROOM: DiskRoom = DiskRoom {
 
 const CHOICES: [Choice; 3] = [Choice::Written, Choice::Absent, Choice::One(0x4F)];
 
-/// What is asked. Hosts are named, dumps go by their number in the first epoch, restores in the second.
-#[derive(Clone, Copy)]
-enum Ask {
-    Host(&'static str),
-    Fill(&'static str, u32),
-    Contact(&'static str, bool),
-    Keep(&'static str),
-    Due(&'static str),
-    Full(&'static str),
-    Incr(&'static str),
-    Put(u64, &'static str, &'static str),
-    Remove(u64, &'static str),
-    Commit(u64),
-    Abort(u64),
-    List(&'static str, u32),
-    Lookup(&'static str, u32, &'static str),
-    Read(&'static str, u32, &'static str),
-    Stats,
-    Hosts,
-    Backups(&'static str),
-    Reopen,
-    Restore(&'static str, u32),
-    Next(u64),
-    Close(u64),
-    Delete(&'static str, u32),
-    Expire(&'static str),
-    Clean(u8),
-    Sweep,
-}
+const OTHER_HOST: Row = Row("PUT /hosts/pc2", "", "{\"host\":\"pc2\"}");
 
-/// What is asked of a blank office, and the replies.
-const SCRIPT: &[(Ask, &str)] = &[
-    (Ask::Hosts, ""),
-    (Ask::Host("pc1"), "done"),
-    (Ask::Host("pc1"), "HostExists"),
-    (Ask::Host("pc2"), "done"),
-    (Ask::Hosts, "pc1 pc2 "),
-    (Ask::Fill("pc1", 7), "done"),
-    (Ask::Fill("pc3", 7), "NoHost"),
-    (Ask::Keep("pc1"), "NoBackup"),
-    (Ask::Keep("pc3"), "NoHost"),
-    (Ask::Contact("pc1", true), "good 1 bad 0"),
-    (Ask::Contact("pc1", true), "good 2 bad 0"),
-    (Ask::Contact("pc1", false), "good 2 bad 1"),
-    (Ask::Due("pc1"), "false Some(Full)"),
-    (Ask::Due("pc3"), "NoHost"),
-    (Ask::Full("pc1"), "1-0"),
-    (Ask::Full("pc1"), "SessionOpen"),
-    (Ask::Full("pc2"), "1-1"),
-    (Ask::Full("pc3"), "NoHost"),
-    (Ask::Remove(0, "a"), "NoPath"),
-    (Ask::Put(0, "a", "hello"), "done"),
-    (Ask::Remove(0, "a"), "done"),
-    (Ask::Remove(0, "a"), "NoPath"),
-    (Ask::Put(1, "a", "hello"), "done"),
-    (Ask::Put(2, "a", "hello"), "NoSession"),
-    (Ask::Commit(3), "NoSession"),
-    (Ask::Backups("pc1"), "0 filled 0 next 0 dump true"),
-    (Ask::Stats, "2 0 2 0 0"),
-    (Ask::Abort(0), "done"),
-    (Ask::Abort(0), "NoSession"),
-    (Ask::Remove(0, "a"), "NoSession"),
-    (Ask::Backups("pc1"), "0 filled 0 next 0 dump false"),
-    (Ask::Commit(0), "NoSession"),
-    (Ask::List("pc1", 0), "NoBackup"),
-    (Ask::Lookup("pc1", 0, "a"), "NoBackup"),
-    (Ask::Read("pc3", 0, "a"), "NoHost"),
-    (Ask::Commit(1), "number 0"),
-    (Ask::Commit(1), "NoSession"),
-    (Ask::Backups("pc2"), "1 filled 1 next 1 dump false"),
-    (Ask::Keep("pc2"), "done"),
-    (Ask::List("pc2", 0), "1 entries"),
-    (Ask::Lookup("pc2", 0, "a"), "entry"),
-    (Ask::Read("pc2", 0, "a"), "5 bytes"),
-    (Ask::Full("pc2"), "1-2"),
-    (Ask::Remove(2, "a"), "NoPath"),
-    (Ask::Commit(2), "number 1"),
-    (Ask::Backups("pc2"), "2 filled 2 next 2 dump false"),
-    (Ask::Read("pc2", 0, "a"), "5 bytes"),
-    (Ask::Stats, "2 2 0 0 1"),
-    (Ask::Incr("pc1"), "NoBackup"),
-    (Ask::Incr("pc3"), "NoHost"),
-    (Ask::Full("pc1"), "1-3"),
-    (Ask::Incr("pc1"), "NoBackup"),
-    (Ask::Put(3, "a", "hello"), "done"),
-    (Ask::Put(3, "b", "farewell"), "done"),
-    (Ask::Put(3, "c", "same"), "done"),
-    (Ask::Commit(3), "number 0"),
-    (Ask::Incr("pc1"), "1-4"),
-    (Ask::Incr("pc1"), "SessionOpen"),
-    (Ask::Put(4, "a", "changed"), "done"),
-    (Ask::Remove(4, "b"), "done"),
-    (Ask::Commit(4), "number 1"),
-    (Ask::Read("pc1", 1, "a"), "7 bytes"),
-    (Ask::Incr("pc1"), "1-5"),
-    (Ask::Remove(5, "b"), "NoPath"),
-    (Ask::Put(5, "d", "new"), "done"),
-    (Ask::Commit(5), "number 2"),
-    (Ask::Backups("pc1"), "3 filled 2 next 3 dump false"),
-    (Ask::Incr("pc1"), "1-6"),
-    (Ask::Abort(6), "done"),
-    (Ask::Stats, "2 5 0 0 5"),
-    (Ask::Reopen, "epoch 2"),
-    (Ask::List("pc1", 2), "3 entries"),
-    (Ask::Read("pc1", 2, "a"), "7 bytes"),
-    (Ask::Read("pc1", 2, "b"), "NoPath"),
-    (Ask::Read("pc1", 2, "d"), "3 bytes"),
-    (Ask::List("pc1", 1), "2 entries"),
-    (Ask::Read("pc1", 1, "a"), "7 bytes"),
-    (Ask::Read("pc1", 1, "b"), "NoPath"),
-    (Ask::Read("pc1", 1, "c"), "4 bytes"),
-    (Ask::Read("pc1", 1, "d"), "NoPath"),
-    (Ask::List("pc1", 0), "3 entries"),
-    (Ask::Read("pc1", 0, "a"), "5 bytes"),
-    (Ask::Read("pc1", 0, "b"), "8 bytes"),
-    (Ask::Read("pc2", 0, "a"), "5 bytes"),
-    (Ask::Backups("pc2"), "2 filled 2 next 2 dump false"),
-    (Ask::Commit(1), "NoSession"),
-    (Ask::Abort(1), "NoSession"),
-    (Ask::Hosts, "pc1 pc2 "),
-    (Ask::Contact("pc1", false), "good 2 bad 2"),
-    (Ask::Full("pc2"), "2-0"),
-    (Ask::Incr("pc1"), "2-1"),
-    (Ask::Stats, "2 5 2 0 5"),
-    (Ask::Restore("pc1", 7), "NoBackup"),
-    (Ask::Restore("pc1", 0), "restore 2-2"),
-    (Ask::Delete("pc1", 0), "done"),
-    (Ask::Delete("pc1", 0), "NoBackup"),
-    (Ask::Delete("pc2", 0), "Kept"),
-    (Ask::Read("pc1", 1, "a"), "7 bytes"),
-    (Ask::Clean(15), "0 marked 0 unmarked 0 removed"),
-    (Ask::Next(2), "entry a"),
-    (Ask::Next(2), "piece of 5"),
-    (Ask::Next(2), "entry b"),
-    (Ask::Next(2), "piece of 8"),
-    (Ask::Next(2), "entry c"),
-    (Ask::Next(2), "piece of 4"),
-    (Ask::Next(2), "end of 3"),
-    (Ask::Next(2), "end of 3"),
-    (Ask::Close(2), "done"),
-    (Ask::Close(2), "NoSession"),
-    (Ask::Next(2), "NoSession"),
-    (Ask::Clean(15), "1 marked 0 unmarked 0 removed"),
-    (Ask::Clean(15), "0 marked 0 unmarked 1 removed"),
-    (Ask::Clean(16), "BadBucket"),
-    (Ask::Sweep, "done"),
-    (Ask::Stats, "2 4 2 0 4"),
-    (Ask::Expire("pc1"), "expired 0"),
-    (Ask::Expire("pc3"), "NoHost"),
-    (Ask::Reopen, "epoch 3"),
-    (Ask::List("pc1", 1), "2 entries"),
-    (Ask::Read("pc1", 1, "c"), "4 bytes"),
-    (Ask::Read("pc2", 0, "a"), "5 bytes"),
+/// What is asked of a blank office, and the replies. The mode 0077 of some files keeps the frames of a restore in ASCII.
+const SCRIPT: &[Row] = &[
+    Row("GET /hosts", "", "{\"hosts\":[]}"),
+    Row("PUT /hosts/pc1", "", "{\"host\":\"pc1\"}"),
+    Row("PUT /hosts/pc1", "", "{\"refused\":\"HostExists\"}"),
+    Row("PUT /hosts/pc2", "", "{\"host\":\"pc2\"}"),
+    Row("GET /hosts", "", "{\"hosts\":[\"pc1\",\"pc2\"]}"),
+    Row("PUT /hosts/pc1/rules?FillCycle=7", "", "{}"),
+    Row(
+        "PUT /hosts/pc3/rules?FillCycle=7",
+        "",
+        "{\"refused\":\"NoHost\"}",
+    ),
+    Row(
+        "POST /hosts/pc1/backups/0/keep?on=1",
+        "",
+        "{\"refused\":\"NoBackup\"}",
+    ),
+    Row(
+        "POST /hosts/pc3/backups/0/keep?on=1",
+        "",
+        "{\"refused\":\"NoHost\"}",
+    ),
+    Row(
+        "POST /hosts/pc1/contacts?good=1",
+        "",
+        "{\"bad\":0,\"good\":1}",
+    ),
+    Row(
+        "POST /hosts/pc1/contacts?good=1",
+        "",
+        "{\"bad\":0,\"good\":2}",
+    ),
+    Row(
+        "POST /hosts/pc1/contacts?good=0",
+        "",
+        "{\"bad\":1,\"good\":2}",
+    ),
+    Row(
+        "GET /hosts/pc1/due",
+        "",
+        "{\"blackout\":false,\"due\":\"full\"}",
+    ),
+    Row("GET /hosts/pc3/due", "", "{\"refused\":\"NoHost\"}"),
+    Row("POST /hosts/pc1/dumps?kind=full", "", "{\"dump\":\"1-0\"}"),
+    Row(
+        "POST /hosts/pc1/dumps?kind=full",
+        "",
+        "{\"refused\":\"SessionOpen\"}",
+    ),
+    Row("POST /hosts/pc2/dumps?kind=full", "", "{\"dump\":\"1-1\"}"),
+    Row(
+        "POST /hosts/pc3/dumps?kind=full",
+        "",
+        "{\"refused\":\"NoHost\"}",
+    ),
+    Row(
+        "DELETE /dumps/1-0/entry?path=a",
+        "",
+        "{\"refused\":\"NoPath\"}",
+    ),
+    Row("PUT /dumps/1-0/entry?path=a&kind=file", "hello", "{}"),
+    Row("DELETE /dumps/1-0/entry?path=a", "", "{}"),
+    Row(
+        "DELETE /dumps/1-0/entry?path=a",
+        "",
+        "{\"refused\":\"NoPath\"}",
+    ),
+    Row("PUT /dumps/1-1/entry?path=a&kind=file", "hello", "{}"),
+    Row(
+        "PUT /dumps/1-2/entry?path=a&kind=file",
+        "hello",
+        "{\"refused\":\"NoSession\"}",
+    ),
+    Row("POST /dumps/1-3/commit", "", "{\"refused\":\"NoSession\"}"),
+    Row(
+        "GET /hosts/pc1/backups",
+        "",
+        "{\"backups\":[],\"dump\":\"1-0\",\"next\":0}",
+    ),
+    Row(
+        "GET /stats",
+        "",
+        "{\"backups\":0,\"bytes\":0,\"dumps\":2,\"files\":0,\"hosts\":2,\"marked\":0,\"restores\":0}",
+    ),
+    Row("DELETE /dumps/1-0", "", "{}"),
+    Row("DELETE /dumps/1-0", "", "{\"refused\":\"NoSession\"}"),
+    Row(
+        "DELETE /dumps/1-0/entry?path=a",
+        "",
+        "{\"refused\":\"NoSession\"}",
+    ),
+    Row(
+        "GET /hosts/pc1/backups",
+        "",
+        "{\"backups\":[],\"dump\":null,\"next\":0}",
+    ),
+    Row("POST /dumps/1-0/commit", "", "{\"refused\":\"NoSession\"}"),
+    Row(
+        "GET /hosts/pc1/backups/0/list",
+        "",
+        "{\"refused\":\"NoBackup\"}",
+    ),
+    Row(
+        "GET /hosts/pc1/backups/0/entry?path=a",
+        "",
+        "{\"refused\":\"NoBackup\"}",
+    ),
+    Row(
+        "GET /hosts/pc3/backups/0/file?path=a",
+        "",
+        "{\"refused\":\"NoHost\"}",
+    ),
+    Row("POST /dumps/1-1/commit", "", "{\"number\":0}"),
+    Row("POST /dumps/1-1/commit", "", "{\"refused\":\"NoSession\"}"),
+    Row(
+        "GET /hosts/pc2/backups",
+        "",
+        "{\"backups\":[{\"end\":1700000000,\"filled\":true,\"keep\":false,\"kind\":\"full\",\"number\":0,\"start\":1700000000}],\"dump\":null,\"next\":1}",
+    ),
+    Row("POST /hosts/pc2/backups/0/keep?on=1", "", "{}"),
+    Row(
+        "GET /hosts/pc2/backups/0/list",
+        "",
+        "{\"entries\":[{\"gid\":0,\"group\":0,\"kind\":\"file\",\"mode\":\"0644\",\"mtime\":0,\"name\":\"a\",\"nanos\":0,\"size\":5,\"uid\":0}]}",
+    ),
+    Row(
+        "GET /hosts/pc2/backups/0/entry?path=a",
+        "",
+        "{\"gid\":0,\"group\":0,\"kind\":\"file\",\"mode\":\"0644\",\"mtime\":0,\"nanos\":0,\"size\":5,\"uid\":0}",
+    ),
+    Row("GET /hosts/pc2/backups/0/file?path=a", "", "hello"),
+    Row("POST /hosts/pc2/dumps?kind=full", "", "{\"dump\":\"1-2\"}"),
+    Row(
+        "DELETE /dumps/1-2/entry?path=a",
+        "",
+        "{\"refused\":\"NoPath\"}",
+    ),
+    Row("POST /dumps/1-2/commit", "", "{\"number\":1}"),
+    Row(
+        "GET /hosts/pc2/backups",
+        "",
+        "{\"backups\":[{\"end\":1700000000,\"filled\":true,\"keep\":true,\"kind\":\"full\",\"number\":0,\"start\":1700000000},{\"end\":1700000000,\"filled\":true,\"keep\":false,\"kind\":\"full\",\"number\":1,\"start\":1700000000}],\"dump\":null,\"next\":2}",
+    ),
+    Row("GET /hosts/pc2/backups/0/file?path=a", "", "hello"),
+    Row(
+        "GET /stats",
+        "",
+        "{\"backups\":2,\"bytes\":5,\"dumps\":0,\"files\":1,\"hosts\":2,\"marked\":0,\"restores\":0}",
+    ),
+    Row(
+        "POST /hosts/pc1/dumps?kind=incr",
+        "",
+        "{\"refused\":\"NoBackup\"}",
+    ),
+    Row(
+        "POST /hosts/pc3/dumps?kind=incr",
+        "",
+        "{\"refused\":\"NoHost\"}",
+    ),
+    Row("POST /hosts/pc1/dumps?kind=full", "", "{\"dump\":\"1-3\"}"),
+    Row(
+        "POST /hosts/pc1/dumps?kind=incr",
+        "",
+        "{\"refused\":\"NoBackup\"}",
+    ),
+    Row(
+        "PUT /dumps/1-3/entry?path=a&kind=file&mode=77",
+        "hello",
+        "{}",
+    ),
+    Row(
+        "PUT /dumps/1-3/entry?path=b&kind=file&mode=77",
+        "farewell",
+        "{}",
+    ),
+    Row(
+        "PUT /dumps/1-3/entry?path=c&kind=file&mode=77",
+        "same",
+        "{}",
+    ),
+    Row("POST /dumps/1-3/commit", "", "{\"number\":0}"),
+    Row("POST /hosts/pc1/dumps?kind=incr", "", "{\"dump\":\"1-4\"}"),
+    Row(
+        "POST /hosts/pc1/dumps?kind=incr",
+        "",
+        "{\"refused\":\"SessionOpen\"}",
+    ),
+    Row("PUT /dumps/1-4/entry?path=a&kind=file", "changed", "{}"),
+    Row("DELETE /dumps/1-4/entry?path=b", "", "{}"),
+    Row("POST /dumps/1-4/commit", "", "{\"number\":1}"),
+    Row("GET /hosts/pc1/backups/1/file?path=a", "", "changed"),
+    Row("POST /hosts/pc1/dumps?kind=incr", "", "{\"dump\":\"1-5\"}"),
+    Row(
+        "DELETE /dumps/1-5/entry?path=b",
+        "",
+        "{\"refused\":\"NoPath\"}",
+    ),
+    Row("PUT /dumps/1-5/entry?path=d&kind=file", "new", "{}"),
+    Row("POST /dumps/1-5/commit", "", "{\"number\":2}"),
+    Row(
+        "GET /hosts/pc1/backups",
+        "",
+        "{\"backups\":[{\"end\":1700000000,\"filled\":true,\"keep\":false,\"kind\":\"full\",\"number\":0,\"start\":1700000000},{\"end\":1700000000,\"filled\":false,\"keep\":false,\"kind\":\"incr\",\"number\":1,\"start\":1700000000},{\"end\":1700000000,\"filled\":true,\"keep\":false,\"kind\":\"incr\",\"number\":2,\"start\":1700000000}],\"dump\":null,\"next\":3}",
+    ),
+    Row("POST /hosts/pc1/dumps?kind=incr", "", "{\"dump\":\"1-6\"}"),
+    Row("DELETE /dumps/1-6", "", "{}"),
+    Row(
+        "GET /stats",
+        "",
+        "{\"backups\":5,\"bytes\":27,\"dumps\":0,\"files\":5,\"hosts\":2,\"marked\":0,\"restores\":0}",
+    ),
+    Row("POST /reopen", "", "{\"epoch\":2}"),
+    Row(
+        "GET /hosts/pc1/backups/2/list",
+        "",
+        "{\"entries\":[{\"gid\":0,\"group\":0,\"kind\":\"file\",\"mode\":\"0644\",\"mtime\":0,\"name\":\"a\",\"nanos\":0,\"size\":7,\"uid\":0},{\"gid\":0,\"group\":0,\"kind\":\"file\",\"mode\":\"0077\",\"mtime\":0,\"name\":\"c\",\"nanos\":0,\"size\":4,\"uid\":0},{\"gid\":0,\"group\":0,\"kind\":\"file\",\"mode\":\"0644\",\"mtime\":0,\"name\":\"d\",\"nanos\":0,\"size\":3,\"uid\":0}]}",
+    ),
+    Row("GET /hosts/pc1/backups/2/file?path=a", "", "changed"),
+    Row(
+        "GET /hosts/pc1/backups/2/file?path=b",
+        "",
+        "{\"refused\":\"NoPath\"}",
+    ),
+    Row("GET /hosts/pc1/backups/2/file?path=d", "", "new"),
+    Row(
+        "GET /hosts/pc1/backups/1/list",
+        "",
+        "{\"entries\":[{\"gid\":0,\"group\":0,\"kind\":\"file\",\"mode\":\"0644\",\"mtime\":0,\"name\":\"a\",\"nanos\":0,\"size\":7,\"uid\":0},{\"gid\":0,\"group\":0,\"kind\":\"file\",\"mode\":\"0077\",\"mtime\":0,\"name\":\"c\",\"nanos\":0,\"size\":4,\"uid\":0}]}",
+    ),
+    Row("GET /hosts/pc1/backups/1/file?path=a", "", "changed"),
+    Row(
+        "GET /hosts/pc1/backups/1/file?path=b",
+        "",
+        "{\"refused\":\"NoPath\"}",
+    ),
+    Row("GET /hosts/pc1/backups/1/file?path=c", "", "same"),
+    Row(
+        "GET /hosts/pc1/backups/1/file?path=d",
+        "",
+        "{\"refused\":\"NoPath\"}",
+    ),
+    Row(
+        "GET /hosts/pc1/backups/0/list",
+        "",
+        "{\"entries\":[{\"gid\":0,\"group\":0,\"kind\":\"file\",\"mode\":\"0077\",\"mtime\":0,\"name\":\"a\",\"nanos\":0,\"size\":5,\"uid\":0},{\"gid\":0,\"group\":0,\"kind\":\"file\",\"mode\":\"0077\",\"mtime\":0,\"name\":\"b\",\"nanos\":0,\"size\":8,\"uid\":0},{\"gid\":0,\"group\":0,\"kind\":\"file\",\"mode\":\"0077\",\"mtime\":0,\"name\":\"c\",\"nanos\":0,\"size\":4,\"uid\":0}]}",
+    ),
+    Row("GET /hosts/pc1/backups/0/file?path=a", "", "hello"),
+    Row("GET /hosts/pc1/backups/0/file?path=b", "", "farewell"),
+    Row("GET /hosts/pc2/backups/0/file?path=a", "", "hello"),
+    Row(
+        "GET /hosts/pc2/backups",
+        "",
+        "{\"backups\":[{\"end\":1700000000,\"filled\":true,\"keep\":true,\"kind\":\"full\",\"number\":0,\"start\":1700000000},{\"end\":1700000000,\"filled\":true,\"keep\":false,\"kind\":\"full\",\"number\":1,\"start\":1700000000}],\"dump\":null,\"next\":2}",
+    ),
+    Row("POST /dumps/1-1/commit", "", "{\"refused\":\"NoSession\"}"),
+    Row("DELETE /dumps/1-1", "", "{\"refused\":\"NoSession\"}"),
+    Row("GET /hosts", "", "{\"hosts\":[\"pc1\",\"pc2\"]}"),
+    Row(
+        "POST /hosts/pc1/contacts?good=0",
+        "",
+        "{\"bad\":2,\"good\":2}",
+    ),
+    Row("POST /hosts/pc2/dumps?kind=full", "", "{\"dump\":\"2-0\"}"),
+    Row("POST /hosts/pc1/dumps?kind=incr", "", "{\"dump\":\"2-1\"}"),
+    Row(
+        "GET /stats",
+        "",
+        "{\"backups\":5,\"bytes\":27,\"dumps\":2,\"files\":5,\"hosts\":2,\"marked\":0,\"restores\":0}",
+    ),
+    Row(
+        "POST /hosts/pc1/backups/7/restores",
+        "",
+        "{\"refused\":\"NoBackup\"}",
+    ),
+    Row(
+        "POST /hosts/pc1/backups/0/restores",
+        "",
+        "{\"restore\":\"2-2\"}",
+    ),
+    Row("DELETE /hosts/pc1/backups/0", "", "{}"),
+    Row(
+        "DELETE /hosts/pc1/backups/0",
+        "",
+        "{\"refused\":\"NoBackup\"}",
+    ),
+    Row("DELETE /hosts/pc2/backups/0", "", "{\"refused\":\"Kept\"}"),
+    Row("GET /hosts/pc1/backups/1/file?path=a", "", "changed"),
+    Row(
+        "POST /night/clean?bucket=15",
+        "",
+        "{\"marked\":0,\"removed\":0,\"unmarked\":0}",
+    ),
+    Row(
+        "GET /restores/2-2/next",
+        "",
+        "E\x01\0\x01a\0\0\0?\0\0\0\0\0\0\0\0\0\0\0\0\0\0\0\0\0\0\0\0\0\0\0\0\0\0\0\0\0\0\0\x05",
+    ),
+    Row("GET /restores/2-2/next", "", "D\0\0\0\x05hello"),
+    Row(
+        "GET /restores/2-2/next",
+        "",
+        "E\x01\0\x01b\0\0\0?\0\0\0\0\0\0\0\0\0\0\0\0\0\0\0\0\0\0\0\0\0\0\0\0\0\0\0\0\0\0\0\x08",
+    ),
+    Row("GET /restores/2-2/next", "", "D\0\0\0\x08farewell"),
+    Row(
+        "GET /restores/2-2/next",
+        "",
+        "E\x01\0\x01c\0\0\0?\0\0\0\0\0\0\0\0\0\0\0\0\0\0\0\0\0\0\0\0\0\0\0\0\0\0\0\0\0\0\0\x04",
+    ),
+    Row("GET /restores/2-2/next", "", "D\0\0\0\x04same"),
+    Row("GET /restores/2-2/next", "", "Z\0\0\0\x03"),
+    Row("GET /restores/2-2/next", "", "Z\0\0\0\x03"),
+    Row("DELETE /restores/2-2", "", "{}"),
+    Row("DELETE /restores/2-2", "", "{\"refused\":\"NoSession\"}"),
+    Row("GET /restores/2-2/next", "", "{\"refused\":\"NoSession\"}"),
+    Row(
+        "POST /night/clean?bucket=15",
+        "",
+        "{\"marked\":1,\"removed\":0,\"unmarked\":0}",
+    ),
+    Row(
+        "POST /night/clean?bucket=15",
+        "",
+        "{\"marked\":0,\"removed\":1,\"unmarked\":0}",
+    ),
+    Row(
+        "POST /night/clean?bucket=16",
+        "",
+        "{\"refused\":\"BadBucket\"}",
+    ),
+    Row("POST /night/sweep", "", "{}"),
+    Row(
+        "GET /stats",
+        "",
+        "{\"backups\":4,\"bytes\":19,\"dumps\":2,\"files\":4,\"hosts\":2,\"marked\":0,\"restores\":0}",
+    ),
+    Row("POST /hosts/pc1/expire", "", "{\"deleted\":0}"),
+    Row("POST /hosts/pc3/expire", "", "{\"refused\":\"NoHost\"}"),
+    Row("POST /reopen", "", "{\"epoch\":3}"),
+    Row(
+        "GET /hosts/pc1/backups/1/list",
+        "",
+        "{\"entries\":[{\"gid\":0,\"group\":0,\"kind\":\"file\",\"mode\":\"0644\",\"mtime\":0,\"name\":\"a\",\"nanos\":0,\"size\":7,\"uid\":0},{\"gid\":0,\"group\":0,\"kind\":\"file\",\"mode\":\"0077\",\"mtime\":0,\"name\":\"c\",\"nanos\":0,\"size\":4,\"uid\":0}]}",
+    ),
+    Row("GET /hosts/pc1/backups/1/file?path=c", "", "same"),
+    Row("GET /hosts/pc2/backups/0/file?path=a", "", "hello"),
 ];
 
-fn expect(holds: bool, text: &'static str) -> Result<(), Fail> {
-    if holds { Ok(()) } else { Err(Fail::new(text)) }
-}
-
-fn moment() -> Moment {
-    Moment::new(1_700_000_000).unwrap_or(Moment::first())
-}
-
-fn dump(sequence: u64) -> SessionName {
-    SessionName { epoch: 1, sequence }
-}
-
-fn restore(sequence: u64) -> SessionName {
-    SessionName { epoch: 2, sequence }
-}
-
-fn host(alloc: Global, name: &str) -> Result<HostName, Fail> {
-    Ok(HostName::read(alloc, name.as_bytes())?)
-}
-
-fn path(alloc: Global, text: &str) -> Result<PathName, Fail> {
-    Ok(PathName::read(alloc, text.as_bytes())?)
-}
-
-fn fill(cycle: u32) -> Result<RuleChange, Fail> {
-    let mut change = RuleChange::none();
-    change.set(Setting::FillCycle, cycle)?;
-    Ok(change)
-}
-
-fn file(alloc: Global, text: &str) -> Result<Item, Fail> {
-    Ok(Item::File(File {
-        attr: Attr::file_default(),
-        group: 0,
-        bytes: Bytes::from_slice(alloc, text.as_bytes())?,
-    }))
-}
-
-fn open_event(alloc: Global, name: &str, kind: Kind) -> Result<Event, Fail> {
-    Ok(Event::OpenDump {
-        host: host(alloc, name)?,
-        kind,
-        now: moment(),
-    })
-}
-
-/// An event of a restore, or one that ends what is kept.
-fn end_event(alloc: Global, ask: Ask) -> Result<Event, Fail> {
-    match ask {
-        Ask::Restore(name, number) => Ok(Event::OpenRead {
-            host: host(alloc, name)?,
-            number,
-        }),
-        Ask::Next(sequence) => Ok(Event::ReadNext {
-            restore: restore(sequence),
-        }),
-        Ask::Close(sequence) => Ok(Event::CloseRead {
-            restore: restore(sequence),
-        }),
-        Ask::Delete(name, number) => Ok(Event::Delete {
-            host: host(alloc, name)?,
-            number,
-        }),
-        Ask::Expire(name) => Ok(Event::Expire {
-            host: host(alloc, name)?,
-            now: moment(),
-        }),
-        Ask::Clean(bucket) => Ok(Event::Clean { bucket }),
-        _ => Ok(Event::Sweep),
-    }
-}
-
-/// An event of a backup, of a dump, or of the whole office.
-fn other_event(alloc: Global, ask: Ask) -> Result<Event, Fail> {
-    match ask {
-        Ask::List(name, number) => Ok(Event::List {
-            host: host(alloc, name)?,
-            number,
-            directory: None,
-        }),
-        Ask::Lookup(name, number, at) => Ok(Event::Lookup {
-            host: host(alloc, name)?,
-            number,
-            path: path(alloc, at)?,
-        }),
-        Ask::Read(name, number, at) => Ok(Event::ReadFile {
-            host: host(alloc, name)?,
-            number,
-            path: path(alloc, at)?,
-        }),
-        Ask::Put(sequence, at, text) => Ok(Event::Put {
-            dump: dump(sequence),
-            path: path(alloc, at)?,
-            item: file(alloc, text)?,
-        }),
-        Ask::Remove(sequence, at) => Ok(Event::Remove {
-            dump: dump(sequence),
-            path: path(alloc, at)?,
-        }),
-        Ask::Commit(sequence) => Ok(Event::Commit {
-            dump: dump(sequence),
-            now: moment(),
-        }),
-        Ask::Abort(sequence) => Ok(Event::Abort {
-            dump: dump(sequence),
-        }),
-        Ask::Stats => Ok(Event::Stats),
-        Ask::Hosts => Ok(Event::Hosts),
-        Ask::Reopen => Ok(Event::Reopen),
-        _ => end_event(alloc, ask),
-    }
-}
-
-fn event_of(alloc: Global, ask: Ask) -> Result<Event, Fail> {
-    match ask {
-        Ask::Host(name) => Ok(Event::AddHost {
-            host: host(alloc, name)?,
-            rules: Rules::defaults(alloc)?,
-        }),
-        Ask::Fill(name, cycle) => Ok(Event::SetRules {
-            host: host(alloc, name)?,
-            change: fill(cycle)?,
-        }),
-        Ask::Contact(name, good) => Ok(Event::Contact {
-            host: host(alloc, name)?,
-            good,
-        }),
-        Ask::Keep(name) => Ok(Event::Keep {
-            host: host(alloc, name)?,
-            number: 0,
-            on: true,
-        }),
-        Ask::Due(name) => Ok(Event::Due {
-            host: host(alloc, name)?,
-            now: moment(),
-            local: Local {
-                day: 0,
-                minute: 600,
-                weekday: 1,
-            },
-        }),
-        Ask::Full(name) => open_event(alloc, name, Kind::Full),
-        Ask::Incr(name) => open_event(alloc, name, Kind::Incr),
-        Ask::Backups(name) => Ok(Event::Backups {
-            host: host(alloc, name)?,
-        }),
-        _ => other_event(alloc, ask),
-    }
-}
-
-fn names_text(alloc: Global, names: &[HostName]) -> Result<String, Fail> {
-    let mut text = String::new(alloc);
-    for name in names {
-        let name = String::from_utf8_lossy(alloc, name.as_slice())?;
-        text.push_str(&format!(in alloc; "{name} ")?)?;
-    }
-    Ok(text)
-}
-
-fn count_filled(lines: &[Line]) -> u32 {
-    let mut count = 0u32;
-    for line in lines {
-        if line.filled {
-            count = count.saturating_add(1);
-        }
-    }
-    count
-}
-
-fn frame_text(alloc: Global, frame: Frame) -> Result<String, Fail> {
-    match frame {
-        Frame::Entry { path, node: _ } => {
-            let path = String::from_utf8_lossy(alloc, path.as_slice())?;
-            Ok(format!(in alloc; "entry {path}")?)
-        }
-        Frame::Piece(bytes) => Ok(format!(in alloc; "piece of {}", bytes.as_slice().len())?),
-        Frame::End(count) => Ok(format!(in alloc; "end of {count}")?),
-    }
-}
-
-fn answer_text(alloc: Global, answer: Answer) -> Result<String, Fail> {
-    match answer {
-        Answer::Done => Ok(String::from_str(alloc, "done")?),
-        Answer::Dump(name) => Ok(format!(in alloc; "{name}")?),
-        Answer::Contacts { good, bad } => Ok(format!(in alloc; "good {good} bad {bad}")?),
-        Answer::Due { blackout, kind } => Ok(format!(in alloc; "{blackout} {kind:?}")?),
-        Answer::Stats(s) => Ok(format!(in alloc;
-            "{} {} {} {} {}",
-            s.hosts, s.backups, s.dumps, s.restores, s.files
-        )?),
-        Answer::Hosts(list) => names_text(alloc, list.as_slice()),
-        Answer::Backups { lines, next, dump } => Ok(format!(in alloc;
-            "{} filled {} next {next} dump {}",
-            lines.as_slice().len(),
-            count_filled(lines.as_slice()),
-            dump.is_some()
-        )?),
-        Answer::Committed(number) => Ok(format!(in alloc; "number {number}")?),
-        Answer::Entries(entries) => Ok(format!(in alloc; "{} entries", entries.as_slice().len())?),
-        Answer::Entry(_) => Ok(String::from_str(alloc, "entry")?),
-        Answer::Content(bytes) => Ok(format!(in alloc; "{} bytes", bytes.as_slice().len())?),
-        Answer::Reopened(epoch) => Ok(format!(in alloc; "epoch {epoch}")?),
-        Answer::Restore(name) => Ok(format!(in alloc; "restore {name}")?),
-        Answer::Next(frame) => frame_text(alloc, frame),
-        Answer::Expired(count) => Ok(format!(in alloc; "expired {count}")?),
-        Answer::Cleaned {
-            marked,
-            unmarked,
-            removed,
-        } => Ok(format!(in alloc; "{marked} marked {unmarked} unmarked {removed} removed")?),
-    }
-}
-
-fn text_of(alloc: Global, reply: Result<Answer, Refusal>) -> Result<String, Fail> {
-    match reply {
-        Ok(answer) => answer_text(alloc, answer),
-        Err(refusal) => Ok(format!(in alloc; "{refusal}")?),
-    }
-}
-
-/// The store of a blank disk, of which these calls fail.
-fn store_failing(alloc: Global, calls: Vec<u64>) -> Result<Store<MemoryDisk, Md5Namer>, Fail> {
-    open(alloc, MemoryDisk::new(alloc, calls, ROOM)?)
-}
-
-fn open(alloc: Global, disk: MemoryDisk) -> Result<Store<MemoryDisk, Md5Namer>, Fail> {
+/// The port of the store of a disk.
+fn open(alloc: Global, disk: MemoryDisk) -> Result<TestPort, Fail> {
     match Store::open(alloc, disk, Md5Namer) {
-        Ok(store) => Ok(store),
+        Ok(store) => Ok(DirectPort::new(store)),
         Err(_) => Err(Fail::new("not opened")),
     }
+}
+
+fn open_blank(alloc: Global) -> Result<TestPort, Fail> {
+    open(alloc, MemoryDisk::new(alloc, Vec::new(alloc), ROOM)?)
 }
 
 #[test]
 fn a_store_answers_as_the_office_in_memory_does(rt: HostRuntime) -> Result<(), Fail> {
     let alloc = rt.alloc();
-    let mut office = TreeOffice::new(alloc, Md5Namer);
-    let mut store = store_failing(alloc, Vec::new(alloc))?;
-    for (ask, reply) in SCRIPT.iter() {
-        let event = event_of(alloc, *ask)?;
-        let got = text_of(alloc, store.apply(alloc, &event))?;
-        assert_eq!(rt; got.as_str(), *reply, "the store");
-        let model = text_of(alloc, office.call(alloc, &event))?;
-        assert_eq!(rt; model.as_str(), *reply, "the office in memory");
-    }
-    Ok(())
+    expect_rows(alloc, &mut open_blank(alloc)?, moment_at(NOW), SCRIPT)?;
+    expect_rows(
+        alloc,
+        &mut TreeOffice::new(alloc, Md5Namer),
+        moment_at(NOW),
+        SCRIPT,
+    )
 }
 
-fn add(
-    store: &mut Store<MemoryDisk, Md5Namer>,
-    alloc: Global,
-    name: &str,
-) -> Result<Answer, Refusal> {
-    let host = match HostName::read(alloc, name.as_bytes()) {
-        Ok(name) => name,
-        Err(_) => return Err(Refusal::Memory),
-    };
-    let rules = Rules::defaults(alloc)?;
-    store.apply(alloc, &Event::AddHost { host, rules })
+/// The disk of a store that was asked so.
+fn disk_with(alloc: Global, rows: &[Row]) -> Result<MemoryDisk, Fail> {
+    let mut port = open_blank(alloc)?;
+    expect_rows(alloc, &mut port, moment_at(NOW), rows)?;
+    Ok(port.into_store().close())
 }
 
-/// The disk of a store with these hosts.
-fn disk_with(alloc: Global, names: &[&str]) -> Result<MemoryDisk, Fail> {
-    let mut store = store_failing(alloc, Vec::new(alloc))?;
-    for name in names {
-        let text = text_of(alloc, add(&mut store, alloc, name))?;
-        expect(text.as_str() == "done", "not added")?;
-    }
-    Ok(store.close())
-}
-
-/// How many hosts a store has, which are the first of two.
-fn count_hosts(alloc: Global, store: &mut Store<MemoryDisk, Md5Namer>) -> Result<u32, Fail> {
-    let text = text_of(alloc, store.apply(alloc, &Event::Hosts))?;
-    match text.as_str() {
-        "" => Ok(0),
-        "pc1 " => Ok(1),
-        "pc1 pc2 " => Ok(2),
-        _ => Err(Fail::new("other hosts")),
-    }
-}
+/// The hosts that a store may have, which are the first of two.
+const HOSTS: [Row; 3] = [
+    Row("GET /hosts", "", "{\"hosts\":[]}"),
+    Row("GET /hosts", "", "{\"hosts\":[\"pc1\"]}"),
+    Row("GET /hosts", "", "{\"hosts\":[\"pc1\",\"pc2\"]}"),
+];
 
 /// How many hosts the image of a crash has.
-fn hosts_after(alloc: Global, disk: &MemoryDisk, moment: usize, choice: Choice) -> Result<u32, Fail>
-    requires { moment ≤ ⟦<MemoryDisk as Disk>⟧.moment disk.now }
-{
-    count_hosts(alloc, &mut open(alloc, disk.image(alloc, moment, choice)?)?)
+fn hosts_after(
+    alloc: Global,
+    disk: &MemoryDisk,
+    moment: usize,
+    choice: Choice,
+) -> Result<usize, Fail> {
+    if moment > disk.moment() {
+        return Err(Fail::new("a moment to come"));
+    }
+    let mut port = open(alloc, disk.image(alloc, moment, choice)?)?;
+    place_answered(alloc, &mut port, moment_at(NOW), &HOSTS)
 }
 
 #[test]
 fn each_crash_of_a_new_host_leaves_the_hosts_before_or_after(rt: HostRuntime) -> Result<(), Fail> {
     let alloc = rt.alloc();
-    let start = disk_with(alloc, &["pc1"])?.moment();
-    let disk = disk_with(alloc, &["pc1", "pc2"])?;
+    let start = disk_with(alloc, &[HOST])?.moment();
+    let disk = disk_with(alloc, &[HOST, OTHER_HOST])?;
     let end = disk.moment();
     for moment in start..end {
         for choice in CHOICES {
@@ -480,33 +436,35 @@ fn each_crash_of_a_new_host_leaves_the_hosts_before_or_after(rt: HostRuntime) ->
     )
 }
 
+const FAILED: Row = Row("PUT /hosts/pc1", "", "{\"refused\":\"DiskFault\"}");
+
+/// What a halted store answers until it is reopened.
+const HALTED: [Row; 2] = [
+    Row("GET /hosts", "", "{\"refused\":\"Halted\"}"),
+    Row("POST /reopen", "", "{\"epoch\":2}"),
+];
+
 /// A store that met a fault is halted; reopened it has the host or not.
-fn expect_halted(alloc: Global, store: &mut Store<MemoryDisk, Md5Namer>) -> Result<(), Fail> {
+fn expect_halted(alloc: Global, store: Store<MemoryDisk, Md5Namer>) -> Result<(), Fail> {
     expect(store.is_halted() && store.faults() == 1, "not halted")?;
-    match store.apply(alloc, &Event::Hosts) {
-        Err(Refusal::Halted) => {}
-        _ => return Err(Fail::new("a halted store answers")),
-    }
-    match store.apply(alloc, &Event::Reopen) {
-        Ok(Answer::Reopened(epoch)) => expect(epoch == 2, "another epoch")?,
-        _ => return Err(Fail::new("not reopened")),
-    }
-    expect(count_hosts(alloc, store)? < 2, "another host")
+    let mut port = DirectPort::new(store);
+    expect_rows(alloc, &mut port, moment_at(NOW), &HALTED)?;
+    let count = place_answered(alloc, &mut port, moment_at(NOW), &HOSTS)?;
+    expect(count < 2, "another host")
 }
 
 /// Whether the failing call was one of the event's.
 fn is_met(alloc: Global, call: u64) -> Result<bool, Fail> {
     let disk = MemoryDisk::new(alloc, Vec::from_array(alloc, [call])?, ROOM)?;
-    let mut store = match Store::open(alloc, disk, Md5Namer) {
-        Ok(store) => store,
-        Err(_) => return Ok(false),
+    let Ok(store) = Store::open(alloc, disk, Md5Namer) else {
+        return Ok(false);
     };
-    match add(&mut store, alloc, "pc1") {
-        Err(Refusal::DiskFault) => {}
-        _ => return Ok(false),
+    let mut port = DirectPort::new(store);
+    let is_met = is_answered(alloc, &mut port, moment_at(NOW), &FAILED)?;
+    if is_met {
+        expect_halted(alloc, port.into_store())?;
     }
-    expect_halted(alloc, &mut store)?;
-    Ok(true)
+    Ok(is_met)
 }
 
 #[test]
