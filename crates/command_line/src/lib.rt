@@ -8,6 +8,7 @@
 //! | `CommandLine`, `Work` | the words, understood: the store, the settings, and what is to be done |
 //! | `LineFault` | why there is no line |
 //! | `parse` | the line of some words |
+//! | `Parsed` | words with their line, which is read once |
 //! | `USAGE`, `complaint` | how the program is called, and what is said of words that are no line |
 //!
 //! ```text
@@ -25,7 +26,9 @@
 mod commands;
 mod line;
 mod matches;
+mod parsed;
 mod usage;
 
 pub use line::{CommandLine, LineFault, Work, parse};
+pub use parsed::Parsed;
 pub use usage::{USAGE, complaint};
