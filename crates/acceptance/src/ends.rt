@@ -2,6 +2,7 @@
 
 use admin_cli::{Done, run};
 use caller_doors::ListDoor;
+use command_line::Parsed;
 use disk_trait::{Disk, DiskRoom, FileId, MemoryDisk};
 use pool_name::Md5Namer;
 use std::alloc::{AllocError, AllocGlobal, Global};
@@ -102,7 +103,7 @@ pub fn run_over(rt: &impl Machine, case: &Case<'_>, disk: MemoryDisk) -> Result<
     Ok(run(
         rt,
         alloc,
-        words.as_slice(),
+        &Parsed::read(alloc, words.as_slice()),
         case.settings.as_bytes(),
         disk,
         Md5Namer,

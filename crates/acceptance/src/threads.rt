@@ -4,6 +4,7 @@ use crate::ends::{Case, Machine, QUIET, Want, disk_of, expect_end, link_of, new_
 use crate::files::{COMMIT, COMMITTED, CONTENT, READ};
 use admin_cli::{Done, run};
 use caller_doors::ListDoor;
+use command_line::Parsed;
 use disk_trait::{Disk, MemoryDisk};
 use office_model::{Answer, Event, Refusal};
 use office_store::Store;
@@ -29,7 +30,7 @@ fn run_apart<D: Disk + Send + Drop, C: Clock + Drop, L: Link + Drop>(
         run(
             rt,
             alloc,
-            words.as_slice(),
+            &Parsed::read(alloc, words.as_slice()),
             &[],
             disk,
             Md5Namer,

@@ -38,7 +38,7 @@ note_of_settings F.Memory = NoMemory
 
 -- the words ask for this work, and the settings are these
 pub record IsAsked (line : Option Line) (settings : List ℕ) (asked : Asked) : Type 0 where
-  pub work : AsksFor (task_of asked.work) line
+  pub work : AsksFor (task_of asked.work.now) line
   pub settings_are : IsSettings settings asked.settings
 
 -- The words are no command line, or the settings no settings file, for this reason; or there was no memory for them or, after them,

@@ -5,15 +5,15 @@ ghost use Rattle.admin_cli.specs.Asked.{note_of_settings, defaults_of, IsAsked, 
 
 use crate::note::Note;
 use browse_http::Interface;
-use command_line::{CommandLine, LineFault, Work, parse};
+use command_line::{LineFault, Parsed, Work};
 use request_events::Defaults;
 use settings_file::{Settings, SettingsFault, read_settings};
 use std::alloc::{AllocError, Global};
 
 /// What a run is to do, and by which settings.
 #[derive(Drop)]
-pub struct Asked {
-    pub work: Work,
+pub struct Asked<'a> {
+    pub work: &'a Work,
     pub settings: Settings,
 }
 
@@ -58,21 +58,24 @@ pub fn interface_of(alloc: Global, settings: Settings) -> Result<Interface, Allo
     Interface::new(alloc, defaults_of(settings))
 }
 
-/// Reads the words, and then the settings.
-pub fn read_asked(alloc: Global, words: &[String], settings: &[u8]) -> Result<Asked, Note>
-    ensures ok { IfOk result (IsAsked (line_of (map string_bytes words.now)) settings.now) }
-    ensures err { IfErr result (IsRefused (line_of (map string_bytes words.now)) settings.now) }
+/// Looks at the line of the words, and then reads the settings.
+pub fn read_asked<'a>(
+    alloc: Global,
+    parsed: &'a Parsed<'_>,
+    settings: &[u8],
+) -> Result<Asked<'a>, Note>
+    ensures ok { IfOk result (IsAsked (line_of (map string_bytes parsed.now.words.now)) settings.now) }
+    ensures err { IfErr result (IsRefused (line_of (map string_bytes parsed.now.words.now)) settings.now) }
 {
-    let CommandLine {
-        store: _,
-        settings: _,
-        work,
-    } = match parse(alloc, words) {
+    let line = match parsed.line() {
         Ok(line) => line,
         Err(fault) => return Err(note_of_line(fault)),
     };
     match read_settings(alloc, settings) {
-        Ok(settings) => Ok(Asked { work, settings }),
+        Ok(settings) => Ok(Asked {
+            work: &line.work,
+            settings,
+        }),
         Err(fault) => Err(note_of_settings(fault)),
     }
 }

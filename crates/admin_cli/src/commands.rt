@@ -12,7 +12,7 @@ use crate::nightly::run_night;
 use crate::pipe::serve_pipe;
 use crate::servers::serve_store;
 use caller_doors::Door;
-use command_line::Work;
+use command_line::{Parsed, Work};
 use disk_trait::Disk;
 use pool_name::Namer;
 use serve_workers::Worker;
@@ -43,7 +43,7 @@ pub fn run<
 >(
     rt: &R,
     alloc: Global,
-    words: &[String],
+    parsed: &Parsed<'_>,
     settings: &[u8],
     disk: D,
     namer: N,
@@ -54,15 +54,15 @@ pub fn run<
 where
     N::State: Send,
     ensures headline { Runs ⟦<D as Disk>⟧ N.digest_of ⟦<T::Link as Faults>⟧ T.coming T.given_back T.faults C.moments
-        disk result.disk (line_of (map string_bytes words.now)) settings.now
+        disk result.disk (line_of (map string_bytes parsed.now.words.now)) settings.now
         (seen_of ⟦<L as Faults>⟧ link) (seen_of ⟦<L as Faults>⟧ result.link) (C.moments clock.old) (C.moments clock.new)
         workers.items result.workers.items result.note }
-    ensures refusals { TellsRefusals (line_of (map string_bytes words.now)) settings.now result.note }
-    ensures complete { IsComplete ⟦<D as Disk>⟧ N.digest_of disk result.disk (line_of (map string_bytes words.now)) settings.now
+    ensures refusals { TellsRefusals (line_of (map string_bytes parsed.now.words.now)) settings.now result.note }
+    ensures complete { IsComplete ⟦<D as Disk>⟧ N.digest_of disk result.disk (line_of (map string_bytes parsed.now.words.now)) settings.now
         (L.faults link) (L.faults result.link) (counts_of T.faults workers.items) (counts_of T.faults result.workers.items) result.note }
 {
     do_asked(
-        rt, alloc, words, settings, disk, namer, clock, link, workers,
+        rt, alloc, parsed, settings, disk, namer, clock, link, workers,
     )
 }
 
@@ -78,7 +78,7 @@ fn do_asked<
 >(
     rt: &R,
     alloc: Global,
-    words: &[String],
+    parsed: &Parsed<'_>,
     settings: &[u8],
     disk: D,
     namer: N,
@@ -89,18 +89,18 @@ fn do_asked<
 where
     N::State: Send,
     ensures { Runs ⟦<D as Disk>⟧ N.digest_of ⟦<T::Link as Faults>⟧ T.coming T.given_back T.faults C.moments
-        disk result.disk (line_of (map string_bytes words.now)) settings.now
+        disk result.disk (line_of (map string_bytes parsed.now.words.now)) settings.now
         (seen_of ⟦<L as Faults>⟧ link) (seen_of ⟦<L as Faults>⟧ result.link) (C.moments clock.old) (C.moments clock.new)
         workers.items result.workers.items result.note }
 {
-    let Asked { work, settings } = match read_asked(alloc, words, settings) {
+    let Asked { work, settings } = match read_asked(alloc, parsed, settings) {
         Ok(asked) => asked,
         Err(note) => return Done::new(note, disk, link, workers),
     };
     match work {
         Work::Pipe => serve_pipe(alloc, settings, disk, namer, clock, link).with_workers(workers),
         Work::Night { scheduled } => run_night(
-            alloc, &settings, scheduled, disk, namer, clock, link,
+            alloc, &settings, *scheduled, disk, namer, clock, link,
         ).with_workers(workers),
         Work::Serve {
             listen: _,

@@ -2,7 +2,7 @@
 //! notes with their statuses, and the layers below by their public clauses alone; no bytes of a store's file.
 //!
 //! ```text
-//! let Done { note, disk, link, workers } = run(rt, alloc, &words, settings, disk, namer, &mut clock, link, workers);
+//! let Done { note, disk, link, workers } = run(rt, alloc, &parsed, settings, disk, namer, &mut clock, link, workers);
 //! ```
 #![tactic(auto)]
 

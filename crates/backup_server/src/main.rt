@@ -20,7 +20,7 @@ use crate::standard_streams::StandardStreams;
 use crate::store_folder::lock_folder;
 use crate::system_clock::SystemClock;
 use admin_cli::{Done, Note, run};
-use command_line::{CommandLine, LineFault, Work, complaint, parse};
+use command_line::{CommandLine, LineFault, Parsed, Work, complaint};
 use pool_name::Md5Namer;
 use std::alloc::AllocError;
 use std::io::{ErrorKind, Stdin, Stdout};
@@ -53,17 +53,18 @@ fn read_words(rt: &HostRuntime) -> Result<Vec<String>, LineFault> {
 
 /// Does what the words ask, and gives the status.
 fn obey<H: Threads + Wait + Sync>(rt: &HostRuntime, threads: &H, words: &[String]) -> u8 {
-    let line = match parse(rt.alloc(), words) {
+    let parsed = Parsed::read(rt.alloc(), words);
+    let line = match parsed.line() {
         Ok(line) => line,
         Err(fault) => return refuse(rt, words, fault),
     };
-    let settings = match read_settings(rt, &line) {
+    let settings = match read_settings(rt, line) {
         Ok(settings) => settings,
         Err(status) => return status,
     };
     let folder = line.store.as_str();
     match FolderDisk::open(*rt, threads, folder) {
-        Ok(disk) => obey_alone(rt, threads, words, settings.as_slice(), &line, disk),
+        Ok(disk) => obey_alone(rt, threads, &parsed, settings.as_slice(), line, disk),
         Err(error) => not_made(
             rt,
             error,
@@ -91,7 +92,7 @@ fn read_settings(rt: &HostRuntime, line: &CommandLine) -> Result<Vec<u8>, u8> {
 fn obey_alone<H: Threads + Wait + Sync>(
     rt: &HostRuntime,
     threads: &H,
-    words: &[String],
+    parsed: &Parsed<'_>,
     settings: &[u8],
     line: &CommandLine,
     disk: FolderDisk<&H>,
@@ -99,7 +100,7 @@ fn obey_alone<H: Threads + Wait + Sync>(
     let folder = line.store.as_str();
     match lock_folder(rt, folder) {
         Ok(Some(lock)) => {
-            let status = obey_work(rt, threads, words, settings, line, disk);
+            let status = obey_work(rt, threads, parsed, settings, line, disk);
             drop(lock);
             status
         }
@@ -119,7 +120,7 @@ fn obey_alone<H: Threads + Wait + Sync>(
 fn obey_work<H: Threads + Wait + Sync>(
     rt: &HostRuntime,
     threads: &H,
-    words: &[String],
+    parsed: &Parsed<'_>,
     settings: &[u8],
     line: &CommandLine,
     disk: FolderDisk<&H>,
@@ -134,7 +135,7 @@ fn obey_work<H: Threads + Wait + Sync>(
             return do_asked(
                 rt,
                 threads,
-                words,
+                parsed,
                 settings,
                 folder,
                 disk,
@@ -151,7 +152,7 @@ fn obey_work<H: Threads + Wait + Sync>(
         ),
     };
     match workers_at(rt, &listener, connections) {
-        Ok(workers) => do_asked(rt, threads, words, settings, folder, disk, workers),
+        Ok(workers) => do_asked(rt, threads, parsed, settings, folder, disk, workers),
         Err(AllocError) => end(rt, Note::NoMemory),
     }
 }
@@ -161,7 +162,7 @@ fn obey_work<H: Threads + Wait + Sync>(
 fn do_asked<H: Threads + Wait + Sync>(
     rt: &HostRuntime,
     threads: &H,
-    words: &[String],
+    parsed: &Parsed<'_>,
     settings: &[u8],
     folder: &str,
     disk: FolderDisk<&H>,
@@ -184,7 +185,7 @@ fn do_asked<H: Threads + Wait + Sync>(
     } = run(
         threads,
         rt.alloc(),
-        words,
+        parsed,
         settings,
         disk,
         Md5Namer,

@@ -4,6 +4,7 @@ use admin_cli::{Worker, run};
 use backup_rules::Rules;
 use browse_http::{End, Interface, serve_connection};
 use caller_doors::ListDoor;
+use command_line::Parsed;
 use disk_trait::{DiskRoom, MemoryDisk};
 use office_model::Port;
 use pool_name::Md5Namer;
@@ -263,7 +264,7 @@ fn expect_from_store(
     let done = run(
         rt,
         alloc,
-        words.as_slice(),
+        &Parsed::read(alloc, words.as_slice()),
         b"",
         disk,
         Md5Namer,

@@ -2,6 +2,7 @@
 
 use admin_cli::{Done, Note, run};
 use caller_doors::ListDoor;
+use command_line::Parsed;
 use disk_trait::{Choice, Disk, DiskRoom, FileId, MemoryDisk};
 use pool_name::Namer;
 use std::alloc::{AllocError, AllocGlobal, Global};
@@ -178,7 +179,7 @@ where
     Ok(run(
         rt,
         alloc,
-        words.as_slice(),
+        &Parsed::read(alloc, words.as_slice()),
         b"",
         disk,
         namer,

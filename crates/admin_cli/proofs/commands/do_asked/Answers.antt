@@ -6,7 +6,6 @@ use Rattle.admin_cli.proofs.HeadlineLaws.{runs_pipe, runs_doors}
 use Rattle.admin_cli.proofs.NightLaws.{some_period}
 use Rattle.admin_cli.proofs.RunLaws.{refuses_early}
 use Rattle.admin_cli.proofs.commands.do_asked.Goals as goal
-use Rattle.admin_cli.proofs.commands.do_asked.Goals.{in-Pipe, in-Night, in-Serve}
 
 asks : (asked work : Work) (line : Option Line) → asked ≡ work → AsksFor (task_of asked) line → AsksFor (task_of work) line
 asks asked work line is asks_for = subst (λ (w : Work). AsksFor (task_of w) line) is asks_for
@@ -17,20 +16,21 @@ returns-in-Err g c = rw c.new.ensures (inl (inr (inr (refuses_early _ _ _ _ _ _ 
 pub run_night-requires-after_bounds : goal.run_night-requires-after_bounds
 run_night-requires-after_bounds g c κs within = some_period _ _ c.in-Ok.ensures.ok.settings_are
 
-pub returns : goal.returns
-returns g c = elim c.match-work.branch [
-  | in-Pipe w ↦
-      rw (w.result-is, w.clock-is, w.with_workers.ensures)
-      (inl (
-        runs_pipe _ _ _ _ _ _ _ _ _ _ _
-            (w.serve_pipe.ensures _ _ (asks _ _ _ w.in-Pipe.is c.in-Ok.ensures.ok.work) c.in-Ok.ensures.ok.settings_are),
-        refl,
-      ))
-  | in-Night w ↦
-      rw (w.result-is, w.clock-is, w.with_workers-in-Night.ensures)
-      (inl (inr (w.run_night.ensures _ _ (asks _ _ _ w.in-Night.is c.in-Ok.ensures.ok.work) c.in-Ok.ensures.ok.settings_are), refl))
-  | in-Serve w ↦
-      rw (w.result-is, w.clock-is, w.with_link.ensures)
-      (runs_doors _ _ _ _ _ _ _ _ _ _ _ _ _ _ _ _ _ _
-      (w.serve_store.ensures _ _ _ _ (asks _ _ _ w.in-Serve.is c.in-Ok.ensures.ok.work) c.in-Ok.ensures.ok.settings_are) refl refl)
-]
+pub returns-in-Pipe : goal.returns-in-Pipe
+returns-in-Pipe g c =
+    rw c.with_workers.ensures (inl (
+      runs_pipe _ _ _ _ _ _ _ _ _ _ _
+          (c.serve_pipe.ensures _ _ (asks _ _ _ c.in-Pipe.is c.in-Ok.ensures.ok.work) c.in-Ok.ensures.ok.settings_are),
+      refl,
+    ))
+
+pub returns-in-Night : goal.returns-in-Night
+returns-in-Night g c =
+    rw c.with_workers-in-Night.ensures
+    (inl (inr (c.run_night.ensures _ _ (asks _ _ _ c.in-Night.is c.in-Ok.ensures.ok.work) c.in-Ok.ensures.ok.settings_are), refl))
+
+pub returns-in-Serve : goal.returns-in-Serve
+returns-in-Serve g c =
+    rw c.with_link.ensures
+    (runs_doors _ _ _ _ _ _ _ _ _ _ _ _ _ _ _ _ _ _
+    (c.serve_store.ensures _ _ _ _ (asks _ _ _ c.in-Serve.is c.in-Ok.ensures.ok.work) c.in-Ok.ensures.ok.settings_are) refl refl)
