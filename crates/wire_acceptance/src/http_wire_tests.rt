@@ -399,33 +399,56 @@ const CALLS: [(usize, bool, &[u8]); 6] = [
     (65_537, true, b"wwf"),
 ];
 
+/// Writes two responses over a link that is lent, and sends them.
+fn write_two<L: Link>(
+    alloc: Global,
+    link: &mut L,
+    first: &Response<'_>,
+    second: &Response<'_>,
+) -> Result<(), Fail> {
+    let mut wire = Wire::new(alloc, link);
+    if !first.has_short_head() || !second.has_short_head() {
+        return Err(Fail::new("a long head"));
+    }
+    write_response(&mut wire, first)?;
+    write_response(&mut wire, second)?;
+    wire.send()?;
+    Ok(())
+}
+
+/// Appends the bytes of a response.
+fn add_response(output: &mut Vec<u8>, response: &Response<'_>) -> Result<(), Fail> {
+    if !response.has_short_head() {
+        return Err(Fail::new("a long head"));
+    }
+    output.extend_from_slice(head_text(response).as_slice())?;
+    output.extend_from_slice(sent_body(response))?;
+    Ok(())
+}
+
 /// Writes a short response and one with a body of this length, sends both, and compares the calls and the bytes.
 fn expect_calls(alloc: Global, len: usize, is_head: bool, expected: &[u8]) -> Result<(), Fail> {
     let body = vec![in alloc; b'x'; len]?;
     let response = Response {
+        status: StatusCode::OK,
+        content_type: "text/plain",
         body: body.as_slice(),
+        allow: None,
+        closes: false,
         is_head,
-        ..EMPTY
     };
     let mut noted = NotedLink {
         link: link_of(alloc, b"", 140_000)?,
         calls: Vec::new(alloc),
     };
-    let mut wire = Wire::new(alloc, &mut noted);
-    if !response.has_short_head() || !EMPTY.has_short_head() {
-        return Err(Fail::new("a long head"));
+    write_two(alloc, &mut noted, &EMPTY, &response)?;
+    let mut output = Vec::new(alloc);
+    add_response(&mut output, &EMPTY)?;
+    add_response(&mut output, &response)?;
+    if noted.calls.as_slice() == expected && noted.link.sent() == output.as_slice() {
+        return Ok(());
     }
-    write_response(&mut wire, &EMPTY)?;
-    write_response(&mut wire, &response)?;
-    wire.send()?;
-    let mut output = head_text(&EMPTY).as_slice().to_vec(alloc)?;
-    output.extend_from_slice(sent_body(&EMPTY))?;
-    output.extend_from_slice(head_text(&response).as_slice())?;
-    output.extend_from_slice(sent_body(&response))?;
-    if noted.calls.as_slice() != expected || noted.link.sent() != output.as_slice() {
-        return Err(Fail::new("other calls or bytes"));
-    }
-    Ok(())
+    Err(Fail::new("other calls or bytes"))
 }
 
 #[test]
