@@ -20,7 +20,7 @@ use Rattle.office_store.specs.Serves.{Serves}
 use Rattle.office_store.specs.Moves.{AreServed, Moves}
 use Rattle.browse_http.specs.Scripts.{FollowsAfter}
 use Rattle.night_work.specs.declared.ends.NightEnd.{NightEnd}
-use Rattle.night_work.specs.declared.ends.NightEnd.TheVariants as N
+use Rattle.night_work.specs.declared.ends.NightEnd.TheVariants as F
 use Rattle.night_work.specs.Script.{events_after, each_of, night_buckets, night_script}
 use Rattle.night_work.specs.Ends.{EndRefused, Ends}
 use Rattle.admin_cli.specs.declared.note.Note.TheVariants.{Foreign}
@@ -85,16 +85,16 @@ not_of_all false false file e = cc (e)
 
 -- it names what the last refusal named
 named_by : (end : NightEnd) (failed halted : Bool) (file : FileId) → note_of_night end failed halted ≡ Foreign file
-    → (found : Option (List ℕ)) × (end ≡ N.Refused (R.Damaged file found))
-named_by (N.Done night) failed halted file e = absurd (not_of_all failed halted file e)
-named_by N.NotNow failed halted file e = absurd (not_of_all failed halted file e)
-named_by (N.Refused (R.Broken rule)) failed halted file e = absurd (not_of_all false halted file e)
-named_by (N.Refused R.Halted) failed halted file e = let no : ⊥ = cc (e) in absurd no
-named_by (N.Refused R.DiskFault) failed halted file e = let no : ⊥ = cc (e) in absurd no
-named_by (N.Refused (R.Damaged other found)) failed halted file e =
-    let is : other ≡ file = cc (e) in (found, λ i. N.Refused (R.Damaged (is i) found))
-named_by (N.Refused R.Memory) failed halted file e = let no : ⊥ = cc (e) in absurd no
-named_by N.Memory failed halted file e = let no : ⊥ = cc (e) in absurd no
+    → (found : Option (List ℕ)) × (end ≡ F.Refused (R.Damaged file found))
+named_by (F.Done night) failed halted file e = absurd (not_of_all failed halted file e)
+named_by F.NotNow failed halted file e = absurd (not_of_all failed halted file e)
+named_by (F.Refused (R.Broken rule)) failed halted file e = absurd (not_of_all false halted file e)
+named_by (F.Refused R.Halted) failed halted file e = let no : ⊥ = cc (e) in absurd no
+named_by (F.Refused R.DiskFault) failed halted file e = let no : ⊥ = cc (e) in absurd no
+named_by (F.Refused (R.Damaged other found)) failed halted file e =
+    let is : other ≡ file = cc (e) in (found, λ i. F.Refused (R.Damaged (is i) found))
+named_by (F.Refused R.Memory) failed halted file e = let no : ⊥ = cc (e) in absurd no
+named_by F.Memory failed halted file e = let no : ⊥ = cc (e) in absurd no
 
 module _ {D N S : Type 0} {d : DiskGhosts D} {n : NamerGhosts N S} where
   -- the call that was refused
@@ -142,7 +142,7 @@ module _ {D N S : Type 0} {d : DiskGhosts D} {n : NamerGhosts N S} where
   table_of mid new event file found of_night says = absurd of_night
 
   by_refusal : (old new : Store D N S d n) (calls : List Call) (moment : ℕ) (day : ℤ) (period : ℕ) (file : FileId)
-      (found : Option (List ℕ)) → Moves old calls new → Ends moment day period (N.Refused (R.Damaged file found)) calls
+      (found : Option (List ℕ)) → Moves old calls new → Ends moment day period (F.Refused (R.Damaged file found)) calls
       → IsDamagedTable (told new.parts.journal) file
   by_refusal old new calls moment day period file found moved ends =
       let last = refused_last (R.Damaged file found) old new calls moved.each
