@@ -11,6 +11,7 @@ program=${1:-$top/bin/backup_server}
 command -v curl >/dev/null || { echo "curl isn't there"; exit 1; }
 program=$(cd "$(dirname "$program")" && pwd)/$(basename "$program")
 room=$(mktemp -d)
+: >"$room/listening"
 "$program" serve --store "$room/store" --listen 127.0.0.1:0 2>"$room/listening" >&2 &
 server=$!
 trap 'kill "$server" 2>/dev/null; rm -rf "$room"' EXIT
