@@ -81,14 +81,14 @@ const LINK_FAULTS: [(u64, usize, &[&str]); 7] = [
     (0, 999, &[]),
     (1, 999, &[]),
     (2, 999, &[]),
-    (4, 999, &[ADDED]),
-    (6, 999, &[ADDED, ADDED_AGAIN]),
-    (7, 999, &[ADDED, ADDED_AGAIN]),
+    (3, 999, &[ADDED]),
+    (4, 999, &[ADDED, ADDED_AGAIN]),
+    (5, 999, &[ADDED, ADDED_AGAIN]),
     (99, 10, &["HTTP/1.1 2"]),
 ];
 
-/// What was written before is sent (call 0), both requests are read (1), the head and the body of each response are written (2
-/// to 5) and sent (6), and the end is read (7).
+/// What was written before is sent (call 0), both requests are read (1), each response is written (2 and 3), both are sent (4), and
+/// the end is read (5).
 #[test]
 fn a_fault_of_the_link_has_its_status(rt: HostRuntime) -> Result<(), Fail> {
     for (link_fails, link_room, output) in LINK_FAULTS {

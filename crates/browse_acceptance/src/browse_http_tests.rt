@@ -143,7 +143,7 @@ fn a_cut_input_has_a_prefix_of_the_responses(rt: HostRuntime) -> Result<(), Fail
 
 #[test]
 fn a_failed_call_of_the_link_ends_it(rt: HostRuntime) -> Result<(), Fail> {
-    for fails in 0..13 {
+    for fails in 0..8 {
         let (link, end) = serve(rt.alloc(), FIRST_PATH, fails)?;
         assert_eq!(rt; end, End::LinkFault);
         assert!(rt; FIRST_OUTPUT.starts_with(link.output()));

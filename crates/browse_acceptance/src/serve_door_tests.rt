@@ -95,7 +95,7 @@ fn one_link_reads_what_another_stored(rt: HostRuntime) -> Result<(), Fail> {
 
 #[test]
 fn a_link_that_fails_ends_its_connection_alone(rt: HostRuntime) -> Result<(), Fail> {
-    for fails in 0..12 {
+    for fails in 0..8 {
         let (door, end) = serve(rt.alloc(), door(rt.alloc(), fails, u64::MAX)?)?;
         assert_eq!(rt;
             (end, door.faults(), door.served().len()),

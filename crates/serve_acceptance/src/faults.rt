@@ -39,7 +39,7 @@ type LinkFault = (
     &'static [&'static [&'static str]],
 );
 
-/// The head and the body of each response are a call each, from call 2 on.
+/// Each response is one call, from call 2 on.
 const LINK_FAULTS: [LinkFault; 5] = [
     (
         &[Coming { fails: 0, ..MAKER }, COUNTER],
@@ -62,7 +62,7 @@ const LINK_FAULTS: [LinkFault; 5] = [
         ],
     ),
     (
-        &[Coming { fails: 4, ..MAKER }, COUNTER],
+        &[Coming { fails: 3, ..MAKER }, COUNTER],
         &[
             &[FIRST],
             &[
@@ -72,7 +72,7 @@ const LINK_FAULTS: [LinkFault; 5] = [
         ],
     ),
     (
-        &[Coming { fails: 6, ..MAKER }, COUNTER],
+        &[Coming { fails: 4, ..MAKER }, COUNTER],
         &[
             &[FIRST, SECOND],
             &[
@@ -82,7 +82,7 @@ const LINK_FAULTS: [LinkFault; 5] = [
         ],
     ),
     (
-        &[Coming { fails: 8, ..MAKER }, COUNTER],
+        &[Coming { fails: 5, ..MAKER }, COUNTER],
         &[
             &[FIRST, SECOND, THIRD],
             &[
