@@ -56,9 +56,9 @@ file_bytes (Some (I.File file)) = Some file.bytes
 file_bytes (Some (I.Dir dir)) = None
 file_bytes (Some (I.Link link)) = None
 
--- the bytes of the file at a path
-pub record IsReading (tree : Tree) (path bytes : List ℕ) : Type 0 where
-  pub found : (file : File) → node_at tree path ≡ Some (I.File file) → bytes ≡ file.bytes
+-- the bytes of the file at a path; if there is one, it hasn't gone
+pub record IsReading (tree : Tree) (path : List ℕ) (bytes : Option (List ℕ)) : Type 0 where
+  pub found : (file : File) → node_at tree path ≡ Some (I.File file) → bytes ≡ Some file.bytes
 
 abbrev pub is_bare : Tree → Bool
 is_bare [] = true

@@ -79,9 +79,9 @@ pub trait Folder {
         ensures same { tree self.new ≡ tree self.old }
         ensures counted { Counted (fault_count self.old) (fault_count self.new) (IsErrOf result FolderFault.Failed) };
 
-    /// The bytes of a file. `Failed` also if there is no such file.
-    fn read(&mut self, alloc: Global, path: &PathName) -> Result<Bytes, FolderFault>
-        ensures found { IfOk result (λ bytes. ForSome (tree self.old) (λ all. IsReading all path.now bytes)) }
+    /// The bytes of a file; `None` if it has gone since it was listed. `Failed` also if something else is there.
+    fn read(&mut self, alloc: Global, path: &PathName) -> Result<Option<Bytes>, FolderFault>
+        ensures found { IfOk result (λ found. ForSome (tree self.old) (λ all. IsReading all path.now found)) }
         ensures same { tree self.new ≡ tree self.old }
         ensures counted { Counted (fault_count self.old) (fault_count self.new) (IsErrOf result FolderFault.Failed) };
 

@@ -8,7 +8,7 @@
 //! | [`Found`], [`FoundNode`] | a name in a directory with what it names, without the bytes of a file |
 //! | [`FolderFault`] | the folder failed, or there was no memory |
 //! | [`MemoryFolder`] | a folder in memory, which tells its tree and fails where it was told to |
-//! | [`Progress`], [`NoProgress`], [`Count`] | who is told how far a walk is, by entries and bytes |
+//! | [`Progress`], [`NoProgress`], [`Count`] | who is told how far a walk is, by entries and bytes, and which files have gone |
 //!
 //! Whatever is made in a directory changes the time at which the directory was changed, and a directory may be one in which
 //! nobody may write. So a directory that was made, or in which something was made, is `unfinished` until `finish` gives it its

@@ -270,12 +270,12 @@ impl Folder for MemoryFolder {
         Ok(listed(alloc, &self.tree, directory)?)
     }
 
-    fn read(&mut self, alloc: Global, path: &PathName) -> Result<Bytes, FolderFault> {
+    fn read(&mut self, alloc: Global, path: &PathName) -> Result<Option<Bytes>, FolderFault> {
         if self.has_failed() {
             return Err(FolderFault::Failed);
         }
         match self.bytes_at(alloc, path)? {
-            Some(bytes) => Ok(bytes),
+            Some(bytes) => Ok(Some(bytes)),
             None => Err(self.fault()),
         }
     }
