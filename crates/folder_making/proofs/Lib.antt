@@ -1,0 +1,4 @@
+pub mod Results
+pub mod DirSteps
+pub mod NotedSteps
+pub mod MakeSteps

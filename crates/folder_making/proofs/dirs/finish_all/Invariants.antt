@@ -1,0 +1,15 @@
+use Rattle.std.proofs.Common.{◌≡◌, [], List, vec_len}
+use Rattle.attr_records.specs.Items.{Tree}
+use Rattle.folder_making.specs.declared.noted.Noted.{Noted}
+use Rattle.folder_making.specs.Standing.{Stands}
+use Rattle.folder_making.proofs.dirs.finish_all.Given as goal
+
+abbrev pub invariant-loop-last : goal.invariant-loop-last
+invariant-loop-last g l = record {
+  stands : (rows : Tree) (noted : List Noted) → Stands rows [] (g.F.Folder.tree l.fn.folder) l.fn.dirs.items noted
+      → Stands rows [] (g.F.Folder.tree l.folder) l.dirs.items noted;
+  faultless : g.F.Folder.fault_count l.folder ≡ g.F.Folder.fault_count l.fn.folder;
+}
+
+abbrev pub decreases-loop-last : goal.decreases-loop-last
+decreases-loop-last g l = vec_len l.dirs

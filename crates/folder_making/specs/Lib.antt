@@ -1,0 +1,6 @@
+pub mod Made
+pub mod MadeLaws
+pub mod Standing
+pub mod RowLaws
+pub mod StandLaws
+pub mod Holding

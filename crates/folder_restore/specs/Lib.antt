@@ -1,0 +1,5 @@
+pub mod Faults
+pub mod RestoreScript
+pub mod Restores
+pub mod Turns
+pub mod ShownLaws

@@ -1,0 +1,6 @@
+pub mod Rows
+pub mod Causes
+pub mod Puts
+pub mod Bases
+pub mod Dumps
+pub mod ShownLaws
