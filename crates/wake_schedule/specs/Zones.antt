@@ -38,7 +38,7 @@ abbrev pub IsOfADay : ℤ → Type 0
 IsOfADay seconds = (neg_ℤ (pos 53940) ≤ℤ seconds) × (seconds ≤ℤ pos 53940)
 
 -- the seconds that the clock of a zone is ahead of UTC
-abbrev pub ahead_at : Zone → ℕ → ℤ
+unfoldable pub ahead_at : Zone → ℕ → ℤ
 ahead_at zone now = offset_at (plain_zone zone.zone) (pos now *ℤ pos 1000000000)
 
 -- always so far ahead, or as the POSIX rule says
