@@ -5,7 +5,7 @@ use Rattle.std.proofs.Common.{◌≡◌, ℕ, List, Option, inl, inr}
 use Rattle.disk_trait.specs.declared.disk.Disk.{Ghosts as DiskGhosts}
 use Rattle.stream_traits.specs.declared.link.Faults.{Ghosts}
 use Rattle.stream_traits.specs.Seen.{LinkSeen}
-use Rattle.serve_doors.specs.declared.worker.Worker.{Worker}
+use Rattle.door_server.specs.declared.worker.Worker.{Worker}
 use Rattle.admin_cli.specs.declared.note.Note.{Note}
 use Rattle.command_line.specs.Line.{Line, Pipe, Serve, Night}
 use Rattle.admin_cli.specs.Asked.{TellsRefusals}

@@ -17,7 +17,7 @@ use Rattle.office_store.specs.declared.store.Store.{Store}
 use Rattle.office_store.specs.Moves.{Moves}
 use Rattle.request_events.specs.declared.defaults.Defaults.{Defaults}
 use Rattle.turn_port.specs.Comes.{calls_in}
-use Rattle.serve_doors.specs.declared.worker.Worker.{Worker}
+use Rattle.door_server.specs.declared.worker.Worker.{Worker}
 use Rattle.serve_workers.specs.Workers.{ServesAll}
 use Rattle.settings_file.specs.declared.read.Settings.{Settings}
 use Rattle.settings_file.specs.Document.{IsSettings}

@@ -11,6 +11,6 @@ mod reply_bodies_tests;
 #[cfg(test)]
 mod request_events_tests;
 #[cfg(test)]
-mod serve_door_tests;
+mod serve_callers_tests;
 #[cfg(test)]
-mod serve_doors_tests;
+mod serve_door_tests;

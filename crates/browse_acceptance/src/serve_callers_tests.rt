@@ -1,9 +1,9 @@
 use backup_rules::Rules;
 use browse_http::Interface;
 use caller_doors::{Door, FlagGate, ListDoor};
+use door_server::*;
 use pool_name::Md5Namer;
 use request_events::Defaults;
-use serve_doors::*;
 use std::alloc::Global;
 use std::collections::VecDeque;
 use std::sync::atomic::AtomicBool;
@@ -79,7 +79,7 @@ fn two_doors_are_served_beside_each_other(rt: HostRuntime) -> Result<(), Fail> {
             caller(alloc, u64::MAX, FlagGate::new(&second, 0, &first, 0, TURNS))?,
         ],
     )?;
-    serve_doors(&rt, alloc, callers.as_mut_slice(), &interface(alloc)?);
+    serve_callers(&rt, alloc, callers.as_mut_slice(), &interface(alloc)?);
     for caller in callers.as_slice() {
         assert!(rt; caller.worker.gate.passed());
         assert_eq!(rt; sent(&caller.worker.door, 0)?, ADD_OUTPUT);
@@ -98,7 +98,7 @@ fn a_door_that_fails_is_left_alone(rt: HostRuntime) -> Result<(), Fail> {
             caller(alloc, u64::MAX, OpenGate)?,
         ],
     )?;
-    serve_doors(&rt, alloc, callers.as_mut_slice(), &interface(alloc)?);
+    serve_callers(&rt, alloc, callers.as_mut_slice(), &interface(alloc)?);
     assert_eq!(rt; callers[0].worker.door.faults(), 1);
     assert_eq!(rt; callers[0].worker.door.served().len(), 1);
     assert_eq!(rt; sent(&callers[0].worker.door, 0)?, ADD_OUTPUT);

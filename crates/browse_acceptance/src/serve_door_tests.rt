@@ -1,9 +1,9 @@
 use backup_rules::Rules;
 use browse_http::Interface;
 use caller_doors::{Came, Door, ListDoor};
+use door_server::*;
 use pool_name::Md5Namer;
 use request_events::Defaults;
-use serve_door::*;
 use std::alloc::Global;
 use std::collections::VecDeque;
 use std::test::Fail;

@@ -10,9 +10,9 @@ use Rattle.browse_http.specs.declared.end.End.{End}
 use Rattle.browse_http.specs.Talk.{calls_of, ServesLink}
 use Rattle.caller_doors.specs.Links.{ahead_of, with_last}
 use Rattle.caller_doors.specs.LinksLaws.{ahead_of_nil, ahead_of_append, with_last_nil, with_last_append}
-use Rattle.serve_door.specs.declared.end.DoorEnd.{DoorEnd}
-use Rattle.serve_door.specs.declared.end.DoorEnd.TheVariants.{Failed}
-use Rattle.serve_door.specs.Serving.{Connection, Makes, AreServed, links_of, backs_of, all_calls, ServesDoor}
+use Rattle.door_server.specs.declared.end.DoorEnd.{DoorEnd}
+use Rattle.door_server.specs.declared.end.DoorEnd.TheVariants.{Failed}
+use Rattle.door_server.specs.Serving.{Connection, Makes, AreServed, links_of, backs_of, all_calls, ServesDoor}
 
 -- the end that is there, or else another
 abbrev end_in : DoorEnd → Option DoorEnd → DoorEnd

@@ -5,11 +5,11 @@ use Rattle.stream_traits.specs.declared.link.Faults.{Ghosts}
 use Rattle.office_model.specs.Step.{Call}
 use Rattle.request_events.specs.declared.defaults.Defaults.{Defaults}
 use Rattle.caller_doors.specs.Links.{IsEmptied}
-use Rattle.serve_door.specs.declared.end.DoorEnd.{DoorEnd}
-use Rattle.serve_door.specs.declared.end.DoorEnd.TheVariants.{Closed, Failed}
-use Rattle.serve_door.specs.Serving.{ServesDoor}
-use Rattle.serve_doors.specs.declared.worker.Caller.{Caller}
-use Rattle.serve_doors.specs.declared.worker.Worker.{Worker}
+use Rattle.door_server.specs.declared.end.DoorEnd.{DoorEnd}
+use Rattle.door_server.specs.declared.end.DoorEnd.TheVariants.{Closed, Failed}
+use Rattle.door_server.specs.Serving.{ServesDoor}
+use Rattle.door_server.specs.declared.worker.Caller.{Caller}
+use Rattle.door_server.specs.declared.worker.Worker.{Worker}
 
 -- The worker served its door, with calls that lead from one state of its port to the other: it left the door where that was
 -- closed or failed, and the door's count of faults rose just where it failed.

@@ -1,11 +1,11 @@
 ghost use Rattle.std.specs.List.{AllZip};
-ghost use Rattle.serve_doors.specs.Served.{ServesCaller};
+ghost use Rattle.door_server.specs.Served.{ServesCaller};
 
+use crate::serving::serve_door;
 use crate::worker::{Caller, Worker};
 use browse_http::Interface;
 use caller_doors::Door;
 use office_model::Port;
-use serve_door::serve_door;
 use std::alloc::Global;
 use std::thread;
 use std::thread::Threads;
@@ -13,7 +13,7 @@ use stream_traits::{Clock, Faults, Gate};
 
 /// Serves the doors of all these callers beside each other, each in a thread of its own where one can be made, and returns once
 /// each has left its door, which was closed or failed.
-pub fn serve_doors<P: Port + Send, T: Door, C: Clock, G: Gate, R: Threads + Sync>(
+pub fn serve_callers<P: Port + Send, T: Door, C: Clock, G: Gate, R: Threads + Sync>(
     rt: &R,
     alloc: Global,
     callers: &mut [Caller<P, T, C, G>],

@@ -1,7 +1,7 @@
 ghost use Rattle.std.specs.Prelude.{◌≡◌, ◌<◌, Some, None, IfNone, IfSome};
 ghost use Rattle.fault_counts.specs.Counts.{Counted};
 ghost use Rattle.caller_doors.specs.Links.{IsEmptied};
-ghost use Rattle.serve_door.specs.Serving.{ServesDoor};
+ghost use Rattle.door_server.specs.Serving.{ServesDoor};
 
 use crate::end::DoorEnd;
 use browse_http::{Interface, Served, serve_connection};

@@ -1,8 +1,8 @@
 -- One worker more, and what is known of each.
 use Rattle.std.proofs.Common.{◌≡◌, ℕ, suc, ◌+◌, List, [], ◌∷◌, ◌++◌, length, refl, ap, subst, arith}
 use Rattle.turn_lock.specs.declared.object.View.{View}
-use Rattle.serve_doors.specs.declared.worker.Worker.{Worker}
-use Rattle.serve_doors.specs.declared.worker.Caller.{Caller}
+use Rattle.door_server.specs.declared.worker.Worker.{Worker}
+use Rattle.door_server.specs.declared.worker.Caller.{Caller}
 use Rattle.serve_workers.specs.Seated.{IsSeated, AreSeated}
 
 module _ {O A B P X : Type 0} (table_of : P → X) (view_of : P → View O A B) {T C G : Type 0} (table : X) where

@@ -25,10 +25,10 @@ use Rattle.turn_port.specs.declared.locked.LockedStore.{LockedStore}
 use Rattle.turn_port.specs.Asks.{entries_of, with_own_calls, Passes}
 use Rattle.turn_port.specs.AsksLaws.{Asks-stood}
 use Rattle.turn_port.specs.Comes.{Stands, IsOf, ComesBy, ComesOfAll}
-use Rattle.serve_door.specs.Serving.{all_calls}
-use Rattle.serve_doors.specs.declared.worker.Worker.{Worker}
-use Rattle.serve_doors.specs.declared.worker.Caller.{Caller}
-use Rattle.serve_doors.specs.Served.{ServesCaller, ServesWorker}
+use Rattle.door_server.specs.Serving.{all_calls}
+use Rattle.door_server.specs.declared.worker.Worker.{Worker}
+use Rattle.door_server.specs.declared.worker.Caller.{Caller}
+use Rattle.door_server.specs.Served.{ServesCaller, ServesWorker}
 use Rattle.serve_workers.specs.Seated.{IsSeated, AreSeated}
 use Rattle.serve_workers.specs.Workers.{AreCallsOf, is_worker, ServeEach, ServesAll}
 

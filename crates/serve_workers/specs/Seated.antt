@@ -2,8 +2,8 @@
 use Rattle.std.specs.Prelude.{◌≡◌, ℕ, suc, List, [], ◌∷◌}
 use Rattle.turn_lock.specs.declared.object.View.{View}
 use Rattle.turn_lock.specs.History.{caller}
-use Rattle.serve_doors.specs.declared.worker.Worker.{Worker}
-use Rattle.serve_doors.specs.declared.worker.Caller.{Caller}
+use Rattle.door_server.specs.declared.worker.Worker.{Worker}
+use Rattle.door_server.specs.declared.worker.Caller.{Caller}
 
 module _ {O A B P X : Type 0} (table_of : P → X) (view_of : P → View O A B) {T C G : Type 0} (table : X) where
   -- a worker's port is over the pass with this number, of this lock, which has made no calls

@@ -16,8 +16,8 @@ use Rattle.turn_lock.specs.declared.object.Entry.{Entry}
 use Rattle.turn_lock.specs.History.{calls_by}
 use Rattle.turn_port.specs.Asks.{entries_of}
 use Rattle.turn_port.specs.Comes.{Comes}
-use Rattle.serve_doors.specs.declared.worker.Worker.{Worker}
-use Rattle.serve_doors.specs.Served.{ServesWorker}
+use Rattle.door_server.specs.declared.worker.Worker.{Worker}
+use Rattle.door_server.specs.Served.{ServesWorker}
 
 -- in this history these are the calls of the worker with this number, in order
 abbrev pub AreCallsOf : List (Entry Event Reply) → ℕ → Unit {0} → List Call → Unit {0} → Type 0

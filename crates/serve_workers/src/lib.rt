@@ -12,5 +12,5 @@
 mod seating;
 mod serving;
 
-pub use serve_doors::Worker;
+pub use door_server::Worker;
 pub use serving::{StoreAndWorkers, serve_workers};

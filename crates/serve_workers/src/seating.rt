@@ -4,8 +4,8 @@ ghost use Rattle.turn_lock.specs.History.{caller};
 ghost use Rattle.serve_workers.specs.Seated.{AreSeated};
 
 use disk_trait::Disk;
+use door_server::{Caller, Worker};
 use pool_name::Namer;
-use serve_doors::{Caller, Worker};
 use std::sync::Wait;
 use turn_port::{StorePass, StoreTurn, TurnPort};
 

@@ -5,9 +5,9 @@ use crate::seating::{rise_workers, seat_workers};
 use browse_http::Interface;
 use caller_doors::Door;
 use disk_trait::Disk;
+use door_server::{Worker, serve_callers};
 use office_store::Store;
 use pool_name::Namer;
-use serve_doors::{Worker, serve_doors};
 use std::alloc::{AllocFailed, Global};
 use std::sync::Wait;
 use std::thread::Threads;
@@ -60,7 +60,7 @@ where
         }
     };
     let mut callers = seat_workers(rt, &turn, &mut first, workers, callers);
-    serve_doors(rt, alloc, callers.as_mut_slice(), interface);
+    serve_callers(rt, alloc, callers.as_mut_slice(), interface);
     let (workers, passes) = rise_workers(callers, left, passes);
     let store = close_store(rt, turn, first, passes);
     Ok(StoreAndWorkers { store, workers })

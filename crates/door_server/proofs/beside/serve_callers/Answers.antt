@@ -1,9 +1,9 @@
 use Rattle.std.specs.Prelude.{slice_index_or}
 use Rattle.std.proofs.Common.{rules}
-use Rattle.serve_doors.specs.declared.worker.Caller.{Caller}
-use Rattle.serve_doors.specs.Served.{ServesCaller}
-use Rattle.serve_doors.proofs.Zips.{zip_at, same_both}
-use Rattle.serve_doors.proofs.serving.serve_doors.Goals as goal
+use Rattle.door_server.specs.declared.worker.Caller.{Caller}
+use Rattle.door_server.specs.Served.{ServesCaller}
+use Rattle.door_server.proofs.Zips.{zip_at, same_both}
+use Rattle.door_server.proofs.beside.serve_callers.Goals as goal
 
 pub returns : goal.returns
 returns g c =

@@ -1,6 +1,6 @@
 use Rattle.std.proofs.Common.{◌∙◌, refl}
-use Rattle.serve_door.proofs.ServingLemmas.{Counted-end, ServesDoor-none, ServesDoor-append}
-use Rattle.serve_door.proofs.serving.serve_door.Goals as goal
+use Rattle.door_server.proofs.ServingLemmas.{Counted-end, ServesDoor-none, ServesDoor-append}
+use Rattle.door_server.proofs.serving.serve_door.Goals as goal
 
 pub loop-end-init : goal.loop-end-init
 loop-end-init g c = record { so_far = ServesDoor-none _ _ _ g.met.P.Port.none _ _ _ _ _ _ refl refl; same = refl }

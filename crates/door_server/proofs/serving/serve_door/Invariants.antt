@@ -1,6 +1,6 @@
 use Rattle.std.proofs.Common.{◌≡◌}
-use Rattle.serve_door.specs.Serving.{ServesDoor}
-use Rattle.serve_door.proofs.serving.serve_door.Given as goal
+use Rattle.door_server.specs.Serving.{ServesDoor}
+use Rattle.door_server.proofs.serving.serve_door.Given as goal
 
 abbrev pub invariant-loop-end : goal.invariant-loop-end
 invariant-loop-end g l = record {

@@ -1,5 +1,5 @@
-use Rattle.serve_door.proofs.ServingLemmas.{ServesDoor-one}
-use Rattle.serve_door.proofs.serving.serve_next.Goals as goal
+use Rattle.door_server.proofs.ServingLemmas.{ServesDoor-one}
+use Rattle.door_server.proofs.serving.serve_next.Goals as goal
 
 pub returns-in-Link-clause-serves : goal.returns-in-Link-clause-serves
 returns-in-Link-clause-serves g c =

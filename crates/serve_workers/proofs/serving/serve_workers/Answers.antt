@@ -25,8 +25,8 @@ use Rattle.serve_workers.proofs.SeatedLaws.{as_many}
 use Rattle.serve_workers.proofs.WorkersLaws.{map_map, refilled, own_after, served_all}
 use Rattle.serve_workers.proofs.serving.serve_workers.Goals as goal
 
-pub serve_doors-requires-send-P : goal.serve_doors-requires-send-P
-serve_doors-requires-send-P g c κs within =
+pub serve_callers-requires-send-P : goal.serve_callers-requires-send-P
+serve_callers-requires-send-P g c κs within =
     let disk = c.type_bounds.send-D in
     let namer = c.type_bounds.send-N in
     let state = c.type_bounds.send-N-State in
@@ -61,13 +61,13 @@ pub close_store-store-requires-clause-others : goal.close_store-store-requires-c
 close_store-store-requires-clause-others g c =
     let table = c.in-Ok.made.1.seat.table_id in
     let seat = c.seat_workers-callers in
-    let after = c.serve_doors.new.callers in
-    let refill = refilled seat.result.len seat.result.items after (c.serve_doors.auto.callers ∙ c.as_mut_slice.ensures.len) in
+    let after = c.serve_callers.new.callers in
+    let refill = refilled seat.result.len seat.result.items after (c.serve_callers.auto.callers ∙ c.as_mut_slice.ensures.len) in
     let seated = subst (λ cs. AreSeated (λ port. port.pass.seat.table_id) (λ port. port.pass.seat.me.0) table 0 c.args.workers.items cs)
     (sym c.as_mut_slice.ensures.value) seat.ensures.seated in
     let owned = own_after (λ port. port.pass.seat.table_id) (λ port. port.pass.seat.me.0) c.args.interface.now.defaults g.T.Link.Faults
     g.T.Door.coming g.T.Door.given_back g.T.Door.faults g.C.Clock.moments table 0 c.args.workers.items c.as_mut_slice.result.now after
-    seated c.serve_doors.ensures in
+    seated c.serve_callers.ensures in
     subst (λ passes. All (λ p. p.seat.table_id ≡ c.in-Ok.made.0.table.shared.table_id) passes)
     (sym (c.rise_workers-workers.ensures.passes ∙ ap (map (λ caller. caller.port.pass)) refill))
     (All-map (λ p. p.seat.table_id ≡ c.in-Ok.made.0.table.shared.table_id) (λ caller. caller.port.pass) after
@@ -79,9 +79,9 @@ returns-clause-ok g c =
     let first = seat.new.first.seat.me.0 in
     let opened = c.in-Ok.ensures.opening.0 in
     let table = c.in-Ok.made.1.seat.table_id in
-    let after = c.serve_doors.new.callers in
+    let after = c.serve_callers.new.callers in
     let rise = c.rise_workers-workers.ensures in
-    let refill = refilled seat.result.len seat.result.items after (c.serve_doors.auto.callers ∙ c.as_mut_slice.ensures.len) in
+    let refill = refilled seat.result.len seat.result.items after (c.serve_callers.auto.callers ∙ c.as_mut_slice.ensures.len) in
     let seated = subst (λ cs. AreSeated (λ port. port.pass.seat.table_id) (λ port. port.pass.seat.me.0) table 0 c.args.workers.items cs)
     (sym c.as_mut_slice.ensures.value) seat.ensures.seated in
     let counted : c.args.workers.len ≡ length c.args.workers.items = omega (arith, c.args.workers.ok) in
@@ -91,6 +91,6 @@ returns-clause-ok g c =
     g.T.Door.given_back g.T.Door.faults g.C.Clock.moments c.args.store c.close_store-store.result first table c.args.workers.items
     c.as_mut_slice.result.now after (map (λ p. p.seat.me.0) c.rise_workers-workers.result.1.items)
     (opened.0, seat.ensures.opening ∙ opened.1, opened.2) (seat.ensures.split ∙ ap (λ n. caller [] n [] ∷ []) counted) seated
-    c.serve_doors.ensures
+    c.serve_callers.ensures
     (ap (map (λ p. p.seat.me.0)) (rise.passes ∙ ap (map (λ caller. caller.port.pass)) refill)
     ∙ map_map (λ p. p.seat.me.0) (λ caller. caller.port.pass) after) c.close_store-store.ensures.all)
