@@ -64,7 +64,9 @@ hex() {
 
 usage='usage: backup_server pipe --store DIR [--settings FILE]
        backup_server serve --listen ADDR [--connections N] --store DIR [--settings FILE]
-       backup_server night [--scheduled] --store DIR [--settings FILE]'
+       backup_server night [--scheduled] --store DIR [--settings FILE]
+       backup_server dump-folder --host H --kind full|incr --store DIR [--settings FILE] FOLDER
+       backup_server restore-folder --host H --number N --store DIR [--settings FILE] FOLDER'
 : >in
 : >want
 
@@ -75,7 +77,7 @@ Usage: backup_server <COMMAND>
 $usage"
 attempt
 judge 'no words' 2 "error: 'backup_server' requires a subcommand but one was not provided
-  [subcommands: pipe, serve, night]
+  [subcommands: pipe, serve, night, dump-folder, restore-folder]
 
 Usage: backup_server <COMMAND>
 $usage"
@@ -98,6 +100,36 @@ Usage: backup_server serve --store <store> --listen <listen>
 $usage"
 attempt serve --store made --listen 127.0.0.1:0 --connections many
 judge 'a number of connections that is none' 2 "error: invalid value 'many' for '--connections <connections>': invalid digit found in string
+$usage"
+attempt dump-folder --store made --kind full folder
+judge 'a dump of a folder without a host' 2 "error: the following required arguments were not provided:
+  --host <host>
+
+Usage: backup_server dump-folder --store <store> --host <host> --kind <kind> <folder>
+$usage"
+attempt dump-folder --store made --host PC1 --kind full folder
+judge 'a dump of a folder for a bad host' 2 "$usage"
+attempt dump-folder --store made --host pc1 --kind Full folder
+judge 'a dump of a folder of a bad kind' 2 "$usage"
+attempt dump-folder --store made --host pc1 --kind incr
+judge 'a dump without a folder' 2 "error: the following required arguments were not provided:
+  <folder>
+
+Usage: backup_server dump-folder --store <store> --host <host> --kind <kind> <folder>
+$usage"
+attempt dump-folder --store made --host pc1 --kind incr folder more
+judge 'a dump of two folders' 2 "error: unexpected argument 'more' found
+
+Usage: backup_server dump-folder [OPTIONS] --store <store> --host <host> --kind <kind> <folder>
+$usage"
+attempt restore-folder --store made --host pc1 --number 4294967296 folder
+judge 'a number of a backup that is too large' 2 "error: invalid value '4294967296' for '--number <number>': 4294967296 is not in 0..=4294967295
+$usage"
+attempt restore-folder --store made --host pc1 --number 0
+judge 'a restore without a folder' 2 "error: the following required arguments were not provided:
+  <folder>
+
+Usage: backup_server restore-folder --store <store> --host <host> --number <number> <folder>
 $usage"
 attempt pipe --store "made$(printf '\377')"
 judge 'a word that is not UTF-8' 2 "$usage"

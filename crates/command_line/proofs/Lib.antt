@@ -1,3 +1,4 @@
+mod MatchesLemmas
 mod NumberLaws
 mod OptionLemmas
 mod UsageLemmas

@@ -23,9 +23,18 @@ required_rule name = record (new_rule name) { long = Some name; required = true 
 abbrev pub number_rule : List ℕ → Rule
 number_rule name = record (new_rule name) { long = Some name; parser = Some (parser.Signed (pos 0) (pos 4294967295)) }
 
+-- `--NAME NUMBER`, a number below 2 ^ 32 which has to be there
+abbrev pub required_number_rule : List ℕ → Rule
+required_number_rule name =
+    record (new_rule name) { long = Some name; required = true; parser = Some (parser.Signed (pos 0) (pos 4294967295)) }
+
 -- `--NAME`
 abbrev pub flag_rule : List ℕ → Rule
 flag_rule name = record (new_rule name) { long = Some name; action = Some SetTrue }
+
+-- a word without an option, which has to be there
+abbrev pub word_rule : List ℕ → Rule
+word_rule name = record (new_rule name) { required = true }
 
 -- what each subcommand begins with: `--store DIR [--settings FILE]`
 abbrev pub common_app : List ℕ → App
@@ -44,6 +53,20 @@ serve_app =
 abbrev pub night_app : App
 night_app = with_rule (common_app (codes "night")) (flag_rule (codes "scheduled"))
 
+-- what each subcommand of a folder has beside them: `--host H`
+abbrev pub host_app : List ℕ → App
+host_app name = with_rule (common_app name) (required_rule (codes "host"))
+
+-- `dump-folder --host H --kind KIND FOLDER`
+abbrev pub dump_folder_app : App
+dump_folder_app =
+    with_rule (with_rule (host_app (codes "dump-folder")) (required_rule (codes "kind"))) (word_rule (codes "folder"))
+
+-- `restore-folder --host H --number N FOLDER`
+abbrev pub restore_folder_app : App
+restore_folder_app =
+    with_rule (with_rule (host_app (codes "restore-folder")) (required_number_rule (codes "number"))) (word_rule (codes "folder"))
+
 -- the program's name, with help turned off and a subcommand wanted
 abbrev pub top_app : App
 top_app = record {
@@ -59,6 +82,10 @@ top_app = record {
 abbrev pub links_app : App
 links_app = with_subcommand (with_subcommand top_app pipe_app.top) serve_app.top
 
+-- with the night's, too
+abbrev pub served_app : App
+served_app = with_subcommand links_app night_app.top
+
 -- the whole command
 abbrev pub program_app : App
-program_app = with_subcommand links_app night_app.top
+program_app = with_subcommand (with_subcommand served_app dump_folder_app.top) restore_folder_app.top

@@ -9,6 +9,9 @@ use Rattle.std.specs.Option.{option_map_or}
 use Rattle.std.specs.List.{list_all}
 use Rattle.std.specs.Char.{digit_value}
 use Rattle.std.specs.Str.Parse.{digits_value, without_leading_plus}
+use Rattle.attr_records.specs.Names.{is_host_name}
+use Rattle.backup_rules.specs.declared.lines.Kind.{Kind}
+use Rattle.backup_rules.specs.declared.lines.Kind.TheVariants.{Full, Incr}
 use Rattle.clap.specs.Walk.{Row, first_of, is_empty, rows_of}
 use Rattle.clap.specs.Matches.{found_of}
 use Rattle.clap.specs.Faults.{fault_of}
@@ -19,11 +22,14 @@ use Rattle.command_line.specs.declared.line.CommandLine.{CommandLine}
 use Rattle.command_line.specs.declared.line.Work.{Work}
 use Rattle.command_line.specs.declared.line.Work.TheVariants as work
 
--- what a line asks for; of Serve, the address and the number of links, and of Night, whether only where the schedule says so
+-- what a line asks for; of Serve, the address and the number of links, of Night, whether only where the schedule says so, of
+-- DumpFolder, the host, the backup's kind and the folder, and of RestoreFolder, the host, the backup's number and the folder
 pub data Task : Type 0 where
   Pipe : Task
   Serve : List ℕ → Option ℕ → Task
   Night : Bool → Task
+  DumpFolder : List ℕ → Kind → List ℕ → Task
+  RestoreFolder : List ℕ → ℕ → List ℕ → Task
 
 -- a line: the store's folder, the settings' file and what it asks for
 pub record Line : Type 0 where
@@ -51,17 +57,52 @@ abbrev pub number_in : List ℕ → List Row → Option (Option ℕ)
 number_in id rows =
     option_map_or (λ text. option_map (λ number. Some number) (number_of text)) (first_of id rows) (Some None)
 
+-- the number of an option that has to be there
+abbrev pub needed_number_in : List ℕ → List Row → Option ℕ
+needed_number_in id rows = option_and_then number_of (first_of id rows)
+
+-- the host that a text names
+abbrev pub host_of : List ℕ → Option (List ℕ)
+host_of text = if is_host_name text then Some text else None
+
+-- the host of the option `--host`
+abbrev pub host_in : List Row → Option (List ℕ)
+host_in rows = option_and_then host_of (first_of (codes "host") rows)
+
+-- the kind of a backup that a text names
+abbrev pub kind_of : List ℕ → Option Kind
+kind_of text =
+    if bytes_eq text (codes "full") then Some Full
+    else (if bytes_eq text (codes "incr") then Some Incr else None)
+
+-- the kind of the option `--kind`
+abbrev pub kind_in : List Row → Option Kind
+kind_in rows = option_and_then kind_of (first_of (codes "kind") rows)
+
 -- what `serve` asks for with these matches
 abbrev pub serve_in : List Row → Option Task
 serve_in rows = option_and_then (λ listen. option_map (λ connections. Serve listen connections)
     (number_in (codes "connections") rows)) (first_of (codes "listen") rows)
+
+-- what `dump-folder` asks for with these matches
+abbrev pub dump_folder_in : List Row → Option Task
+dump_folder_in rows = option_and_then (λ host. option_and_then (λ kind. option_map (λ folder. DumpFolder host kind folder)
+    (first_of (codes "folder") rows)) (kind_in rows)) (host_in rows)
+
+-- what `restore-folder` asks for with these matches
+abbrev pub restore_folder_in : List Row → Option Task
+restore_folder_in rows =
+    option_and_then (λ host. option_and_then (λ number. option_map (λ folder. RestoreFolder host number folder)
+    (first_of (codes "folder") rows)) (needed_number_in (codes "number") rows)) (host_in rows)
 
 -- what the subcommand of this name asks for with these matches
 abbrev pub task_in : List ℕ → List Row → Option Task
 task_in name rows =
     if bytes_eq name (codes "pipe") then Some Pipe
     else (if bytes_eq name (codes "serve") then serve_in rows
-    else (if bytes_eq name (codes "night") then Some (Night (flag_of (codes "scheduled") rows)) else None))
+    else (if bytes_eq name (codes "night") then Some (Night (flag_of (codes "scheduled") rows))
+    else (if bytes_eq name (codes "dump-folder") then dump_folder_in rows
+    else (if bytes_eq name (codes "restore-folder") then restore_folder_in rows else None))))
 
 -- the line of a subcommand with its matches
 abbrev pub line_in : List ℕ × List Row → Option Line
@@ -81,7 +122,9 @@ abbrev pub usage : List ℕ
 usage =
     codes "usage: backup_server pipe --store DIR [--settings FILE]\n"
     ++ (codes "       backup_server serve --listen ADDR [--connections N] --store DIR [--settings FILE]\n"
-    ++ codes "       backup_server night [--scheduled] --store DIR [--settings FILE]")
+    ++ (codes "       backup_server night [--scheduled] --store DIR [--settings FILE]\n"
+    ++ (codes "       backup_server dump-folder --host H --kind full|incr --store DIR [--settings FILE] FOLDER\n"
+    ++ codes "       backup_server restore-folder --host H --number N --store DIR [--settings FILE] FOLDER")))
 
 -- the matches of a subcommand
 abbrev pub rows_in : ArgMatches → List Row
@@ -92,6 +135,8 @@ abbrev pub task_of : Work → Task
 task_of work.Pipe = Pipe
 task_of (work.Serve listen connections) = Serve (string_bytes listen) connections
 task_of (work.Night scheduled) = Night scheduled
+task_of (work.DumpFolder host kind folder) = DumpFolder host kind (string_bytes folder)
+task_of (work.RestoreFolder host number folder) = RestoreFolder host number (string_bytes folder)
 
 abbrev pub meaning : CommandLine → Line
 meaning line = record {

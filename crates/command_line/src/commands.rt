@@ -1,7 +1,7 @@
 //! The command as clap takes it.
 ghost use Rattle.std.specs.Prelude.{◌≡◌, false, IfOk};
 ghost use Rattle.clap.specs.Walk.{rule_of};
-ghost use Rattle.command_line.specs.Commands.{IsCommandOf, option_rule, required_rule, number_rule, flag_rule, common_app, pipe_app, serve_app, night_app, top_app, links_app, program_app};
+ghost use Rattle.command_line.specs.Commands.{IsCommandOf, option_rule, required_rule, number_rule, required_number_rule, flag_rule, word_rule, common_app, pipe_app, serve_app, night_app, host_app, dump_folder_app, restore_folder_app, top_app, links_app, served_app, program_app};
 
 use clap::{Arg, ArgAction, Command, value_parser};
 use std::alloc::{AllocError, Global};
@@ -32,12 +32,31 @@ fn number_option<'a>(alloc: Global, name: &'a str) -> Arg<'a>
         .value_parser(value_parser!(u32))
 }
 
+/// An option that takes a `u32` and has to be there.
+fn required_number<'a>(alloc: Global, name: &'a str) -> Arg<'a>
+    ensures rule { rule_of result ≡ required_number_rule name.now }
+    ensures local { result.global ≡ false }
+{
+    Arg::new(alloc, name)
+        .long(name)
+        .required(true)
+        .value_parser(value_parser!(u32))
+}
+
 /// An option that takes nothing.
 fn flag<'a>(alloc: Global, name: &'a str) -> Arg<'a>
     ensures rule { rule_of result ≡ flag_rule name.now }
     ensures local { result.global ≡ false }
 {
     Arg::new(alloc, name).long(name).action(ArgAction::SetTrue)
+}
+
+/// A word that stands without an option and has to be there.
+fn required_word<'a>(alloc: Global, name: &'a str) -> Arg<'a>
+    ensures rule { rule_of result ≡ word_rule name.now }
+    ensures local { result.global ≡ false }
+{
+    Arg::new(alloc, name).required(true)
 }
 
 /// A subcommand with the two options that each has.
@@ -72,6 +91,31 @@ fn night<'a>(alloc: Global) -> Result<Command<'a>, AllocError>
     subcommand(alloc, "night")?.arg(flag(alloc, "scheduled"))
 }
 
+/// A subcommand of a folder: with a host beside those options.
+fn host_subcommand<'a>(alloc: Global, name: &'a str) -> Result<Command<'a>, AllocError>
+    ensures { IfOk result (λ c. IsCommandOf (host_app name.now) c) }
+{
+    subcommand(alloc, name)?.arg(required_option(alloc, "host"))
+}
+
+/// `dump-folder`.
+fn dump_folder<'a>(alloc: Global) -> Result<Command<'a>, AllocError>
+    ensures { IfOk result (λ c. IsCommandOf dump_folder_app c) }
+{
+    host_subcommand(alloc, "dump-folder")?
+        .arg(required_option(alloc, "kind"))?
+        .arg(required_word(alloc, "folder"))
+}
+
+/// `restore-folder`.
+fn restore_folder<'a>(alloc: Global) -> Result<Command<'a>, AllocError>
+    ensures { IfOk result (λ c. IsCommandOf restore_folder_app c) }
+{
+    host_subcommand(alloc, "restore-folder")?
+        .arg(required_number(alloc, "number"))?
+        .arg(required_word(alloc, "folder"))
+}
+
 /// The program's name, with help turned off.
 fn top<'a>(alloc: Global) -> Command<'a>
     ensures { IsCommandOf top_app result }
@@ -91,9 +135,18 @@ fn links<'a>(alloc: Global) -> Result<Command<'a>, AllocError>
         .subcommand(serve(alloc)?)
 }
 
+/// Those, and the night's.
+fn served<'a>(alloc: Global) -> Result<Command<'a>, AllocError>
+    ensures { IfOk result (λ c. IsCommandOf served_app c) }
+{
+    links(alloc)?.subcommand(night(alloc)?)
+}
+
 /// The program's command, with its subcommands.
 pub(crate) fn program<'a>(alloc: Global) -> Result<Command<'a>, AllocError>
     ensures { IfOk result (λ c. IsCommandOf program_app c) }
 {
-    links(alloc)?.subcommand(night(alloc)?)
+    served(alloc)?
+        .subcommand(dump_folder(alloc)?)?
+        .subcommand(restore_folder(alloc)?)
 }

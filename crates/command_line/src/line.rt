@@ -4,8 +4,11 @@ ghost use Rattle.std.specs.String.{string_bytes};
 ghost use Rattle.clap.specs.Simple.{subcommand_rows_of};
 ghost use Rattle.command_line.specs.Line.{line_in, line_of, meaning, rows_in, serve_in, task_in, task_of};
 
+use crate::folders::{dump_folder_in, restore_folder_in};
 use crate::matches::{flag_in, matches_of, number_in, subcommand_in, text_in};
 use crate::usage::USAGE;
+use attr_records::HostName;
+use backup_rules::Kind;
 use clap::ArgMatches;
 use std::alloc::{AllocError, Global};
 use std::error::Error;
@@ -24,6 +27,18 @@ pub enum Work {
     /// Does what is done each night. With `scheduled`, only where the schedule says so.
     Night {
         scheduled: bool,
+    },
+    /// Makes a backup of this kind out of a folder, the host's next one.
+    DumpFolder {
+        host: HostName,
+        kind: Kind,
+        folder: String,
+    },
+    /// Makes a folder out of the host's backup of this number.
+    RestoreFolder {
+        host: HostName,
+        number: u32,
+        folder: String,
     },
 }
 
@@ -95,6 +110,10 @@ fn work_in(alloc: Global, name: &str, found: &ArgMatches<'_>) -> Result<Work, Li
     } else if name == "night" {
         let scheduled = flag_in(found, "scheduled");
         Ok(Work::Night { scheduled })
+    } else if name == "dump-folder" {
+        dump_folder_in(alloc, found)
+    } else if name == "restore-folder" {
+        restore_folder_in(alloc, found)
     } else {
         Err(LineFault::NoParse)
     }

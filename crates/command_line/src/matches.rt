@@ -5,7 +5,7 @@ ghost use Rattle.clap.specs.Simple.{subcommand_of, subcommand_rows_of};
 ghost use Rattle.clap.specs.Faults.{fault_of};
 ghost use Rattle.clap.specs.Walk.{first_of};
 ghost use Rattle.command_line.specs.Commands.{program_app};
-ghost use Rattle.command_line.specs.Line.{rows_in, flag_of, number_of, number_in};
+ghost use Rattle.command_line.specs.Line.{rows_in, flag_of, number_of, number_in, needed_number_in};
 
 use crate::commands::program;
 use crate::line::LineFault;
@@ -74,6 +74,16 @@ pub(crate) fn number_in(found: &ArgMatches<'_>, id: &str) -> Option<Option<u32>>
             None => None,
         },
         None => Some(None),
+    }
+}
+
+/// The number of an option that has to be there.
+pub(crate) fn needed_number_in(found: &ArgMatches<'_>, id: &str) -> Option<u32>
+    ensures { result ≡ needed_number_in id.now (rows_in found.now) }
+{
+    match text_in(found, id) {
+        Some(text) => number_of(text),
+        None => None,
     }
 }
 

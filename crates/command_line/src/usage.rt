@@ -9,9 +9,9 @@ use std::alloc::{AllocError, Global};
 
 /// How the program is called.
 pub const USAGE: &str =
-    "usage: backup_server pipe --store DIR [--settings FILE]\n       backup_server serve --listen ADDR [--connections N] --store DIR [--settings FILE]\n       backup_server night [--scheduled] --store DIR [--settings FILE]";
+    "usage: backup_server pipe --store DIR [--settings FILE]\n       backup_server serve --listen ADDR [--connections N] --store DIR [--settings FILE]\n       backup_server night [--scheduled] --store DIR [--settings FILE]\n       backup_server dump-folder --host H --kind full|incr --store DIR [--settings FILE] FOLDER\n       backup_server restore-folder --host H --number N --store DIR [--settings FILE] FOLDER";
 
-/// clap's own message of what is wrong in the words, and nothing of words that are a line.
+/// clap's own message of what is wrong in the words, and nothing of words that it takes.
 fn message_of(alloc: Global, words: &[String]) -> Result<String, AllocError> {
     let command = program(alloc)?;
     match command.try_get_matches_from(words) {
@@ -35,7 +35,7 @@ fn with_usage(text: String) -> Result<String, AllocError>
 }
 
 /// What standard error is told of words that are no line: clap's own message of what is wrong in them, and then the usage. Of
-/// words that are a line there is no message.
+/// words that clap takes, as those that are a line and those with a bad host or kind, there is no message.
 pub fn complaint(alloc: Global, words: &[String]) -> Result<String, AllocError>
     ensures { IfOk result (λ text. (message : List ℕ) × (string_bytes text ≡ message ++ usage)) }
 {

@@ -8,7 +8,7 @@ struct Taken {
     says: &'static str,
 }
 
-static TAKEN: [Taken; 20] = [
+static TAKEN: [Taken; 27] = [
     Taken {
         words: "b pipe --store S",
         says: "Pipe S None",
@@ -89,9 +89,37 @@ static TAKEN: [Taken; 20] = [
         words: "b night --store S --settings F",
         says: "Night { scheduled: false } S Some(\"F\")",
     },
+    Taken {
+        words: "b dump-folder --store S --host pc1 --kind full F",
+        says: "DumpFolder { host: HostName { bytes: [112, 99, 49] }, kind: Full, folder: \"F\" } S None",
+    },
+    Taken {
+        words: "b dump-folder F --kind=incr --host=a --settings G --store=S",
+        says: "DumpFolder { host: HostName { bytes: [97] }, kind: Incr, folder: \"F\" } S Some(\"G\")",
+    },
+    Taken {
+        words: "b dump-folder --store S --host 9 --kind full -- -F",
+        says: "DumpFolder { host: HostName { bytes: [57] }, kind: Full, folder: \"-F\" } S None",
+    },
+    Taken {
+        words: "b dump-folder --store S --host a dump-folder --kind incr",
+        says: "DumpFolder { host: HostName { bytes: [97] }, kind: Incr, folder: \"dump-folder\" } S None",
+    },
+    Taken {
+        words: "b restore-folder --store S --host pc1 --number 0 F",
+        says: "RestoreFolder { host: HostName { bytes: [112, 99, 49] }, number: 0, folder: \"F\" } S None",
+    },
+    Taken {
+        words: "b restore-folder --number=4294967295 F --settings G --host a --store S",
+        says: "RestoreFolder { host: HostName { bytes: [97] }, number: 4294967295, folder: \"F\" } S Some(\"G\")",
+    },
+    Taken {
+        words: "b restore-folder --store S --host a --number +7 F",
+        says: "RestoreFolder { host: HostName { bytes: [97] }, number: 7, folder: \"F\" } S None",
+    },
 ];
 
-static REFUSED: [&str; 44] = [
+static REFUSED: [&str; 74] = [
     "b",
     "b frob",
     "b frob --store S",
@@ -136,6 +164,36 @@ static REFUSED: [&str; 44] = [
     "b serve --store S --listen A --connections=",
     "b serve --store S --listen A --connections 4x",
     "b pipe --store S --listen A",
+    "b dump-folder",
+    "b dump_folder --store S --host a --kind full F",
+    "b dump-folder --host a --kind full F",
+    "b dump-folder --store S --kind full F",
+    "b dump-folder --store S --host --kind full F",
+    "b dump-folder --store S --host A --kind full F",
+    "b dump-folder --store S --host= --kind full F",
+    "b dump-folder --store S --host .a --kind full F",
+    "b dump-folder --store S --host a/b --kind full F",
+    "b dump-folder --store S --host a --host a --kind full F",
+    "b dump-folder --store S --host a F",
+    "b dump-folder --store S --host a --kind F",
+    "b dump-folder --store S --host a --kind Full F",
+    "b dump-folder --store S --host a --kind= F",
+    "b dump-folder --store S --host a --kind increment F",
+    "b dump-folder --store S --host a --kind full",
+    "b dump-folder --store S --host a --kind full F G",
+    "b dump-folder --store S --host a --kind full -F",
+    "b dump-folder --store S --host a --kind full --folder F",
+    "b dump-folder --store S --host a --kind full --number 1 F",
+    "b restore-folder --store S --number 1 F",
+    "b restore-folder --store S --host a..b/ --number 1 F",
+    "b restore-folder --store S --host a F",
+    "b restore-folder --store S --host a --number F",
+    "b restore-folder --store S --host a --number 4294967296 F",
+    "b restore-folder --store S --host a --number -1 F",
+    "b restore-folder --store S --host a --number 1 --number 1 F",
+    "b restore-folder --store S --host a --number 1",
+    "b restore-folder --store S --host a --number 1 F G",
+    "b restore-folder --store S --host a --number 1 --kind full F",
 ];
 
 fn words_of(alloc: Global, line: &str) -> Result<Vec<String>, AllocError> {
@@ -184,6 +242,15 @@ fn says_what_is_wrong(rt: HostRuntime) -> Result<(), AllocError> {
             "b night --store S x",
             "error: unexpected argument 'x' found\n\nUsage: b night [OPTIONS] --store <store>\n",
         ),
+        (
+            "b dump-folder --store S --host a --kind full",
+            "error: the following required arguments were not provided:\n  <folder>\n\nUsage: b dump-folder --store <store> --host <host> --kind <kind> <folder>\n",
+        ),
+        (
+            "b restore-folder --store S --host a --number 4294967296 F",
+            "error: invalid value '4294967296' for '--number <number>': 4294967296 is not in 0..=4294967295\n",
+        ),
+        ("b dump-folder --store S --host A --kind full F", ""),
         ("b pipe --store S", ""),
     ];
     for (line, message) in rows {
