@@ -4,6 +4,7 @@ use admin_cli::{Done, run};
 use caller_doors::ListDoor;
 use command_line::Parsed;
 use disk_trait::{Disk, DiskRoom, FileId, MemoryDisk};
+use folder_trait::{MemoryFolder, NoProgress};
 use pool_name::Md5Namer;
 use std::alloc::{AllocError, AllocGlobal, Global};
 use std::sync::Wait;
@@ -100,6 +101,7 @@ pub fn run_over(rt: &impl Machine, case: &Case<'_>, disk: MemoryDisk) -> Result<
     let words = words_of(alloc, case.line)?;
     let link = link_of(alloc, case)?;
     let mut clock = new_clock();
+    let mut folder = MemoryFolder::new(alloc, Vec::new(alloc));
     Ok(run(
         rt,
         alloc,
@@ -110,6 +112,8 @@ pub fn run_over(rt: &impl Machine, case: &Case<'_>, disk: MemoryDisk) -> Result<
         &mut clock,
         link,
         Vec::new(alloc),
+        &mut folder,
+        &mut NoProgress,
     ))
 }
 

@@ -6,6 +6,7 @@ use admin_cli::{Done, run};
 use caller_doors::ListDoor;
 use command_line::Parsed;
 use disk_trait::{Disk, MemoryDisk};
+use folder_trait::{MemoryFolder, NoProgress};
 use office_model::{Answer, Event, Refusal};
 use office_store::Store;
 use pool_name::Md5Namer;
@@ -27,6 +28,7 @@ fn run_apart<D: Disk + Send + Drop, C: Clock + Drop, L: Link + Drop>(
 ) -> Alone<D, L, C> {
     let alloc = rt.alloc();
     let work = move || {
+        let mut folder = MemoryFolder::new(alloc, Vec::new(alloc));
         run(
             rt,
             alloc,
@@ -37,6 +39,8 @@ fn run_apart<D: Disk + Send + Drop, C: Clock + Drop, L: Link + Drop>(
             &mut clock,
             link,
             Vec::new(alloc),
+            &mut folder,
+            &mut NoProgress,
         )
     };
     let (seen, ()) = join(rt, work, || ());

@@ -1,5 +1,8 @@
+pub mod FolderLaws
+pub mod FolderStops
 pub mod ForeignLaws
 pub mod HeadlineLaws
+pub mod HostLaws
 pub mod NightLaws
 pub mod RefusalLaws
 pub mod RunLaws

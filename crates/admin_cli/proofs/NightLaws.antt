@@ -161,10 +161,10 @@ module _ {D : Type 0} (d : DiskGhosts D) (digest_of : List ℕ → List ℕ) (di
       refused_ends a b refusal halted cause m same
   night_ends a b N.Memory failed halted link link' is is' says rose cause m same l same_link = inr (inr (inl refl))
 
-  pub night_complete : (doors doors' : List ℕ) (line : Option Line) (settings : List ℕ) (link link' : LinkSeen) (moments moments' : Option (List ℕ))
+  pub night_complete : (doors doors' : List ℕ) (entered entered' : ℕ) (line : Option Line) (settings : List ℕ) (link link' : LinkSeen) (moments moments' : Option (List ℕ))
       → DoesNight d digest_of disk disk' line settings link link' moments moments' note
-      → link.faults ≡ linked → link'.faults ≡ linked' → IsComplete d digest_of disk disk' line settings linked linked' doors doors' note
-  night_complete doors doors' line settings link link' moments moments' s is is' = λ a b stands said file m same l same_link calm.
+      → link.faults ≡ linked → link'.faults ≡ linked' → IsComplete d digest_of disk disk' line settings linked linked' doors doors' entered entered' note
+  night_complete doors doors' entered entered' line settings link link' moments moments' s is is' = λ a b stands said file m same l same_link calm g same_folder.
       subst (λ (told : Note). EndsWell d digest_of disk disk' linked linked' note told a b) (sym s.note_is)
       (night_ends a b s.end s.failed s.halted link link' is is' s.says (s.works.moved a b stands).rose (s.cause a b stands)
       m same l same_link)

@@ -1,8 +1,9 @@
 -- What the words and the settings let a run say.
 --     file_of, refused_for_memory      settings that were read are a settings file, which is refused for want of memory alone
---     tells_served, tells_night, tells_doors, tells_nobody, tells_refused, tells_unopened      when the statuses 2 and 7 come
-use Rattle.std.specs.Prelude.{IsSome, ◌⊎◌}
-use Rattle.std.proofs.Common.{◌≡◌, ℕ, Bool, true, false, List, Option, None, Some, refl, sym, ap, ◌∙◌, subst, inl, inr, arith}
+--     refused_line      words that were refused
+--     tells_served, tells_night, tells_dump, tells_restore, tells_doors, tells_nobody, tells_refused, tells_unopened      when the statuses 2 and 7 come
+use Rattle.std.specs.Prelude.{IsSome, Result, ◌⊎◌}
+use Rattle.std.proofs.Common.{◌≡◌, ℕ, Bool, true, false, List, Option, None, Some, Ok, Err, refl, sym, ap, ◌∙◌, subst, inl, inr, arith}
 use Rattle.std.proofs.lemmas.Bool.{false≢true}
 use Rattle.store_opening.specs.declared.fault.OpenRefusal.{OpenRefusal}
 use Rattle.store_opening.specs.declared.fault.OpenRefusal.TheVariants as O
@@ -14,14 +15,21 @@ use Rattle.office_model.specs.declared.refusal.Refusal.{Refusal}
 use Rattle.office_model.specs.declared.refusal.Refusal.TheVariants as R
 use Rattle.night_work.specs.declared.ends.NightEnd.{NightEnd}
 use Rattle.night_work.specs.declared.ends.NightEnd.TheVariants as N
+use Rattle.folder_walk.specs.declared.refusals.DumpRefusal.{DumpRefusal}
+use Rattle.folder_walk.specs.declared.refusals.DumpRefusal.TheVariants as P
+use Rattle.folder_restore.specs.declared.refusals.RestoreRefusal.{RestoreRefusal}
+use Rattle.folder_restore.specs.declared.refusals.RestoreRefusal.TheVariants as W
 use Rattle.browse_http.specs.declared.end.End.{End}
 use Rattle.browse_http.specs.declared.end.End.TheVariants.{Ended, Truncated, BadRequest, LinkFault, Memory}
 use Rattle.admin_cli.specs.declared.note.Note.{Note}
-use Rattle.admin_cli.specs.declared.note.Note.TheVariants.{Usage, NoMemory}
+use Rattle.admin_cli.specs.declared.note.Note.TheVariants.{Usage, NoMemory, DiskFailed, Foreign, Refused, BadPath, BadTarget, FileTooLarge, FolderNotEmpty, FolderFailed}
 use Rattle.admin_cli.specs.Statuses.{status_of}
+use Rattle.command_line.specs.declared.line.LineFault.{LineFault}
+use Rattle.command_line.specs.declared.line.LineFault.TheVariants as L
 use Rattle.command_line.specs.Line.{Line, Task}
 use Rattle.admin_cli.specs.Command.{AsksFor}
 use Rattle.admin_cli.specs.Asked.{IsSettingsFile, note_of_settings, IsRefused, TellsRefusals}
+use Rattle.admin_cli.specs.Folders.{note_of_rule, note_of_call, note_of_dump, note_of_restore}
 use Rattle.admin_cli.specs.Nights.{note_of_all, note_of_refused, note_of_night}
 use Rattle.admin_cli.specs.Run.{note_of, note_of_refusal}
 use Rattle.admin_cli.specs.Servers.{note_of_served}
@@ -57,6 +65,13 @@ refused_for_memory bytes F.UnknownKey is refused =
     let same : is.document ≡ refused.document = cc (parsed, again) in
     absurd (false≢true (sym is.known ∙ (ap has_unknowns same ∙ refused.is.1)))
 refused_for_memory bytes F.Memory is refused = refl
+
+pub refused_line : (line : Option Line) (settings : List ℕ) (fault : LineFault) (note : Note) → (fault ≡ L.NoParse → line ≡ None)
+    → (fault ≡ L.NoParse → note ≡ Usage) → (fault ≡ L.Memory → note ≡ NoMemory) → IsRefused line settings note
+refused_line line settings L.NoParse note none usage memory =
+    subst (λ (l : Option Line). IsRefused l settings note) (sym (none refl)) (inl (usage refl))
+refused_line None settings L.Memory note none usage memory = inr (memory refl)
+refused_line (Some line) settings L.Memory note none usage memory = (F.Memory, memory refl, tt)
 
 -- a note of neither status
 abbrev IsOther : Note → Type 0
@@ -94,6 +109,33 @@ night_other N.NotNow failed halted = all_other failed halted
 night_other (N.Refused refusal) failed halted = refused_other refusal halted
 night_other N.Memory failed halted = other NoMemory 6 refl (λ e. omega (arith, e)) (λ e. omega (arith, e))
 
+rule_other : (note : Note) (halted : Bool) → status_of note ≡ 1 → IsOther (note_of_rule note halted)
+rule_other note true is = other DiskFailed 4 refl (λ e. omega (arith, e)) (λ e. omega (arith, e))
+rule_other note false is = other note 1 is (λ e. omega (arith, e)) (λ e. omega (arith, e))
+
+call_other : (refusal : Refusal) (halted : Bool) → IsOther (note_of_call refusal halted)
+call_other (R.Broken rule) halted = rule_other (Refused rule) halted refl
+call_other R.Halted halted = other DiskFailed 4 refl (λ e. omega (arith, e)) (λ e. omega (arith, e))
+call_other R.DiskFault halted = other DiskFailed 4 refl (λ e. omega (arith, e)) (λ e. omega (arith, e))
+call_other (R.Damaged file found) halted = other (Foreign file) 5 refl (λ e. omega (arith, e)) (λ e. omega (arith, e))
+call_other R.Memory halted = other NoMemory 6 refl (λ e. omega (arith, e)) (λ e. omega (arith, e))
+
+dump_other : (result : Result ℕ DumpRefusal) (failed halted : Bool) → IsOther (note_of_dump result failed halted)
+dump_other (Ok number) failed halted = all_other failed halted
+dump_other (Err (P.Refused refusal)) failed halted = call_other refusal halted
+dump_other (Err (P.BadPath rule)) failed halted = rule_other BadPath halted refl
+dump_other (Err P.BadTarget) failed halted = rule_other BadTarget halted refl
+dump_other (Err P.FileTooLarge) failed halted = rule_other FileTooLarge halted refl
+dump_other (Err P.Folder) failed halted = other FolderFailed 3 refl (λ e. omega (arith, e)) (λ e. omega (arith, e))
+dump_other (Err P.Memory) failed halted = other NoMemory 6 refl (λ e. omega (arith, e)) (λ e. omega (arith, e))
+
+restore_other : (result : Result ℕ RestoreRefusal) (failed halted : Bool) → IsOther (note_of_restore result failed halted)
+restore_other (Ok entries) failed halted = all_other failed halted
+restore_other (Err (W.Refused refusal)) failed halted = call_other refusal halted
+restore_other (Err W.NotEmpty) failed halted = rule_other FolderNotEmpty halted refl
+restore_other (Err W.Folder) failed halted = other FolderFailed 3 refl (λ e. omega (arith, e)) (λ e. omega (arith, e))
+restore_other (Err W.Memory) failed halted = other NoMemory 6 refl (λ e. omega (arith, e)) (λ e. omega (arith, e))
+
 doors_other : (failed halted : Bool) → IsOther (note_of_served failed halted)
 doors_other true halted = other (note_of_served true halted) 3 refl (λ e. omega (arith, e)) (λ e. omega (arith, e))
 doors_other false true = other (note_of_served false true) 4 refl (λ e. omega (arith, e)) (λ e. omega (arith, e))
@@ -125,6 +167,16 @@ pub tells_night : (line : Option Line) (settings : List ℕ) (read : Settings) (
     → IsSome line → IsSettings settings read → note ≡ note_of_night end failed halted → TellsRefusals line settings note
 tells_night line settings read note end failed halted said is note_is =
     tells_understood line settings note said (file_of settings read is) (subst IsOther (sym note_is) (night_other end failed halted))
+
+pub tells_dump : (line : Option Line) (settings : List ℕ) (note : Note) (result : Result ℕ DumpRefusal) (failed halted : Bool)
+    → IsSome line → IsSettingsFile settings → note ≡ note_of_dump result failed halted → TellsRefusals line settings note
+tells_dump line settings note result failed halted said file note_is =
+    tells_understood line settings note said file (subst IsOther (sym note_is) (dump_other result failed halted))
+
+pub tells_restore : (line : Option Line) (settings : List ℕ) (note : Note) (result : Result ℕ RestoreRefusal) (failed halted : Bool)
+    → IsSome line → IsSettingsFile settings → note ≡ note_of_restore result failed halted → TellsRefusals line settings note
+tells_restore line settings note result failed halted said file note_is =
+    tells_understood line settings note said file (subst IsOther (sym note_is) (restore_other result failed halted))
 
 pub tells_doors : (line : Option Line) (settings : List ℕ) (read : Settings) (note : Note) (failed halted : Bool)
     → IsSome line → IsSettings settings read → note ≡ note_of_served failed halted → TellsRefusals line settings note

@@ -56,6 +56,7 @@ module _ {D N S : Type 0} {d : DiskGhosts D} {n : NamerGhosts N S} (disk : D) (s
         office = o.office;
         is_one = o.is_one;
         names = o.names;
+        sound = o.running.sound;
         digest = o.running.digest;
         listed = λ all is id. (
           (λ among. sym (listed all is id) ∙ o.running.used.slot id among),
@@ -208,18 +209,18 @@ module _ {D : Type 0} (d : DiskGhosts D) (digest_of : List ℕ → List ℕ) (di
   early_complete a b (Some line) settings is said file =
       inr (inr (inl (ap status_of (is.1 ∙ refused_for_memory settings is.0 file is.2))))
 
-  pub refused_complete : (doors doors' : List ℕ) (line : Option Line) (settings : List ℕ)
+  pub refused_complete : (doors doors' : List ℕ) (entered entered' : ℕ) (line : Option Line) (settings : List ℕ)
       → (IsRefused line settings note × (disk' ≡ disk)) ⊎ IsNotOpened d digest_of disk disk' line settings note
-      → IsComplete d digest_of disk disk' line settings linked linked' doors doors' note
-  refused_complete doors doors' line settings (inl early) = λ a b stands said file m same l same_link calm.
+      → IsComplete d digest_of disk disk' line settings linked linked' doors doors' entered entered' note
+  refused_complete doors doors' entered entered' line settings (inl early) = λ a b stands said file m same l same_link calm g same_folder.
       early_complete a b line settings early.0 said file
-  refused_complete doors doors' line settings (inr at) = λ a b stands said file m same l same_link calm.
+  refused_complete doors doors' entered entered' line settings (inr at) = λ a b stands said file m same l same_link calm g same_folder.
       subst (λ (told : Note). EndsWell told a b) (sym at.note_is) (unopened_complete a b at.refusal stands at.unopened m same)
 
-  pub serves_complete : (doors doors' : List ℕ) (line : Option Line) (settings : List ℕ) (link link' : LinkSeen) (moments moments' : Option (List ℕ))
+  pub serves_complete : (doors doors' : List ℕ) (entered entered' : ℕ) (line : Option Line) (settings : List ℕ) (link link' : LinkSeen) (moments moments' : Option (List ℕ))
       → Serves d digest_of disk disk' line settings link link' moments moments' note
-      → link.faults ≡ linked → link'.faults ≡ linked' → IsComplete d digest_of disk disk' line settings linked linked' doors doors' note
-  serves_complete doors doors' line settings link link' moments moments' s is is' = λ a b stands said file m same l same_link calm.
+      → link.faults ≡ linked → link'.faults ≡ linked' → IsComplete d digest_of disk disk' line settings linked linked' doors doors' entered entered' note
+  serves_complete doors doors' entered entered' line settings link link' moments moments' s is is' = λ a b stands said file m same l same_link calm g same_folder.
       subst (λ (told : Note). EndsWell told a b) (sym s.note_is)
       (served_complete a b s.end s.halted
       (λ e. subst (λ (k : ℕ). Rose k linked') is (subst (λ (k : ℕ). Rose link.faults k) is' (s.talk.counted.rose e)))

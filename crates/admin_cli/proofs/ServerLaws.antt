@@ -99,15 +99,15 @@ module _ {D : Type 0} (d : DiskGhosts D) (digest_of : List ℕ → List ℕ) (di
   risen_ends a b false false calm stopped m same = inl refl
 
   module _ {T C G L : Type 0} (l : Ghosts L) (coming given_back : T → Option (List L)) (faults : T → ℕ)
-      (moments_of : C → Option (List ℕ)) (line : Option Line) (settings : List ℕ) (before after : List (Worker T C G)) where
+      (moments_of : C → Option (List ℕ)) (line : Option Line) (settings : List ℕ) (before after : List (Worker T C G)) (entered entered' : ℕ) where
     pub doors_complete : ServesDoors d digest_of l coming given_back faults moments_of disk disk' line settings before after note
-        → IsComplete d digest_of disk disk' line settings linked linked' (counts_of faults before) (counts_of faults after) note
-    doors_complete s = λ a b stands said file m same few same_link calm.
+        → IsComplete d digest_of disk disk' line settings linked linked' (counts_of faults before) (counts_of faults after) entered entered' note
+    doors_complete s = λ a b stands said file m same few same_link calm g same_folder.
         subst (λ (told : Note). EndsWell d digest_of disk disk' linked linked' note told a b) (sym s.note_is)
         (risen_ends a b (has_risen (counts_of faults before) (counts_of faults after)) s.halted (rw calm (none_rose (counts_of faults before)))
         (s.moved a b stands).rose m same)
 
     pub nobody_complete : ServesNobody d digest_of l coming given_back faults moments_of disk disk' line settings before after note
-        → IsComplete d digest_of disk disk' line settings linked linked' (counts_of faults before) (counts_of faults after) note
-    nobody_complete s = λ a b stands said file m same few same_link calm.
+        → IsComplete d digest_of disk disk' line settings linked linked' (counts_of faults before) (counts_of faults after) entered entered' note
+    nobody_complete s = λ a b stands said file m same few same_link calm g same_folder.
         subst (λ (told : Note). EndsWell d digest_of disk disk' linked linked' note told a b) (sym s.note_is) (inr (inr (inl refl)))

@@ -1,7 +1,10 @@
 pub mod Asked
 pub mod Command
+pub mod FolderTexts
+pub mod Folders
 pub mod Nights
 pub mod Run
+pub mod Runs
 pub mod Servers
 pub mod Statuses
 pub mod Notes

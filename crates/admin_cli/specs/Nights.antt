@@ -4,8 +4,7 @@
 --     HasCause      why a night of a store at work is refused
 --     Says      what is said on the link
 --     DoesNight      the store was opened, and the night's calls were made
---     RunsOnLink      what the program promises of a run over the one link
-use Rattle.std.specs.Prelude.{◌≡◌, ℕ, ◌≤◌, Bool, true, false, if◌then◌else◌, List, Option, None, Some, option_map, ◌⊎◌}
+use Rattle.std.specs.Prelude.{◌≡◌, ℕ, ◌≤◌, Bool, true, false, if◌then◌else◌, List, Option, None, Some, option_map}
 use Rattle.fault_counts.specs.Counts.{Rose, Counted}
 use Rattle.disk_trait.specs.declared.ids.FileId.{FileId}
 use Rattle.disk_trait.specs.declared.ids.FileId.TheVariants.{Table}
@@ -28,7 +27,7 @@ use Rattle.admin_cli.specs.declared.note.Note.{Note}
 use Rattle.admin_cli.specs.declared.note.Note.TheVariants.{Nothing, LinkFailed, DiskFailed, Foreign, NoMemory}
 use Rattle.command_line.specs.Line.{Line, Night}
 use Rattle.admin_cli.specs.Command.{AsksFor}
-use Rattle.admin_cli.specs.Run.{StandsForEither, LeadsOnDisk, Serves, Refuses}
+use Rattle.admin_cli.specs.Run.{StandsForEither, LeadsOnDisk}
 
 -- what is said if nothing failed but the link or the disk: the link's fault first, then a halted store
 abbrev pub note_of_all : (failed halted : Bool) → Note
@@ -101,11 +100,3 @@ module _ {D : Type 0} (d : DiskGhosts D) (digest_of : List ℕ → List ℕ) whe
     pub later : d.fault_count disk ≤ d.fault_count disk'
     pub foreign : (file : FileId) → note ≡ Foreign file → IsDamagedTable (option_map seen (d.files disk')) file
     pub note_is : note ≡ note_of_night end failed halted
-
-  -- the command was carried out over the one link, or no store was opened
-  abbrev pub RunsOnLink : (disk disk' : D) → Option Line → (settings : List ℕ) → (link link' : LinkSeen) → (moments moments' : Option (List ℕ))
-      → Note → Type 0
-  RunsOnLink disk disk' line settings link link' moments moments' note =
-      Serves d digest_of disk disk' line settings link link' moments moments' note
-      ⊎ (DoesNight disk disk' line settings link link' moments moments' note
-      ⊎ Refuses d digest_of disk disk' line settings link link' moments moments' note)

@@ -13,6 +13,7 @@ use Rattle.journal_view.specs.Found.{seen, Finds}
 use Rattle.office_model.specs.Office.{Durable, Names, raised, reopened}
 use Rattle.office_model.specs.Step.{Call, State, Running, Halted, IsPicked}
 use Rattle.office_model.specs.History.{Leads}
+use Rattle.office_model.specs.UsedNames.{AreSound}
 use Rattle.store_parts.specs.Held.{IsEither}
 use Rattle.store_opening.specs.declared.fault.OpenRefusal.{OpenRefusal}
 use Rattle.store_opening.specs.declared.fault.OpenRefusal.TheVariants as O
@@ -67,6 +68,7 @@ module _ {D : Type 0} (d : DiskGhosts D) (digest_of : List ℕ → List ℕ) whe
     pub office : Durable
     pub is_one : IsPicked a b office
     pub names : Names
+    pub sound : AreSound (reopened office) names
     pub digest : names.digest_of ≡ digest_of
     pub listed : (all : Files) → d.files disk ≡ Some all → AreListed names.used all
     pub opening : ℕ
@@ -130,11 +132,12 @@ module _ {D : Type 0} (d : DiskGhosts D) (digest_of : List ℕ → List ℕ) whe
     pub unasked : moments' ≡ moments
 
   -- If the words are a command line, the settings are a settings file, the disk stands for an office, whatever a crash leaves, and no
-  -- count rose (nor does the disk's or the link's stand at its type's end), the run ended with 0, with 1, for want of memory, or because
-  -- the office had its last epoch.
-  abbrev pub IsComplete : D → D → Option Line → List ℕ → (linked linked' : ℕ) → (doors doors' : List ℕ) → Note → Type 0
-  IsComplete disk disk' line settings linked linked' doors doors' note =
+  -- count rose (nor does the disk's, the link's or the folder's stand at its type's end), the run ended with 0, with 1, for want of
+  -- memory, or because the office had its last epoch.
+  abbrev pub IsComplete : D → D → Option Line → List ℕ → (linked linked' : ℕ) → (doors doors' : List ℕ) → (entered entered' : ℕ) → Note
+      → Type 0
+  IsComplete disk disk' line settings linked linked' doors doors' entered entered' note =
       (a b : Durable) → StandsForEither disk a b → IsSome line → IsSettingsFile settings
       → d.fault_count disk < 2 ^ 64 - 1 → d.fault_count disk' ≡ d.fault_count disk → linked < 2 ^ 64 - 1 → linked' ≡ linked
-      → doors' ≡ doors
+      → doors' ≡ doors → entered < 2 ^ 64 - 1 → entered' ≡ entered
       → (status_of note ≡ 0) ⊎ ((status_of note ≡ 1) ⊎ ((status_of note ≡ 6) ⊎ ((note ≡ EpochsSpent) × HasLast a b)))

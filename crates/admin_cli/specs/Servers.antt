@@ -1,12 +1,10 @@
--- What the program promises for its command `serve`, and of a run, whatever it was.
+-- What the program promises for its command `serve`.
 --     counts_of, has_risen      the doors' counts of faults, and whether one of them rose
 --     note_of_served      the note of a run whose workers served
 --     ServesDoors, ServesNobody      all workers served the store; there was no memory, and none did
---     Runs      what the program promises of a run
 use Rattle.std.specs.Prelude.{◌≡◌, ℕ, ◌≤◌, Bool, false, ◌||◌, nat_lt, if◌then◌else◌, List, [], ◌∷◌, Option, length, map, ◌⊎◌}
 use Rattle.disk_trait.specs.declared.disk.Disk.{Ghosts as DiskGhosts}
 use Rattle.stream_traits.specs.declared.link.Faults.{Ghosts}
-use Rattle.stream_traits.specs.Seen.{LinkSeen}
 use Rattle.office_model.specs.declared.event.Event.{Event}
 use Rattle.office_model.specs.Meaning.{Reply}
 use Rattle.turn_lock.specs.declared.object.Entry.{Entry}
@@ -22,7 +20,6 @@ use Rattle.command_line.specs.Line.{Line, Serve}
 use Rattle.admin_cli.specs.Command.{AsksFor}
 use Rattle.admin_cli.specs.Asked.{defaults_of}
 use Rattle.admin_cli.specs.Run.{LeadsOnDisk}
-use Rattle.admin_cli.specs.Nights.{RunsOnLink}
 
 -- one of the counts is larger than it was
 abbrev pub has_risen : List ℕ → List ℕ → Bool
@@ -73,11 +70,3 @@ module _ {D : Type 0} (d : DiskGhosts D) (digest_of : List ℕ → List ℕ) {T 
   abbrev pub ServesStore : (disk disk' : D) → Option Line → (settings : List ℕ) → (before after : List (Worker T C G)) → Note → Type 0
   ServesStore disk disk' line settings before after note =
       ServesDoors disk disk' line settings before after note ⊎ ServesNobody disk disk' line settings before after note
-
-  -- the command was carried out over the one link, or no store was opened, and the workers are as they were; or the workers served the
-  -- store, and nothing happened to the link, and the clock wasn't asked
-  abbrev pub Runs : (disk disk' : D) → Option Line → (settings : List ℕ) → (link link' : LinkSeen) → (moments moments' : Option (List ℕ))
-      → (before after : List (Worker T C G)) → Note → Type 0
-  Runs disk disk' line settings link link' moments moments' before after note =
-      (RunsOnLink d digest_of disk disk' line settings link link' moments moments' note × (after ≡ before))
-      ⊎ (ServesStore disk disk' line settings before after note × (link' ≡ link) × (moments' ≡ moments))

@@ -4,16 +4,19 @@ ghost use Rattle.stream_traits.specs.Seen.{seen_of};
 ghost use Rattle.command_line.specs.Line.{line_of};
 ghost use Rattle.admin_cli.specs.Asked.{TellsRefusals};
 ghost use Rattle.admin_cli.specs.Run.{IsComplete};
-ghost use Rattle.admin_cli.specs.Servers.{counts_of, Runs};
+ghost use Rattle.admin_cli.specs.Runs.{Runs};
+ghost use Rattle.admin_cli.specs.Servers.{counts_of};
 
 use crate::asked::{Asked, read_asked};
 use crate::done::Done;
+use crate::folders::{dump, restore};
 use crate::nightly::run_night;
 use crate::pipe::serve_pipe;
 use crate::servers::serve_store;
 use caller_doors::Door;
 use command_line::{Parsed, Work};
 use disk_trait::Disk;
+use folder_trait::{Folder, Progress};
 use pool_name::Namer;
 use serve_workers::Worker;
 use std::alloc::Global;
@@ -23,10 +26,13 @@ use stream_traits::{Clock, Faults, Gate, Link};
 
 /// Does what the words ask. The first word is the program's name. From the store on the disk, which a disk without files is, too,
 /// `pipe --store DIR [--settings FILE]` serves one connection over the link; `serve --listen ADDR [--connections N]` has all workers
-/// serve the links of their doors beside each other, until each door is closed or failed; and `night [--scheduled]` does a night's
-/// work on it, and says what came of it on the link. The settings are the bytes of the file, and empty without one: a host
+/// serve the links of their doors beside each other, until each door is closed or failed; `night [--scheduled]` does a night's
+/// work on it, and says what came of it on the link; `dump-folder --host H --kind full|incr FOLDER` makes the folder the host's next
+/// backup; and `restore-folder --host H --number N FOLDER` makes a backup in the folder, in which nothing lies. Both say so on the
+/// link, and tell `progress` how far they are; which real folder FOLDER is, is the caller's matter. The settings are the bytes of the file, and empty without one: a host
 /// that is added has their rules, what is due is decided by their zone's clock, and so are the night's buckets and its time. The words
-/// are read first, then the settings; a disk, a link, a clock and doors whose words or settings are refused are left alone. Doors serve
+/// are read first, then the settings; a disk, a link, a clock, a folder and doors whose words or settings are refused are left alone, and
+/// the folder by each other command. Doors serve
 /// nobody but for `serve`, and then the link and the clock are left alone; each worker asks its own clock. A link of a door that fails, or
 /// want of memory in a connection there, ends that connection alone. Without workers `serve` serves nobody and ends.
 ///
@@ -39,6 +45,8 @@ pub fn run<
     L: Link,
     T: Door + Drop,
     G: Gate + Drop,
+    F: Folder,
+    P: Progress,
     R: Threads + Wait + Sync,
 >(
     rt: &R,
@@ -50,19 +58,22 @@ pub fn run<
     clock: &mut C,
     link: L,
     workers: Vec<Worker<T, C, G>>,
+    folder: &mut F,
+    progress: &mut P,
 ) -> Done<D, L, T, C, G>
 where
     N::State: Send,
-    ensures headline { Runs ⟦<D as Disk>⟧ N.digest_of ⟦<T::Link as Faults>⟧ T.coming T.given_back T.faults C.moments
+    ensures headline { Runs ⟦<D as Disk>⟧ ⟦<F as Folder>⟧ N.digest_of ⟦<T::Link as Faults>⟧ T.coming T.given_back T.faults C.moments
         disk result.disk (line_of (map string_bytes parsed.now.words.now)) settings.now
         (seen_of ⟦<L as Faults>⟧ link) (seen_of ⟦<L as Faults>⟧ result.link) (C.moments clock.old) (C.moments clock.new)
-        workers.items result.workers.items result.note }
+        folder.old folder.new workers.items result.workers.items result.note }
     ensures refusals { TellsRefusals (line_of (map string_bytes parsed.now.words.now)) settings.now result.note }
     ensures complete { IsComplete ⟦<D as Disk>⟧ N.digest_of disk result.disk (line_of (map string_bytes parsed.now.words.now)) settings.now
-        (L.faults link) (L.faults result.link) (counts_of T.faults workers.items) (counts_of T.faults result.workers.items) result.note }
+        (L.faults link) (L.faults result.link) (counts_of T.faults workers.items) (counts_of T.faults result.workers.items)
+        (F.fault_count folder.old) (F.fault_count folder.new) result.note }
 {
     do_asked(
-        rt, alloc, parsed, settings, disk, namer, clock, link, workers,
+        rt, alloc, parsed, settings, disk, namer, clock, link, workers, folder, progress,
     )
 }
 
@@ -74,6 +85,8 @@ fn do_asked<
     L: Link,
     T: Door + Drop,
     G: Gate + Drop,
+    F: Folder,
+    P: Progress,
     R: Threads + Wait + Sync,
 >(
     rt: &R,
@@ -85,13 +98,15 @@ fn do_asked<
     clock: &mut C,
     link: L,
     workers: Vec<Worker<T, C, G>>,
+    folder: &mut F,
+    progress: &mut P,
 ) -> Done<D, L, T, C, G>
 where
     N::State: Send,
-    ensures { Runs ⟦<D as Disk>⟧ N.digest_of ⟦<T::Link as Faults>⟧ T.coming T.given_back T.faults C.moments
+    ensures { Runs ⟦<D as Disk>⟧ ⟦<F as Folder>⟧ N.digest_of ⟦<T::Link as Faults>⟧ T.coming T.given_back T.faults C.moments
         disk result.disk (line_of (map string_bytes parsed.now.words.now)) settings.now
         (seen_of ⟦<L as Faults>⟧ link) (seen_of ⟦<L as Faults>⟧ result.link) (C.moments clock.old) (C.moments clock.new)
-        workers.items result.workers.items result.note }
+        folder.old folder.new workers.items result.workers.items result.note }
 {
     let Asked { work, settings } = match read_asked(alloc, parsed, settings) {
         Ok(asked) => asked,
@@ -102,6 +117,21 @@ where
         Work::Night { scheduled } => run_night(
             alloc, &settings, *scheduled, disk, namer, clock, link,
         ).with_workers(workers),
+        Work::DumpFolder {
+            host,
+            kind,
+            folder: _,
+        } => dump(
+            alloc, host, *kind, disk, namer, clock, link, folder, progress,
+        )
+        .with_workers(workers),
+        Work::RestoreFolder {
+            host,
+            number,
+            folder: _,
+        } => restore(alloc, host, *number, disk, namer, link, folder, progress).with_workers(
+            workers,
+        ),
         Work::Serve {
             listen: _,
             connections: _,

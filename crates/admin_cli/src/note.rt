@@ -1,5 +1,6 @@
 use command_line::USAGE;
 use disk_trait::FileId;
+use office_model::BrokenRule;
 use settings_file::SettingsFault;
 use std::fmt;
 
@@ -12,12 +13,24 @@ pub enum Note {
     InputEnded,
     /// The head of a request was refused.
     NotUnderstood,
+    /// A call of a folder command was refused, since it breaks this rule.
+    Refused(BrokenRule),
+    /// A path of the folder breaks a rule of paths.
+    BadPath,
+    /// A link of the folder has a target that is none.
+    BadTarget,
+    /// A file of the folder has more than 67,108,864 bytes.
+    FileTooLarge,
+    /// Something lies in the folder that is to be filled.
+    FolderNotEmpty,
     /// The words are no command line.
     Usage,
     /// The link failed; its count of faults rose.
     LinkFailed,
     /// A door failed; its count of faults rose.
     DoorFailed,
+    /// The folder failed; its count of faults rose.
+    FolderFailed,
     /// The disk failed; its count of faults rose.
     DiskFailed,
     /// This file isn't one of the store's.
@@ -42,8 +55,10 @@ impl Note {
             Note::Nothing => 0,
             Note::InputEnded => 1,
             Note::NotUnderstood => 1,
+            Note::Refused(_) | Note::BadPath | Note::BadTarget | Note::FileTooLarge => 1,
+            Note::FolderNotEmpty => 1,
             Note::Usage => 2,
-            Note::LinkFailed | Note::DoorFailed => 3,
+            Note::LinkFailed | Note::DoorFailed | Note::FolderFailed => 3,
             Note::DiskFailed => 4,
             Note::Foreign(_) | Note::EpochsSpent => 5,
             Note::NoMemory => 6,
@@ -63,9 +78,15 @@ impl fmt::Display for Note {
             Note::Nothing => write!(f, ""),
             Note::InputEnded => write!(f, "input ended inside a request"),
             Note::NotUnderstood => write!(f, "request not understood"),
+            Note::Refused(rule) => write!(f, "refused {rule}"),
+            Note::BadPath => write!(f, "refused BadPath"),
+            Note::BadTarget => write!(f, "refused BadTarget"),
+            Note::FileTooLarge => write!(f, "refused FileTooLarge"),
+            Note::FolderNotEmpty => write!(f, "folder not empty"),
             Note::Usage => write!(f, "{USAGE}"),
             Note::LinkFailed => write!(f, "link failed"),
             Note::DoorFailed => write!(f, "door failed"),
+            Note::FolderFailed => write!(f, "folder failed"),
             Note::DiskFailed => write!(f, "disk failed"),
             Note::Foreign(file) => write!(f, "foreign {file}"),
             Note::EpochsSpent => write!(f, "epochs spent"),

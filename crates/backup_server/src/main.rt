@@ -22,6 +22,7 @@ use crate::system_clock::SystemClock;
 use admin_cli::{Done, Note, run};
 use command_line::{CommandLine, LineFault, Parsed, Work, complaint};
 use pool_name::Md5Namer;
+use real_folder::{ProgressLine, RealFolder};
 use std::alloc::AllocError;
 use std::io::{ErrorKind, Stdin, Stdout};
 use std::process::ExitCode;
@@ -29,7 +30,7 @@ use std::sync::Wait;
 use std::thread::Threads;
 use std::{env, fmt, fs, io};
 
-/// The status where the settings file, the store's folder, the address or the standard streams can't be had.
+/// The status where the settings file, the store's folder, the address, the standard streams or a folder to dump or fill can't be had.
 const NOT_MADE: u8 = 8;
 
 fn main(rt: HostRuntime) -> ExitCode {
@@ -125,19 +126,18 @@ fn obey_work<H: Threads + Wait + Sync>(
     line: &CommandLine,
     disk: FolderDisk<&H>,
 ) -> u8 {
-    let folder = line.store.as_str();
     let (listen, connections) = match &line.work {
         Work::Serve {
             listen,
             connections,
         } => (listen.as_str(), *connections),
-        Work::Pipe | Work::Night { .. } => {
+        _ => {
             return do_asked(
                 rt,
                 threads,
                 parsed,
                 settings,
-                folder,
+                line,
                 disk,
                 Vec::new(rt.alloc()),
             );
@@ -152,19 +152,28 @@ fn obey_work<H: Threads + Wait + Sync>(
         ),
     };
     match workers_at(rt, &listener, connections) {
-        Ok(workers) => do_asked(rt, threads, parsed, settings, folder, disk, workers),
+        Ok(workers) => do_asked(rt, threads, parsed, settings, line, disk, workers),
         Err(AllocError) => end(rt, Note::NoMemory),
     }
 }
 
-/// Does what the words ask, over these workers, the standard streams and the system's clock, and gives the status.
-/// What was given to a link goes out before it returns.
+/// The folder that the words name, which is made for a restore if nothing is there. Of other words it is one that isn't used.
+fn folder_of(rt: &HostRuntime, work: &Work) -> io::Result<RealFolder> {
+    match work {
+        Work::DumpFolder { folder, .. } => RealFolder::open(*rt, folder.as_str()),
+        Work::RestoreFolder { folder, .. } => RealFolder::open_or_make(*rt, folder.as_str()),
+        _ => Ok(RealFolder::unused(*rt)),
+    }
+}
+
+/// Does what the words ask, over these workers, the standard streams, the system's clock and the folder that they name, and gives the
+/// status. What was given to a link goes out before it returns.
 fn do_asked<H: Threads + Wait + Sync>(
     rt: &HostRuntime,
     threads: &H,
     parsed: &Parsed<'_>,
     settings: &[u8],
-    folder: &str,
+    line: &CommandLine,
     disk: FolderDisk<&H>,
     workers: Vec<TcpWorker<'_>>,
 ) -> u8 {
@@ -176,7 +185,12 @@ fn do_asked<H: Threads + Wait + Sync>(
             format_args!("the standard streams can't be used"),
         ),
     };
+    let mut folder = match folder_of(rt, &line.work) {
+        Ok(folder) => folder,
+        Err(error) => return not_made(rt, error, format_args!("the folder can't be opened")),
+    };
     let mut clock = SystemClock::new(*rt);
+    let mut progress = ProgressLine::new(*rt);
     let Done {
         note,
         disk: _,
@@ -192,13 +206,24 @@ fn do_asked<H: Threads + Wait + Sync>(
         &mut clock,
         link,
         workers,
+        &mut folder,
+        &mut progress,
     );
+    if names_a_folder(&line.work) {
+        progress.finish();
+    }
     let status = end(rt, note);
     if let Note::Foreign(_) = note {
-        let _ = eprintln!(rt; "in the folder {folder}");
+        let store = line.store.as_str();
+        let _ = eprintln!(rt; "in the folder {store}");
     }
     explain_doors(rt, workers.as_slice());
     status
+}
+
+/// Whether it is the work of a folder command.
+fn names_a_folder(work: &Work) -> bool {
+    matches!(work, Work::DumpFolder { .. } | Work::RestoreFolder { .. })
 }
 
 /// Standard input and output.

@@ -6,6 +6,7 @@ use browse_http::{End, Interface, serve_connection};
 use caller_doors::ListDoor;
 use command_line::Parsed;
 use disk_trait::{DiskRoom, MemoryDisk};
+use folder_trait::{MemoryFolder, NoProgress};
 use office_model::Port;
 use pool_name::Md5Namer;
 use request_events::Defaults;
@@ -261,6 +262,7 @@ fn expect_from_store(
     let link = link_of(alloc, input)?;
     let mut clock = new_clock();
     let workers: Vec<Worker<ListDoor, FixedClock, OpenGate>> = Vec::new(alloc);
+    let mut folder = MemoryFolder::new(alloc, Vec::new(alloc));
     let done = run(
         rt,
         alloc,
@@ -271,6 +273,8 @@ fn expect_from_store(
         &mut clock,
         link,
         workers,
+        &mut folder,
+        &mut NoProgress,
     );
     let note = done.note;
     let said = format!(in alloc; "{note}")?;

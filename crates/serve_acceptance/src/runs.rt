@@ -4,6 +4,7 @@ use admin_cli::{Done, Worker, run};
 use caller_doors::ListDoor;
 use command_line::Parsed;
 use disk_trait::{Disk, DiskRoom, FileId, MemoryDisk};
+use folder_trait::{MemoryFolder, NoProgress};
 use pool_name::Md5Namer;
 use std::alloc::{AllocError, AllocGlobal, Global};
 use std::collections::VecDeque;
@@ -172,6 +173,7 @@ pub fn run_at<G: Gate + Drop>(
     let words = words_of(alloc, case.line)?;
     let link = quiet_link(alloc, case.input)?;
     let mut clock = new_clock();
+    let mut folder = MemoryFolder::new(alloc, Vec::new(alloc));
     Ok(run(
         rt,
         alloc,
@@ -182,6 +184,8 @@ pub fn run_at<G: Gate + Drop>(
         &mut clock,
         link,
         workers,
+        &mut folder,
+        &mut NoProgress,
     ))
 }
 

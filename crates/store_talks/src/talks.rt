@@ -4,6 +4,7 @@ use admin_cli::{Done, Note, run};
 use caller_doors::ListDoor;
 use command_line::Parsed;
 use disk_trait::{Choice, Disk, DiskRoom, FileId, MemoryDisk};
+use folder_trait::{MemoryFolder, NoProgress};
 use pool_name::Namer;
 use std::alloc::{AllocError, AllocGlobal, Global};
 use std::sync::Wait;
@@ -176,6 +177,7 @@ where
     let words = words_of(alloc, "backup_server pipe --store store")?;
     let link = MemoryLink::new(alloc, input, 65_536, Vec::new(alloc))?;
     let mut clock = clock_of(alloc, seconds)?;
+    let mut folder = MemoryFolder::new(alloc, Vec::new(alloc));
     Ok(run(
         rt,
         alloc,
@@ -186,6 +188,8 @@ where
         &mut clock,
         link,
         Vec::new(alloc),
+        &mut folder,
+        &mut NoProgress,
     ))
 }
 

@@ -19,4 +19,4 @@ returns g c = λ line bytes asked is.
     inl (does_night c.args.disk c.in-Ok.store c.into_store-store.result c.in-Ok.ensures.opened c.in-Ok.ensures.counted c.in-Ok.ensures.listed
     c.args.scheduled line bytes c.args.settings.now _ _ _ _ _ _ _ _ _ _ _ asked is c.new-port.ensures
     (rw c.as_slice.ensures.value at c.night-end.ensures)
-    c.say-failed.ensures c.into_store-store.ensures c.close.ensures c.is_halted-halted.ensures c.note_of_night.ensures)
+    (rw c.text.ensures at c.say-failed.ensures) c.into_store-store.ensures c.close.ensures c.is_halted-halted.ensures c.note_of_night.ensures)
