@@ -128,11 +128,11 @@ def make_tree(root, draw, entries):
 
 
 def writable(folder):
-    for at, folders, _ in os.walk(folder):
-        os.chmod(at, 0o700)
-        for it in folders:
-            if not os.path.islink(f"{at}/{it}"):
-                os.chmod(f"{at}/{it}", 0o700)
+    """Lets each folder below be removed from."""
+    os.chmod(folder, 0o700)
+    for it in list(os.scandir(folder)):
+        if it.is_dir(follow_symlinks=False):
+            writable(it.path)
 
 
 def small(room):
@@ -174,14 +174,17 @@ def large(room, entries):
     first = seen(folder)
     expect_run("a tree of every kind is dumped", dump(store, folder), 0, b"committed pc1 0\n", b"")
     for at, folders, files in list(os.walk(os.fsencode(folder)))[:60]:
+        if not os.path.isdir(at):
+            continue
         os.chmod(at, 0o700)
         for name in sorted(files)[:2]:
             os.remove(os.path.join(at, name))
         for name in sorted(folders)[:1]:
-            if not os.path.islink(os.path.join(at, name)):
-                writable(os.path.join(at, name))
-                shutil.rmtree(os.path.join(at, name))
-                put(os.path.join(at, name), b"was a folder")
+            it = os.path.join(at, name)
+            if os.path.isdir(it) and not os.path.islink(it):
+                writable(it)
+                shutil.rmtree(it)
+                put(it, b"was a folder")
     os.makedirs(f"{folder}/new/er")
     put(f"{folder}/new/er/one", b"new", 0o640, 15 * 10**17 + 123_456_789)
     second = seen(folder)
