@@ -19,7 +19,8 @@ use std::collections::BTreeMap;
 /// A folder in memory, which tells its tree.
 ///
 /// Its calls are counted from 0. Those that it was told to fail do fail, and change nothing else. So do those that ask for what
-/// isn't there, and those that make what the rules of trees or a taken path forbid; the directory around it may be unfinished then.
+/// isn't there, and those that make what the rules of trees or a taken path forbid, or in what is no directory; the directory around
+/// it may be unfinished then.
 /// No clause says which other calls don't fail.
 #[derive(Drop)]
 pub struct MemoryFolder {
@@ -128,7 +129,8 @@ fn put(
     Ok(true)
 }
 
-/// Takes the attributes of the directory that a path lies in, if it lies in one; says whether the rules of trees let it.
+/// Takes the attributes of the directory that a path lies in, if it doesn't lie in the root; says whether there is such a directory
+/// and the rules of trees let it.
 fn touch(
     alloc: Global,
     tree: &mut BTreeMap<PathName, Item>,
@@ -140,7 +142,10 @@ fn touch(
 {
     match path.parent_path(alloc)? {
         None => Ok(true),
-        Some(directory) => put(alloc, tree, &directory, unfinished()),
+        Some(directory) => match tree.get(&directory) {
+            Some(Item::Dir(_)) => put(alloc, tree, &directory, unfinished()),
+            Some(Item::File(_) | Item::Link(_)) | None => Ok(false),
+        },
     }
 }
 
