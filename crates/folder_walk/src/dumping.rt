@@ -130,8 +130,8 @@ fn fill<P: Port, F: Folder, C: Clock, G: Progress>(
 /// listed is passed over, and `progress` is told; where the folder tells its tree none has.
 ///
 /// If it is Ok, the host has one backup more, whose tree is the folder's where the folder tells it and the port keeps its history
-/// legal. If it isn't, nothing was committed: an open dump was aborted, whatever the abort answered, and the reason is what came
-/// first.
+/// legal. If it isn't, no commit was answered with Ok: an open dump was aborted, whatever the abort answered, and the reason is what came
+/// first. After a `DiskFault` of the commit itself the store is halted, and a reopening shows whether it has the backup.
 pub fn dump_folder<P: Port, F: Folder, C: Clock, G: Progress>(
     alloc: Global,
     port: &mut P,

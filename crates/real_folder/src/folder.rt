@@ -21,6 +21,9 @@ use std::io::{ErrorKind, Read, Write};
 /// The mode of a folder that is made.
 const FOLDER_MODE: u32 = 0o700;
 
+/// The bits of a mode by which a program works as its owner, or as its group of users.
+const SET_IDS: u16 = 0o6000;
+
 /// A folder of the system. It tells nothing of what lies in it, and says on standard error at once which of its calls failed, where
 /// and why.
 ///
@@ -186,8 +189,8 @@ fn room_for(size: u64) -> usize {
 
 /// What is made.
 impl RealFolder {
-    /// Takes an owner that the system doesn't let us give for given, and tells it the first time.
-    fn settle_owner(&mut self, given: io::Result<()>) -> io::Result<()>
+    /// Whether an owner was given. One that the system doesn't let us give is told the first time, and is no fault.
+    fn settle_owner(&mut self, given: io::Result<()>) -> io::Result<bool>
         ensures { self.new.faults ≡ self.old.faults }
     {
         match given {
@@ -199,18 +202,24 @@ impl RealFolder {
                         "an owner can't be given here: such entries stay ours",
                     );
                 }
-                Ok(())
+                Ok(false)
             }
-            given => given,
+            Ok(()) => Ok(true),
+            Err(error) => Err(error),
         }
     }
 
-    /// Gives what is open its attributes.
+    /// Gives what is open its attributes. What stays ours gets no set-id bits of another owner's.
     fn settle(&mut self, handle: &Handle, attr: &Attr) -> io::Result<()>
         ensures { self.new.faults ≡ self.old.faults }
     {
-        self.settle_owner(handle.set_owner(attr))?;
-        handle.set_mode(attr)?;
+        let is_theirs = self.settle_owner(handle.set_owner(attr))?;
+        let mode = if is_theirs {
+            attr.mode()
+        } else {
+            attr.mode() & !SET_IDS
+        };
+        handle.set_mode(mode)?;
         handle.set_time(attr)
     }
 
@@ -232,7 +241,8 @@ impl RealFolder {
         directory.make_link(alloc, name, link.target.as_slice())?;
         let (uid, gid) = (link.attr.uid(), link.attr.gid());
         let given = directory.set_link_owner(&self.rt, name, uid, gid);
-        self.settle_owner(given)
+        self.settle_owner(given)?;
+        Ok(())
     }
 
     /// Makes an entry.

@@ -63,8 +63,8 @@ impl Handle {
     }
 
     /// Gives it the twelve bits of its mode.
-    pub(crate) fn set_mode(&self, attr: &Attr) -> io::Result<()> {
-        done(libc::fchmod(self.fd, u32::from(attr.mode())))
+    pub(crate) fn set_mode(&self, mode: u16) -> io::Result<()> {
+        done(libc::fchmod(self.fd, u32::from(mode)))
     }
 
     /// Gives it the time of its last change, to the nanosecond, before 1970 too; that of its last reading stays.
