@@ -1,0 +1,33 @@
+#!/usr/bin/env python3
+"""`rt`, with the sum of each library computed once: tools/quick_rt.py check --jobs 1, in a crate's folder, as `rt check --jobs 1`.
+
+The kit's rt computes a library's sum along every path of crates.txt that leads to it, which takes minutes before each check of an upper crate.
+Nothing else differs: what it proves and keeps is what rt proves and keeps. It holds to rattle-kit-13f; the gate is run by rt itself."""
+import importlib.machinery
+import importlib.util
+import os
+import sys
+
+sys.dont_write_bytecode = True
+
+
+def kit():
+    """Returns rt and its library as modules, each library's sum kept."""
+    program = next(it for it in (f"{at}/rt" for at in os.environ["PATH"].split(":")) if os.path.isfile(it))
+    loader = importlib.machinery.SourceFileLoader("rt", os.path.realpath(program))
+    rt = importlib.util.module_from_spec(importlib.util.spec_from_loader("rt", loader))
+    sys.modules["rt"] = rt
+    loader.exec_module(rt)
+    plain, sums = rt.rtlib.Crate.stamp, {}
+
+    def stamp(self):
+        if self.folder not in sums:
+            sums[self.folder] = plain(self)
+        return sums[self.folder]
+
+    rt.rtlib.Crate.stamp = stamp
+    return rt
+
+
+if __name__ == "__main__":
+    sys.exit(kit().main(sys.argv[1:]))
