@@ -1,6 +1,6 @@
 #!/usr/bin/env python3
 """Dumps and restores one and the same made corpus with this program and with others, in one run, by turns, on one disk, and prints time, processor
-time, most memory and the store's size side by side: bench/peers.py [--scale F] [--rounds N] [--folder FOLDER] [--program PROGRAM].
+time, most memory and the store's size side by side: bench/peers.py [--scale F] [--rounds N] [--folder FOLDER] [--program PROGRAM] [--pipe].
 
 Corpora: `small` is 20,000 files of 93 MB in 200 folders, `large` 8 files of 60,000,000 bytes; all bytes are random, so that nothing can be packed. Steps, one after
 the other for each contender:
@@ -11,8 +11,8 @@ the other for each contender:
   changed   2 % changed, by size and time: of `small` one file in fifty has new bytes; of `large` 2 % of all bytes, in one file
   restore   the newest backup into an empty folder, which is then compared with the corpus
 
-Contenders: this program, driven over its command `pipe` by this script, which reads and writes the files (its own processor time is shown apart); or, with
---dump and --restore, by commands of its own; restic and borg, if they are installed; and yardsticks: `md5sum` of all files, `tar` into one file, `cp -a`
+Contenders: this program, by its commands `dump-folder` and `restore-folder`; with --pipe also over its command `pipe`, driven by this script, which reads and
+writes the files (its own processor time is shown apart); restic and borg, if they are installed; and yardsticks: `md5sum` of all files, `tar` into one file, `cp -a`
 with one sync of the file system at the end, and with a sync for each file. A step that a contender doesn't have is left out.
 It needs Python 3.8 and Linux. No limit hangs on its numbers; the goals that it prints are ratios within one run."""
 import argparse
@@ -364,21 +364,22 @@ def read_whole(path):
 
 
 class OfFolders:
-    """This program by commands of its own."""
+    """This program by its commands for folders. An incremental dump reads each byte, and compares it with what is kept: it believes no size and no time."""
 
     name = "turretgage"
     is_durable = True
 
-    def __init__(self, program, dump, restore):
-        self.program, self.words = program, {"dump": dump, "restore": restore}
+    def __init__(self, program):
+        self.program = program
 
     def step(self, step, room, corpus):
-        store = os.path.join(room, "store")
-        if step == "read":
-            return None
-        words = self.words["restore" if step == "restore" else "dump"].split()
-        known = {"program": self.program, "store": store, "folder": corpus, "into": os.path.join(room, "back"), "kind": "full" if step == "full" else "incr"}
-        return ran([it.format(**known) for it in words], store)
+        store, host = os.path.join(room, "store"), ["--host", "pc1"]
+        if step == "full":
+            subprocess.run([self.program, "pipe", "--store", store], input=request("PUT /hosts/pc1"), stdout=subprocess.DEVNULL, check=True)
+        if step == "restore":
+            last = str(STEPS.index("restore") - 1)
+            return ran([self.program, "restore-folder", "--store", store, *host, "--number", last, os.path.join(room, "back")], store)
+        return ran([self.program, "dump-folder", "--store", store, *host, "--kind", "full" if step == "full" else "incr", corpus], store)
 
 
 # Others.
@@ -459,10 +460,10 @@ class Copy:
 
 
 def contenders(asked):
-    if asked.dump and asked.restore:
-        yield OfFolders(asked.program, asked.dump, asked.restore)
     if os.access(asked.program, os.X_OK):
-        yield OverPipe(asked.program)
+        yield OfFolders(asked.program)
+        if asked.pipe:
+            yield OverPipe(asked.program)
     else:
         print(f"left out: {asked.program} isn't there (make build)")
     for name, kind in (("restic", Restic), ("borg", Borg)):
@@ -566,8 +567,7 @@ def main():
     words.add_argument("--rounds", type=int, default=3)
     words.add_argument("--folder", help="where corpora and stores lie: the disk that is measured")
     words.add_argument("--corpus", choices=sorted(CORPORA), action="append", help="one of them alone")
-    words.add_argument("--dump", help="words of the program's own dump, as '{program} dump --store {store} --kind {kind} {folder}'")
-    words.add_argument("--restore", help="words of its own restore, as '{program} restore --store {store} {into}'")
+    words.add_argument("--pipe", action="store_true", help="drive the program over its command pipe, too")
     asked = words.parse_args()
     print(f"{platform.machine()}, {os.cpu_count()} processors, load {os.getloadavg()[0]:.1f}, Python {platform.python_version()}", flush=True)
     subprocess.run([sys.executable, os.path.join(TOP, "bench", "machine.py")], check=True)
