@@ -28,12 +28,12 @@ abbrev pub Drawn : Type 0
 Drawn = List Ask × ℕ
 
 -- a part behind others
-abbrev pub then : Drawn → (ℕ → Drawn) → Drawn
-then before part = (before.0 ++ (part before.1).0, (part before.1).1)
+abbrev pub followed_by : Drawn → (ℕ → Drawn) → Drawn
+followed_by before part = (before.0 ++ (part before.1).0, (part before.1).1)
 
 unfoldable pub each_drawn : (ℕ → ℕ → Drawn) → ℕ → ℕ → Drawn
 each_drawn part zero state = ([], state)
-each_drawn part (suc n) state = then (each_drawn part n state) (part n)
+each_drawn part (suc n) state = followed_by (each_drawn part n state) (part n)
 
 -- ---- a dump
 
@@ -76,7 +76,7 @@ unfoldable pub closing : ℕ → ℕ → List Ask
 closing day host = Q.Commit (moment_of day host + 60) ∷ Q.Expire host (moment_of day host + 120) ∷ []
 
 unfoldable pub dump : ℕ → ℕ → ℕ → Drawn
-dump day host state = (opening day host ++ (edits state).0 ++ closing day host, (edits state).1)
+dump day host state = (opening day host ++ ((edits state).0 ++ closing day host), (edits state).1)
 
 -- ---- the days
 
@@ -102,4 +102,4 @@ days number = each_drawn day_of 60 number
 -- four hosts, sixty days, the numbers of the pool, and the backups of each host
 unfoldable pub plan : ℕ → List Ask
 plan number =
-    each (λ host. Q.AddHost host ∷ []) 4 ++ (days number).0 ++ Q.Stats ∷ each (λ host. Q.Backups host ∷ []) 4
+    each (λ host. Q.AddHost host ∷ []) 4 ++ ((days number).0 ++ Q.Stats ∷ each (λ host. Q.Backups host ∷ []) 4)

@@ -7,7 +7,7 @@ use Rattle.demo_work.specs.declared.ends.DemoEnd.TheVariants.{Done, Occupied, Re
 
 unfoldable pub backup_lines : Summary → List ℕ
 backup_lines summary =
-    codes "demo " ++ decimal summary.number ++ codes "\nhosts 4\nbackups " ++ decimal summary.backups ++ codes " filled "
+    codes "demo " ++ decimal summary.number ++ codes "\nhosts 4\n" ++ codes "backups " ++ decimal summary.backups ++ codes " filled "
     ++ decimal summary.filled ++ codes "\n"
 
 unfoldable pub pool_lines : Summary → List ℕ

@@ -189,28 +189,32 @@ fn open_read(alloc: Global, host: u64, number: u32) -> Result<Event, AllocError>
 }
 
 /// The event of an ask, by the dump that was opened last; or want of memory.
-pub(crate) fn event_of(alloc: Global, dump: SessionName, ask: Ask) -> Result<Event, AllocError>
-    ensures { IfOk result (λ event. event ≡ event_of dump ask) }
+pub(crate) fn event_of(
+    alloc: Global,
+    dump: SessionName,
+    ask: &Ask,
+) -> Result<Event, AllocError>
+    ensures { IfOk result (λ event. event ≡ event_of dump ask.now) }
 {
     match ask {
-        Ask::AddHost { host } => add_host(alloc, host),
-        Ask::OpenDump { host, kind, now } => open_dump(alloc, host, kind, now),
-        Ask::PutDir { dir } => put_dir(alloc, dump, dir),
+        Ask::AddHost { host } => add_host(alloc, *host),
+        Ask::OpenDump { host, kind, now } => open_dump(alloc, *host, *kind, *now),
+        Ask::PutDir { dir } => put_dir(alloc, dump, *dir),
         Ask::PutFile {
             dir,
             file,
             value,
             times,
-        } => put_file(alloc, dump, dir, file, value, times),
-        Ask::Remove { dir, file } => remove(alloc, dump, dir, file),
-        Ask::Commit { now } => Ok(Event::Commit { dump, now }),
-        Ask::Expire { host, now } => expire(alloc, host, now),
-        Ask::Clean { bucket } => Ok(Event::Clean { bucket }),
+        } => put_file(alloc, dump, *dir, *file, *value, *times),
+        Ask::Remove { dir, file } => remove(alloc, dump, *dir, *file),
+        Ask::Commit { now } => Ok(Event::Commit { dump, now: *now }),
+        Ask::Expire { host, now } => expire(alloc, *host, *now),
+        Ask::Clean { bucket } => Ok(Event::Clean { bucket: *bucket }),
         Ask::Sweep => Ok(Event::Sweep),
         Ask::Stats => Ok(Event::Stats),
-        Ask::Backups { host } => backups(alloc, host),
-        Ask::OpenRead { host, number } => open_read(alloc, host, number),
-        Ask::ReadNext { restore } => Ok(Event::ReadNext { restore }),
-        Ask::CloseRead { restore } => Ok(Event::CloseRead { restore }),
+        Ask::Backups { host } => backups(alloc, *host),
+        Ask::OpenRead { host, number } => open_read(alloc, *host, *number),
+        Ask::ReadNext { restore } => Ok(Event::ReadNext { restore: *restore }),
+        Ask::CloseRead { restore } => Ok(Event::CloseRead { restore: *restore }),
     }
 }

@@ -65,17 +65,24 @@ fn push_next_read(
     Ok(())
 }
 
+/// Adds what the answer to an ask brings on, in its order.
+fn push_more(asks: &mut Vec<Ask>, ask: &Ask, answer: &Answer) -> Result<(), AllocError>
+    ensures { OnOk result (asks.new.items ≡ asks.old.items ++ more ask.now answer.now) }
+{
+    match ask {
+        Ask::Backups { host } => push_reads(asks, *host, lines_in(answer)),
+        Ask::OpenRead { .. } => push_first_read(asks, answer),
+        Ask::ReadNext { restore } => push_next_read(asks, *restore, answer),
+        _ => Ok(()),
+    }
+}
+
 /// What the answer to an ask brings on, in its order.
-pub(crate) fn more(alloc: Global, ask: Ask, answer: &Answer) -> Result<Vec<Ask>, AllocError>
-    ensures { IfOk result (λ asks. asks.items ≡ more ask answer.now) }
+pub(crate) fn more(alloc: Global, ask: &Ask, answer: &Answer) -> Result<Vec<Ask>, AllocError>
+    ensures { IfOk result (λ asks. asks.items ≡ more ask.now answer.now) }
 {
     let mut asks = Vec::new(alloc);
-    match ask {
-        Ask::Backups { host } => push_reads(&mut asks, host, lines_in(answer))?,
-        Ask::OpenRead { .. } => push_first_read(&mut asks, answer)?,
-        Ask::ReadNext { restore } => push_next_read(&mut asks, restore, answer)?,
-        _ => {}
-    }
+    push_more(&mut asks, ask, answer)?;
     Ok(asks)
 }
 

@@ -2,7 +2,7 @@
 
 ghost use Rattle.std.specs.Prelude.{◌≡◌, ◌+◌, ◌<◌, ◌≤◌, ◌++◌, ◌∷◌, [], ◌/◌, OnOk, IfOk};
 ghost use Rattle.demo_work.specs.declared.asks.Ask.TheVariants as Q;
-ghost use Rattle.demo_work.specs.Plan.{each, each_drawn, put, edit, edits, kind_of, moment_of, dirs, opening, closing, dump, clean, upkeep, day_of, days, plan};
+ghost use Rattle.demo_work.specs.Plan.{each, each_drawn, put, edit, edits, kind_of, moment_of, dirs, opening, closing, dump, clean, sweep, upkeep, day_of, days, plan};
 ghost use Rattle.demo_work.specs.Steps.{Planned};
 
 use crate::asks::Ask;
@@ -50,7 +50,6 @@ fn push_edit(asks: &mut Vec<Ask>, draws: &mut Draws) -> Result<(), AllocError>
 }
 
 /// Adds one to twenty edits.
-#[tactic(auto, unfolding(crate::specs::Plan::edits))]
 fn push_edits(asks: &mut Vec<Ask>, draws: &mut Draws) -> Result<(), AllocError>
     ensures { OnOk result (Planned asks.old.items asks.new.items draws.new.state (edits draws.old.state)) }
 {
@@ -126,7 +125,7 @@ fn push_closing(asks: &mut Vec<Ask>, day: u64, host: u64) -> Result<(), AllocErr
 }
 
 /// Adds a host's dump of a day, and the expiry behind it.
-#[tactic(auto, unfolding(crate::specs::Plan::dump))]
+#[tactic(auto, using(crate::proofs::PlanLaws::planned_dump))]
 fn push_dump(
     asks: &mut Vec<Ask>,
     draws: &mut Draws,
@@ -173,20 +172,28 @@ fn push_cleans(asks: &mut Vec<Ask>, day: u64) -> Result<(), AllocError>
     Ok(())
 }
 
-/// Adds the upkeep of the pool behind a day's dumps: cleanings, and once a week a sweep.
-#[tactic(auto, unfolding(crate::specs::Plan::upkeep, crate::specs::Plan::sweep))]
-fn push_upkeep(asks: &mut Vec<Ask>, day: u64) -> Result<(), AllocError>
-    ensures { OnOk result (asks.new.items ≡ asks.old.items ++ upkeep day) }
+/// Adds a sweep, once a week.
+#[tactic(auto, unfolding(crate::specs::Plan::sweep))]
+fn push_sweep(asks: &mut Vec<Ask>, day: u64) -> Result<(), AllocError>
+    ensures { OnOk result (asks.new.items ≡ asks.old.items ++ sweep day) }
 {
-    push_cleans(asks, day)?;
     if day % 7 == 6 {
         asks.push(Ask::Sweep)?;
     }
     Ok(())
 }
 
+/// Adds the upkeep of the pool behind a day's dumps: cleanings, and once a week a sweep.
+#[tactic(auto, using(crate::proofs::PlanLaws::upkeep_is))]
+fn push_upkeep(asks: &mut Vec<Ask>, day: u64) -> Result<(), AllocError>
+    ensures { OnOk result (asks.new.items ≡ asks.old.items ++ upkeep day) }
+{
+    push_cleans(asks, day)?;
+    push_sweep(asks, day)
+}
+
 /// Adds a day.
-#[tactic(auto, unfolding(crate::specs::Plan::day_of))]
+#[tactic(auto, using(crate::proofs::PlanLaws::planned_day))]
 fn push_day(asks: &mut Vec<Ask>, draws: &mut Draws, day: u64) -> Result<(), AllocError>
     requires { day < 60 }
     ensures { OnOk result (Planned asks.old.items asks.new.items draws.new.state (day_of day draws.old.state)) }
@@ -196,7 +203,6 @@ fn push_day(asks: &mut Vec<Ask>, draws: &mut Draws, day: u64) -> Result<(), Allo
 }
 
 /// Adds all days.
-#[tactic(auto, unfolding(crate::specs::Plan::days))]
 fn push_days(asks: &mut Vec<Ask>, number: u64) -> Result<(), AllocError>
     ensures { OnOk result (asks.new.items ≡ asks.old.items ++ (days number).0) }
 {
@@ -228,7 +234,6 @@ fn push_lists(asks: &mut Vec<Ask>) -> Result<(), AllocError>
 }
 
 /// The asks of a number, in their order.
-#[tactic(auto, unfolding(crate::specs::Plan::plan))]
 pub(crate) fn plan(alloc: Global, number: u64) -> Result<Vec<Ask>, AllocError>
     ensures { IfOk result (λ asks. asks.items ≡ plan number) }
 {

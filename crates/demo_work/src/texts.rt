@@ -39,7 +39,8 @@ fn push_backup_lines(text: &mut ShortText, summary: &Summary)
     ensures len { length text.new ≤ length text.old + 200 }
 {
     push_named(text, b"demo ", summary.number);
-    push_named(text, b"\nhosts 4\nbackups ", summary.backups);
+    text.push(b"\nhosts 4\n");
+    push_named(text, b"backups ", summary.backups);
     push_named(text, b" filled ", summary.filled);
     text.push(b"\n");
 }

@@ -51,8 +51,8 @@ fn begin(alloc: Global, number: u64) -> Result<Work, AllocError>
 
 impl Work {
     /// Takes the answer to an ask: what it tells, and what it brings on.
-    fn take(&mut self, alloc: Global, ask: Ask, answer: &Answer) -> Result<(), AllocError>
-        ensures { OnOk result (Taken ask (Ok answer.now) self.old self.new) }
+    fn take(&mut self, alloc: Global, ask: &Ask, answer: &Answer) -> Result<(), AllocError>
+        ensures { OnOk result (Taken ask.now (Ok answer.now) self.old self.new) }
     {
         self.tally.add(alloc, answer)?;
         self.dump = dump_in(self.dump, answer);
@@ -62,9 +62,9 @@ impl Work {
 }
 
 /// Calls an ask.
-fn turn<P: Port>(alloc: Global, port: &mut P, ask: Ask, work: &mut Work) -> Result<(), Stop>
-    ensures ok { OnOk result (Turned P.moves port.old port.new ask work.old work.new) }
-    ensures err { IfErr result (λ stop. TurnStops P.moves port.old port.new (event_of work.old.dump ask) stop) }
+fn turn<P: Port>(alloc: Global, port: &mut P, ask: &Ask, work: &mut Work) -> Result<(), Stop>
+    ensures ok { OnOk result (Turned P.moves port.old port.new ask.now work.old work.new) }
+    ensures err { IfErr result (λ stop. TurnStops P.moves port.old port.new (event_of work.old.dump ask.now) stop) }
 {
     let event = match event_of(alloc, work.dump, ask) {
         Ok(event) => event,
@@ -95,7 +95,7 @@ fn carry_out<P: Port>(alloc: Global, port: &mut P, work: Work) -> Result<Tally, 
             Some(ask) => ask,
             None => return Ok(work.tally),
         };
-        match turn(alloc, port, ask, &mut work) {
+        match turn(alloc, port, &ask, &mut work) {
             Ok(()) => {}
             Err(stop) => return Err(stop),
         }
