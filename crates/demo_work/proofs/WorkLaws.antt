@@ -1,6 +1,7 @@
 -- How the calls of a demo follow its script.
 use Rattle.std.specs.Prelude.{◌≡◌, ℕ, ◌-◌, ◌==◌, Bool, true, false, if◌then◌else◌, List, [], ◌∷◌, ◌++◌, length, take, reverse, Option, Some, None, Ok, Err, ◌⊎◌}
-use Rattle.std.proofs.Common.{refl, sym, ap, subst, ◌∙◌, inl, inr, append_assoc}
+use Rattle.std.proofs.Common.{refl, sym, ap, subst, ◌∙◌, inl, inr, append_assoc, arith}
+use Rattle.std.proofs.lemmas.Bool.{true≢false, eqb-true}
 use Rattle.std.proofs.lemmas.List.{append-nil, reverse-append, reverse-reverse}
 use Rattle.office_model.specs.declared.session.SessionName.{SessionName}
 use Rattle.office_model.specs.declared.event.Event.{Event}
@@ -15,6 +16,7 @@ use Rattle.call_scripts.specs.ScriptLaws.{follows_from}
 use Rattle.demo_work.specs.declared.asks.Ask.{Ask}
 use Rattle.demo_work.specs.declared.counts.Tally.{Tally}
 use Rattle.demo_work.specs.declared.ends.Summary.{Summary}
+use Rattle.demo_work.specs.declared.ends.DemoEnd.{DemoEnd}
 use Rattle.demo_work.specs.declared.ends.DemoEnd.TheVariants.{Done, Occupied, Refused, Memory}
 use Rattle.demo_work.specs.declared.work.Work.{Work}
 use Rattle.demo_work.specs.declared.work.Stop.{Stop}
@@ -24,7 +26,7 @@ use Rattle.demo_work.specs.Plan.{plan}
 use Rattle.demo_work.specs.Script.{next, no_dump, demo_script}
 use Rattle.demo_work.specs.Told.{Told, told_by, told_of, nothing_told, summary_of}
 use Rattle.demo_work.specs.Ends.{ArePassed, IsStopped, FollowsUpTo, BeginsPassed, FollowsPassed, Ends, Shows}
-use Rattle.demo_work.specs.Steps.{Keeps, Taken, Turned, TurnStops, script_of, SoFar, Finished, StopsSo, Stopped, IsBegun}
+use Rattle.demo_work.specs.Steps.{Keeps, Taken, Turned, TurnStops, script_of, SoFar, Finished, StopsSo, Stopped, IsBegun, end_of, Continues}
 
 -- ---- one call more
 
@@ -67,14 +69,14 @@ module _ {P : Type 0} (moves : P → List Call → P → Type 0)
   }
 
   -- an ask was taken from the top
-  pub record Top {old mid : P} {first work between : Work} (ask : Ask) (so_far : SoFar moves old mid first work) : Type 0 where
+  pub record Top {old mid : P} {first work : Work} (between : Work) (ask : Ask) (so_far : SoFar moves old mid first work) : Type 0 where
     pub left : (calls : List Call)
         → script_of first (so_far.calls ++ calls) ≡ next between.dump (ask ∷ reverse between.pending.items) calls
     pub asked : script_of first so_far.calls ≡ Some (event_of between.dump ask)
 
   top_of : (old mid : P) (first work between : Work) (ask : Ask) → between.dump ≡ work.dump
       → work.pending.items ≡ between.pending.items ++ ask ∷ [] → (so_far : SoFar moves old mid first work)
-      → Top {old} {mid} {first} {work} {between} ask so_far
+      → Top between ask so_far
   top_of old mid first work between ask dump_is items_are so_far =
       let left : (calls : List Call) → script_of first (so_far.calls ++ calls) ≡ next between.dump (ask ∷ reverse between.pending.items) calls =
       λ calls. so_far.left calls ∙ ap (λ asks. next work.dump asks calls) (ap reverse items_are ∙ reverse-snoc between.pending.items ask)
@@ -189,44 +191,28 @@ demo_follows : (number : ℕ) (work : Work) (calls : List Call) → IsBegun numb
 demo_follows number work calls begun follows =
     (refl, follows_behind (demo_script number) no_hosts [] calls (subst (λ script. Follows script calls) (script_is number work begun) follows))
 
-module _ {P : Type 0} (moves : P → List Call → P → Type 0)
-    (joined : (p q r : P) (xs ys : List Call) → moves p xs q → moves q ys r → moves p (xs ++ ys) r) where
-  pub shows_refused : (old new : P) (number : ℕ) (refusal : Refusal) → moves old ((E.Hosts, Err refusal) ∷ []) new
-      → Shows moves old new number (Refused refusal)
-  shows_refused old new number refusal moved = record {
-    calls = (E.Hosts, Err refusal) ∷ [];
-    moved = moved;
-    ends = record {
-      follows = (refl, refl);
-      stopped = record { before = []; event = E.Hosts; parts = refl; passed = tt; stops = refl };
-    };
+none_there : (hosts : List (List ℕ)) → (length hosts == 0) ≡ true → hosts ≡ []
+none_there [] empty = refl
+none_there (host ∷ hosts) empty = absurd (let n = eqb-true (length (host ∷ hosts)) 0 empty in omega (arith, n))
+
+module _ {P : Type 0} (moves : P → List Call → P → Type 0) where
+  -- there was nothing to remove
+  pub turned_refused : (old new : P) (ask : Ask) (work : Work) (event : Event) (refusal : Refusal) (passed : Bool)
+      → event ≡ event_of work.dump ask → moves old ((event, Err refusal) ∷ []) new → passed ≡ is_passed event (Err refusal)
+      → passed ≡ true → Turned moves old new ask work work
+  turned_refused old new ask work event refusal passed event_is moved passed_is goes = record {
+    reply = Err refusal;
+    moved = subst (λ e. moves old ((e, Err refusal) ∷ []) new) event_is moved;
+    passed = ap (λ e. is_passed e (Err refusal)) (sym event_is) ∙ sym passed_is ∙ goes;
+    taken = record { dump = refl; pending = sym (append-nil work.pending.items); tally = λ told keeps. keeps };
   }
 
-  pub shows_occupied : (old new : P) (number : ℕ) (hosts : List (List ℕ)) → (length hosts == 0) ≡ false
-      → moves old ((E.Hosts, Ok (A.Hosts hosts)) ∷ []) new → Shows moves old new number Occupied
-  shows_occupied old new number [] some moved = absurd (cc)
-  shows_occupied old new number (host ∷ hosts) some moved = record {
-    calls = (E.Hosts, Ok (A.Hosts (host ∷ hosts))) ∷ [];
-    moved = moved;
-    ends = (host, hosts, refl);
-  }
-
-  pub shows_unbegun : (old new : P) (number : ℕ) (hosts : List (List ℕ)) → (length hosts == 0) ≡ true
-      → moves old ((E.Hosts, Ok (A.Hosts hosts)) ∷ []) new → Shows moves old new number Memory
-  shows_unbegun old new number [] empty moved = record {
-    calls = no_hosts ∷ [];
-    moved = moved;
-    ends = record { begins = (refl, tt); passed = (refl, tt) };
-  }
-  shows_unbegun old new number (host ∷ hosts) empty moved = absurd (cc)
-
-  pub shows_done : (old mid new : P) (number : ℕ) (hosts : List (List ℕ)) (work : Work) (tally : Tally) (summary : Summary)
-      → (length hosts == 0) ≡ true → moves old ((E.Hosts, Ok (A.Hosts hosts)) ∷ []) mid → IsBegun number work
-      → Finished moves mid new work tally → ((told : Told) → Keeps told tally → summary ≡ summary_of number told)
-      → Shows moves old new number (Done summary)
-  shows_done old mid new number [] work tally summary empty moved begun finished summary_is = record {
-    calls = no_hosts ∷ finished.calls;
-    moved = joined old mid new (no_hosts ∷ []) finished.calls moved finished.moved;
+  pub continues_done : (old new : P) (number : ℕ) (work : Work) (tally : Tally) (summary : Summary) → IsBegun number work
+      → Finished moves old new work tally → ((told : Told) → Keeps told tally → summary ≡ summary_of number told)
+      → Continues moves old new number (Done summary)
+  continues_done old new number work tally summary begun finished summary_is = record {
+    calls = finished.calls;
+    moved = finished.moved;
     ends = (
       record {
         follows = demo_follows number work finished.calls begun finished.follows.follows;
@@ -235,14 +221,12 @@ module _ {P : Type 0} (moves : P → List Call → P → Type 0)
       summary_is (told_of nothing_told finished.calls) (finished.told nothing_told begun.tally),
     );
   }
-  shows_done old mid new number (host ∷ hosts) work tally summary empty moved begun finished summary_is = absurd (cc)
 
-  pub shows_stopped : (old mid new : P) (number : ℕ) (hosts : List (List ℕ)) (work : Work) (refusal : Refusal)
-      → (length hosts == 0) ≡ true → moves old ((E.Hosts, Ok (A.Hosts hosts)) ∷ []) mid → IsBegun number work
-      → Stopped moves mid new (script_of work) (S.Refused refusal) → Shows moves old new number (Refused refusal)
-  shows_stopped old mid new number [] work refusal empty moved begun stopped = record {
-    calls = no_hosts ∷ stopped.calls;
-    moved = joined old mid new (no_hosts ∷ []) stopped.calls moved stopped.moved;
+  pub continues_stopped : (old new : P) (number : ℕ) (work : Work) (stop : Stop) → IsBegun number work
+      → Stopped moves old new (script_of work) stop → Continues moves old new number (end_of stop)
+  continues_stopped old new number work (S.Refused refusal) begun stopped = record {
+    calls = stopped.calls;
+    moved = stopped.moved;
     ends = record {
       follows = demo_follows number work stopped.calls begun stopped.stops.follows;
       stopped = record {
@@ -254,17 +238,51 @@ module _ {P : Type 0} (moves : P → List Call → P → Type 0)
       };
     };
   }
-  shows_stopped old mid new number (host ∷ hosts) work refusal empty moved begun stopped = absurd (cc)
-
-  pub shows_memory : (old mid new : P) (number : ℕ) (hosts : List (List ℕ)) (work : Work)
-      → (length hosts == 0) ≡ true → moves old ((E.Hosts, Ok (A.Hosts hosts)) ∷ []) mid → IsBegun number work
-      → Stopped moves mid new (script_of work) S.Memory → Shows moves old new number Memory
-  shows_memory old mid new number [] work empty moved begun stopped = record {
-    calls = no_hosts ∷ stopped.calls;
-    moved = joined old mid new (no_hosts ∷ []) stopped.calls moved stopped.moved;
+  continues_stopped old new number work S.Memory begun stopped = record {
+    calls = stopped.calls;
+    moved = stopped.moved;
     ends = record {
       begins = (refl, subst (λ script. Begins script stopped.calls) (script_is number work begun) stopped.stops.begins);
       passed = (refl, stopped.stops.passed);
     };
   }
-  shows_memory old mid new number (host ∷ hosts) work empty moved begun stopped = absurd (cc)
+
+  pub continues_unbegun : (none : (p : P) → moves p [] p) (port : P) (number : ℕ) → Continues moves port port number Memory
+  continues_unbegun none port number = record {
+    calls = [];
+    moved = none port;
+    ends = record { begins = (refl, tt); passed = (refl, tt) };
+  }
+
+  pub shows_refused : (old new : P) (number : ℕ) (refusal : Refusal) → moves old ((E.Hosts, Err refusal) ∷ []) new
+      → Shows moves old new number (Refused refusal)
+  shows_refused old new number refusal moved = record {
+    calls = (E.Hosts, Err refusal) ∷ [];
+    moved = moved;
+    ends = record {
+      follows = (refl, refl);
+      stopped = record { before = []; event = E.Hosts; parts = refl; passed = tt; stops = refl };
+    };
+  }
+
+  pub shows_occupied : (old new : P) (number : ℕ) (listed hosts : List (List ℕ)) → listed ≡ hosts → (length listed == 0) ≡ false
+      → moves old ((E.Hosts, Ok (A.Hosts hosts)) ∷ []) new → Shows moves old new number Occupied
+  shows_occupied old new number listed [] same some moved =
+      absurd (true≢false (sym (ap (λ (l : List (List ℕ)). length l == 0) same) ∙ some))
+  shows_occupied old new number listed (host ∷ hosts) same some moved = record {
+    calls = (E.Hosts, Ok (A.Hosts (host ∷ hosts))) ∷ [];
+    moved = moved;
+    ends = (host, hosts, refl);
+  }
+
+  pub shows_behind : (joined : (p q r : P) (xs ys : List Call) → moves p xs q → moves q ys r → moves p (xs ++ ys) r)
+      (old mid new : P) (number : ℕ) (listed hosts : List (List ℕ)) (end : DemoEnd) → listed ≡ hosts → (length listed == 0) ≡ true
+      → moves old ((E.Hosts, Ok (A.Hosts hosts)) ∷ []) mid → Continues moves mid new number end → Shows moves old new number end
+  shows_behind joined old mid new number listed hosts end same empty moved continues =
+      let none : hosts ≡ [] = sym same ∙ none_there listed empty in
+      record {
+        calls = no_hosts ∷ continues.calls;
+        moved = joined old mid new (no_hosts ∷ []) continues.calls
+            (subst (λ (names : List (List ℕ)). moves old ((E.Hosts, Ok (A.Hosts names)) ∷ []) mid) none moved) continues.moved;
+        ends = continues.ends;
+      }

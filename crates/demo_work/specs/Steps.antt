@@ -2,11 +2,15 @@
 use Rattle.std.specs.Prelude.{◌≡◌, ℕ, true, false, List, [], ◌∷◌, ◌++◌, reverse, Ok, Err, ◌⊎◌}
 use Rattle.md5.specs.Md5.{Holds}
 use Rattle.office_model.specs.declared.event.Event.{Event}
+use Rattle.office_model.specs.declared.event.Event.TheVariants as E
+use Rattle.office_model.specs.declared.answer.Answer.TheVariants as A
 use Rattle.office_model.specs.Meaning.{Reply}
 use Rattle.office_model.specs.Step.{Call}
 use Rattle.call_scripts.specs.Scripts.{Script, Follows, Begins}
 use Rattle.demo_work.specs.declared.asks.Ask.{Ask}
 use Rattle.demo_work.specs.declared.counts.Tally.{Tally}
+use Rattle.demo_work.specs.declared.ends.DemoEnd.{DemoEnd}
+use Rattle.demo_work.specs.declared.ends.DemoEnd.TheVariants.{Refused, Memory}
 use Rattle.demo_work.specs.declared.work.Work.{Work}
 use Rattle.demo_work.specs.declared.work.Stop.{Stop}
 use Rattle.demo_work.specs.declared.work.Stop.TheVariants as S
@@ -14,7 +18,7 @@ use Rattle.demo_work.specs.Asks.{event_of, dump_after, more_by, is_passed}
 use Rattle.demo_work.specs.Plan.{Drawn, plan}
 use Rattle.demo_work.specs.Script.{next, no_dump}
 use Rattle.demo_work.specs.Told.{Told, told_by, told_of, nothing_told}
-use Rattle.demo_work.specs.Ends.{ArePassed, FollowsUpTo, FollowsPassed, BeginsPassed}
+use Rattle.demo_work.specs.Ends.{ArePassed, FollowsUpTo, FollowsPassed, BeginsPassed, Ends}
 
 -- a part was planned behind what was
 pub record Planned (before after : List Ask) (state : ℕ) (part : Drawn) : Type 0 where
@@ -83,3 +87,13 @@ pub record IsBegun (number : ℕ) (work : Work) : Type 0 where
   pub dump : work.dump ≡ no_dump
   pub pending : reverse work.pending.items ≡ plan number
   pub tally : Keeps nothing_told work.tally
+
+abbrev pub end_of : Stop → DemoEnd
+end_of (S.Refused refusal) = Refused refusal
+end_of S.Memory = Memory
+
+-- there are no hosts, and these are the calls of a demo behind that
+pub record Continues {P : Type 0} (moves : P → List Call → P → Type 0) (old new : P) (number : ℕ) (end : DemoEnd) : Type 0 where
+  pub calls : List Call
+  pub moved : moves old calls new
+  pub ends : Ends number end ((E.Hosts, Ok (A.Hosts [])) ∷ calls)

@@ -1,6 +1,5 @@
 -- What the answers told.
 use Rattle.std.specs.Prelude.{ℕ, ◌+◌, List, [], ◌∷◌, ◌++◌, length, count_by, Ok, Err}
-
 use Rattle.md5.specs.Md5.{md5}
 use Rattle.restore_stream.specs.Layouts.{magic, frame_bytes}
 use Rattle.office_model.specs.declared.answer.OfficeStats.{OfficeStats}

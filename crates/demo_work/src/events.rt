@@ -189,11 +189,7 @@ fn open_read(alloc: Global, host: u64, number: u32) -> Result<Event, AllocError>
 }
 
 /// The event of an ask, by the dump that was opened last; or want of memory.
-pub(crate) fn event_of(
-    alloc: Global,
-    dump: SessionName,
-    ask: &Ask,
-) -> Result<Event, AllocError>
+pub(crate) fn event_of(alloc: Global, dump: SessionName, ask: &Ask) -> Result<Event, AllocError>
     ensures { IfOk result (λ event. event ≡ event_of dump ask.now) }
 {
     match ask {

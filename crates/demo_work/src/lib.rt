@@ -27,11 +27,10 @@ mod ends;
 mod events;
 mod follow_ups;
 mod planning;
-mod texts;
-mod work;
-
 #[cfg(test)]
 mod tests;
+mod texts;
+mod work;
 
 pub use ends::{DemoEnd, Summary};
 pub use work::demo;

@@ -125,20 +125,15 @@ fn push_closing(asks: &mut Vec<Ask>, day: u64, host: u64) -> Result<(), AllocErr
 }
 
 /// Adds a host's dump of a day, and the expiry behind it.
-#[tactic(auto, using(crate::proofs::PlanLaws::planned_dump))]
-fn push_dump(
-    asks: &mut Vec<Ask>,
-    draws: &mut Draws,
-    day: u64,
-    host: u64,
-) -> Result<(), AllocError>
+fn push_dump(asks: &mut Vec<Ask>, draws: &mut Draws, day: u64, host: u64) -> Result<(), AllocError>
     requires day { day < 60 }
     requires host { host < 4 }
     ensures { OnOk result (Planned asks.old.items asks.new.items draws.new.state (dump day host draws.old.state)) }
 {
     push_opening(asks, day, host)?;
     push_edits(asks, draws)?;
-    push_closing(asks, day, host)
+    push_closing(asks, day, host)?;
+    Ok(())
 }
 
 /// Adds a dump of each host.
@@ -193,13 +188,13 @@ fn push_upkeep(asks: &mut Vec<Ask>, day: u64) -> Result<(), AllocError>
 }
 
 /// Adds a day.
-#[tactic(auto, using(crate::proofs::PlanLaws::planned_day))]
 fn push_day(asks: &mut Vec<Ask>, draws: &mut Draws, day: u64) -> Result<(), AllocError>
     requires { day < 60 }
     ensures { OnOk result (Planned asks.old.items asks.new.items draws.new.state (day_of day draws.old.state)) }
 {
     push_dumps(asks, draws, day)?;
-    push_upkeep(asks, day)
+    push_upkeep(asks, day)?;
+    Ok(())
 }
 
 /// Adds all days.

@@ -5,7 +5,7 @@ ghost use Rattle.office_model.specs.declared.event.Event.TheVariants as E;
 ghost use Rattle.office_model.specs.declared.answer.Answer.TheVariants as A;
 ghost use Rattle.demo_work.specs.Asks.{event_of};
 ghost use Rattle.demo_work.specs.Ends.{Shows};
-ghost use Rattle.demo_work.specs.Steps.{script_of, Taken, Turned, TurnStops, Finished, Stopped, IsBegun};
+ghost use Rattle.demo_work.specs.Steps.{script_of, Taken, Turned, TurnStops, Finished, Stopped, IsBegun, end_of, Continues};
 
 use crate::asks::Ask;
 use crate::counts::Tally;
@@ -115,6 +115,30 @@ fn hosts_of<P: Port>(alloc: Global, port: &mut P) -> Result<HostList, Refusal>
     }
 }
 
+/// How a demo ends that is stopped so.
+fn end_of(stop: Stop) -> DemoEnd
+    ensures { result ≡ end_of stop }
+{
+    match stop {
+        Stop::Refused(refusal) => DemoEnd::Refused(refusal),
+        Stop::Memory => DemoEnd::Memory,
+    }
+}
+
+/// Carries out the plan of a number over a port on which no host is.
+fn fresh_demo<P: Port>(alloc: Global, port: &mut P, number: u64) -> DemoEnd
+    ensures { Continues P.moves port.old port.new number result }
+{
+    let work = match begin(alloc, number) {
+        Ok(work) => work,
+        Err(AllocError) => return DemoEnd::Memory,
+    };
+    match carry_out(alloc, port, work) {
+        Ok(tally) => DemoEnd::Done(tally.summary(number)),
+        Err(stop) => end_of(stop),
+    }
+}
+
 /// Carries out the demo of a number over a port on which no host is; with one there, nothing is called but for the hosts' names, and
 /// the end is `Occupied`.
 ///
@@ -124,21 +148,12 @@ fn hosts_of<P: Port>(alloc: Global, port: &mut P) -> Result<HostList, Refusal>
 pub fn demo<P: Port>(alloc: Global, port: &mut P, number: u64) -> DemoEnd
     ensures { Shows P.moves port.old port.new number result }
 {
-    match hosts_of(alloc, port) {
-        Ok(hosts) => {
-            if !hosts.as_slice().is_empty() {
-                return DemoEnd::Occupied;
-            }
-        }
+    let hosts = match hosts_of(alloc, port) {
+        Ok(hosts) => hosts,
         Err(refusal) => return DemoEnd::Refused(refusal),
-    }
-    let work = match begin(alloc, number) {
-        Ok(work) => work,
-        Err(AllocError) => return DemoEnd::Memory,
     };
-    match carry_out(alloc, port, work) {
-        Ok(tally) => DemoEnd::Done(tally.summary(number)),
-        Err(Stop::Refused(refusal)) => DemoEnd::Refused(refusal),
-        Err(Stop::Memory) => DemoEnd::Memory,
+    if hosts.as_slice().is_empty() {
+        return fresh_demo(alloc, port, number);
     }
+    DemoEnd::Occupied
 }
