@@ -1,15 +1,12 @@
 -- How the calls of a demo follow its script.
-use Rattle.std.specs.Prelude.{◌≡◌, ℕ, ◌-◌, ◌==◌, Bool, true, false, if◌then◌else◌, List, [], ◌∷◌, ◌++◌, length, take, reverse, Option, Some, None, Ok, Err, ◌⊎◌}
+use Rattle.std.specs.Prelude.{◌≡◌, ℕ, ◌-◌, ◌==◌, Bool, true, false, if◌then◌else◌, List, [], ◌∷◌, ◌++◌, length, take, reverse, Option, Some, None, Ok, Err}
 use Rattle.std.proofs.Common.{refl, sym, ap, subst, ◌∙◌, inl, inr, append_assoc, arith}
 use Rattle.std.proofs.lemmas.Bool.{true≢false, eqb-true}
 use Rattle.std.proofs.lemmas.List.{append-nil, reverse-append, reverse-reverse}
-use Rattle.office_model.specs.declared.session.SessionName.{SessionName}
 use Rattle.office_model.specs.declared.event.Event.{Event}
 use Rattle.office_model.specs.declared.event.Event.TheVariants as E
-use Rattle.office_model.specs.declared.answer.Answer.{Answer}
 use Rattle.office_model.specs.declared.answer.Answer.TheVariants as A
 use Rattle.office_model.specs.declared.refusal.Refusal.{Refusal}
-use Rattle.office_model.specs.Meaning.{Reply}
 use Rattle.office_model.specs.Step.{Call}
 use Rattle.call_scripts.specs.Scripts.{Script, FollowsAfter, Follows, Begins, behind}
 use Rattle.call_scripts.specs.ScriptLaws.{follows_from}
@@ -22,11 +19,10 @@ use Rattle.demo_work.specs.declared.work.Work.{Work}
 use Rattle.demo_work.specs.declared.work.Stop.{Stop}
 use Rattle.demo_work.specs.declared.work.Stop.TheVariants as S
 use Rattle.demo_work.specs.Asks.{event_of, dump_after, more_by, is_passed}
-use Rattle.demo_work.specs.Plan.{plan}
 use Rattle.demo_work.specs.Script.{next, no_dump, demo_script}
 use Rattle.demo_work.specs.Told.{Told, told_by, told_of, nothing_told, summary_of}
-use Rattle.demo_work.specs.Ends.{ArePassed, IsStopped, FollowsUpTo, BeginsPassed, FollowsPassed, Ends, Shows}
-use Rattle.demo_work.specs.Steps.{Keeps, Taken, Turned, TurnStops, script_of, SoFar, Finished, StopsSo, Stopped, IsBegun, end_of, Continues}
+use Rattle.demo_work.specs.Ends.{ArePassed, Shows}
+use Rattle.demo_work.specs.Steps.{Keeps, Turned, TurnStops, script_of, SoFar, Finished, Stopped, IsBegun, end_of, Continues}
 
 -- ---- one call more
 

@@ -3,7 +3,6 @@ use Rattle.std.specs.Prelude.{ℕ, List, [], ◌∷◌, ◌++◌, Some, None, Ok
 use Rattle.office_model.specs.declared.session.SessionName.{SessionName}
 use Rattle.office_model.specs.declared.event.Event.TheVariants as E
 use Rattle.office_model.specs.declared.answer.Answer.TheVariants as A
-use Rattle.office_model.specs.Step.{Call}
 use Rattle.call_scripts.specs.Scripts.{Script}
 use Rattle.demo_work.specs.declared.asks.Ask.{Ask}
 use Rattle.demo_work.specs.Asks.{event_of, dump_after, more_by, is_passed}

@@ -6,7 +6,7 @@ use Rattle.office_model.specs.declared.event.Event.TheVariants as E
 use Rattle.office_model.specs.declared.answer.Answer.TheVariants as A
 use Rattle.office_model.specs.Meaning.{Reply}
 use Rattle.office_model.specs.Step.{Call}
-use Rattle.call_scripts.specs.Scripts.{Script, Follows, Begins}
+use Rattle.call_scripts.specs.Scripts.{Script, Begins}
 use Rattle.demo_work.specs.declared.asks.Ask.{Ask}
 use Rattle.demo_work.specs.declared.counts.Tally.{Tally}
 use Rattle.demo_work.specs.declared.ends.DemoEnd.{DemoEnd}
