@@ -30,6 +30,7 @@ pub enum DemoEnd {
     Occupied,
     /// The last call was refused. If a dump or a restore was open, it still is.
     Refused(Refusal),
-    /// There was no memory for what follows; a dump or a restore that was open still is.
+    /// There was no memory for what follows, or a value was out of its range; a dump or a restore that was open
+    /// still is.
     Memory,
 }
