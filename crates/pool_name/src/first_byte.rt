@@ -41,6 +41,10 @@ impl Namer for FirstByteNamer {
         }
     }
 
+    fn so_far(&self, state: &Option<u8>) -> [u8; 16] {
+        digest_from(*state)
+    }
+
     fn finish(&self, state: Option<u8>) -> [u8; 16] {
         digest_from(state)
     }

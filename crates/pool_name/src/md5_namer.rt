@@ -28,6 +28,13 @@ impl Namer for Md5Namer {
         state.update(piece);
     }
 
+    fn so_far(&self, state: &Md5) -> [u8; 16] {
+        match state.clone() {
+            Ok(state) => state.finalize(),
+            Err(_) => unreachable!(),
+        }
+    }
+
     fn finish(&self, state: Md5) -> [u8; 16] {
         state.finalize()
     }

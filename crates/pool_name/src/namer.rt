@@ -26,6 +26,10 @@ pub trait Namer: Copy {
     fn update(&self, state: &mut Self::State, piece: &[u8])
         ensures { (content : List ℕ) → holds state.old content → holds state.new (content ++ piece.now) };
 
+    /// The digest of all pieces so far, to which more may come.
+    fn so_far(&self, state: &Self::State) -> [u8; 16]
+        ensures { (content : List ℕ) → holds state.now content → result ≡ digest_of content };
+
     /// The digest of all pieces, one behind the other.
     fn finish(&self, state: Self::State) -> [u8; 16]
         ensures { (content : List ℕ) → holds state content → result ≡ digest_of content };
