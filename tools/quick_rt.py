@@ -1,7 +1,7 @@
 #!/usr/bin/env python3
-"""`rt`, with the sum of each library computed once: tools/quick_rt.py check --jobs 1, in a crate's folder, as `rt check --jobs 1`.
+"""`rt`, with the sum of each library and the list of those below it made once: tools/quick_rt.py check --jobs 1, in a crate's folder, as `rt check --jobs 1`.
 
-The kit's rt computes a library's sum along every path of crates.txt that leads to it, which takes minutes before each check of an upper crate.
+The kit's rt makes both along every path of crates.txt that leads to a library, which takes minutes before each check of an upper crate.
 Nothing else differs: what it proves and keeps is what rt proves and keeps. It holds to rattle-kit-13f; the gate is run by rt itself."""
 import importlib.machinery
 import importlib.util
@@ -18,14 +18,20 @@ def kit():
     rt = importlib.util.module_from_spec(importlib.util.spec_from_loader("rt", loader))
     sys.modules["rt"] = rt
     loader.exec_module(rt)
-    plain, sums = rt.rtlib.Crate.stamp, {}
+    Crate = rt.rtlib.Crate
+    stamp, below, sums, lists = Crate.stamp, Crate.below, {}, {}
 
-    def stamp(self):
+    def stamp_once(self):
         if self.folder not in sums:
-            sums[self.folder] = plain(self)
+            sums[self.folder] = stamp(self)
         return sums[self.folder]
 
-    rt.rtlib.Crate.stamp = stamp
+    def below_once(self):
+        if self.folder not in lists:
+            lists[self.folder] = below(self)
+        return list(lists[self.folder])
+
+    Crate.stamp, Crate.below = stamp_once, below_once
     return rt
 
 
