@@ -19,7 +19,7 @@ def kit():
     sys.modules["rt"] = rt
     loader.exec_module(rt)
     Crate = rt.rtlib.Crate
-    stamp, below, sums, lists = Crate.stamp, Crate.below, {}, {}
+    stamp, below, sums = Crate.stamp, Crate.below, {}
 
     def stamp_once(self):
         if self.folder not in sums:
@@ -27,9 +27,9 @@ def kit():
         return sums[self.folder]
 
     def below_once(self):
-        if self.folder not in lists:
-            lists[self.folder] = below(self)
-        return list(lists[self.folder])
+        if "found_below" not in self.__dict__:
+            self.found_below = below(self)
+        return list(self.found_below)
 
     Crate.stamp, Crate.below = stamp_once, below_once
     return rt
