@@ -9,15 +9,15 @@ use Rattle.disk_trait.specs.declared.ids.PoolId.{PoolId}
 use Rattle.disk_trait.specs.declared.ids.FileId.{FileId}
 use Rattle.disk_trait.specs.declared.ids.FileId.TheVariants.{Pool, Stage}
 use Rattle.disk_trait.specs.Names.{is_same_file, is_data}
-use Rattle.disk_trait.specs.Images.{also, only_wider}
-use Rattle.std.specs.Prelude.{Bool, not, Result}
+use Rattle.disk_trait.specs.Images.{also}
+use Rattle.std.specs.Prelude.{Bool, not}
 use Rattle.std.proofs.lemmas.Bool.{false≢true}
-use Rattle.intent_journal.specs.declared.fault.JournalFault.{JournalFault}
 use Rattle.intent_journal.specs.ChangesLaws.{either}
 use Rattle.intent_journal.specs.OverlayLaws.{start_image, also_other}
-use Rattle.intent_journal.specs.Calls.{Reads, Touches}
+use Rattle.intent_journal.specs.Calls.{Reads}
 use Rattle.pool_changes.specs.Slots.{Slots, is_live, unlisted, one_id}
 use Rattle.pool_store.specs.Pools.{IsCertain}
+use Rattle.pool_store.specs.Rewriting.{Rewrites}
 
 pub within_then : (a b c : FileSet) → IsWithin b a → IsWithin c b → IsWithin c a
 within_then a b c first second = record { each = λ asked out. second.each asked (first.each asked out) }
@@ -86,17 +86,22 @@ module _ {D : Type 0} {d : Ghosts D} where
       λ image may. comes_unlisted slots all (d.uncertain old.disk) image certain (start_image (d.files old.disk) (d.uncertain old.disk) all image told (old.settled ready) may) in
       leaves_only (leaves_wider reads.looks.any_moment here) (λ image left. here image (only_now old.disk image left))
 
-  pub images_touch : (old new : Journal D d) (slots : Slots) (all : Files) (id : PoolId) (after : Option Files) (result : Result (Unit {0}) JournalFault)
-      → old.halted ≡ false → Touches old (Pool id) after result new → d.files old.disk ≡ Some all → is_live (slots id) ≡ false → IsCertain slots (d.uncertain old.disk)
-      → LeavesOnly d.moment d.left_since old.disk new.disk (ComesTo all (unlisted slots))
-  images_touch old new slots all id after result ready touches told dead certain =
-      only_wider (touches.any_moment ready all told)
-      (λ image comes. comes_unlisted slots all (also (d.uncertain old.disk) (Pool id)) image (certain_also slots (d.uncertain old.disk) id dead certain) comes)
-
   pub certain_read : (old new : Journal D d) (slots : Slots) → Reads old new → IsCertain slots (d.uncertain old.disk) → IsCertain slots (d.uncertain new.disk)
   certain_read old new slots reads certain = certain_within slots (d.uncertain old.disk) (d.uncertain new.disk) reads.looks.certain certain
 
-  pub certain_touch : (old new : Journal D d) (slots : Slots) (id : PoolId) (after : Option Files) (result : Result (Unit {0}) JournalFault)
-      → Touches old (Pool id) after result new → is_live (slots id) ≡ false → IsCertain slots (d.uncertain old.disk) → IsCertain slots (d.uncertain new.disk)
-  certain_touch old new slots id after result touches dead certain =
-      certain_within slots (also (d.uncertain old.disk) (Pool id)) (d.uncertain new.disk) touches.certain (certain_also slots (d.uncertain old.disk) id dead certain)
+  -- a run of calls that changes the file of a name that isn't live
+  pub certain_rewritten : (old new : Journal D d) (slots : Slots) (id : PoolId) → Rewrites old (Pool id) new → is_live (slots id) ≡ false
+      → IsCertain slots (d.uncertain old.disk) → IsCertain slots (d.uncertain new.disk)
+  certain_rewritten old new slots id rewrites dead certain =
+      certain_within slots (also (d.uncertain old.disk) (Pool id)) (d.uncertain new.disk) rewrites.certain (certain_also slots (d.uncertain old.disk) id dead certain)
+
+  pub images_rewritten : (old new : Journal D d) (slots : Slots) (all : Files) (id : PoolId)
+      → ((disk : D) (image : Files) → d.left_since disk (d.moment disk) image → MayLeave (d.files disk) (d.uncertain disk) image)
+      → old.halted ≡ false → Rewrites old (Pool id) new → d.files old.disk ≡ Some all → is_live (slots id) ≡ false → IsCertain slots (d.uncertain old.disk)
+      → LeavesOnly d.moment d.left_since old.disk new.disk (ComesTo all (unlisted slots))
+  images_rewritten old new slots all id only_now ready rewrites told dead certain =
+      leaves_only
+      (leaves_wider (rewrites.any_moment ready all told)
+      (λ image comes. comes_unlisted slots all (also (d.uncertain old.disk) (Pool id)) image (certain_also slots (d.uncertain old.disk) id dead certain) comes))
+      (λ image left. comes_unlisted slots all (d.uncertain old.disk) image certain
+      (start_image (d.files old.disk) (d.uncertain old.disk) all image told (old.settled ready) (only_now old.disk image left)))

@@ -12,7 +12,8 @@ use Rattle.pool_changes.specs.Slots.{Slots, is_given, id_of}
 -- no live or staged file of the digest with a lesser extension holds the content
 abbrev pub AreOthers : Slots → List ℕ → Files → List ℕ → ℕ → Type 0
 AreOthers slots digest all content bound =
-    (extension : ℕ) → extension < bound → is_given (slots (id_of digest extension)) ≡ true → all (Pool (id_of digest extension)) ≡ Some content → ⊥
+    (extension : ℕ) → extension < bound → is_given (slots (id_of digest extension)) ≡ true
+    → all (Pool (id_of digest extension)) ≡ Some content → ⊥
 
 -- each lesser extension of the digest is used
 abbrev pub AreUsed : Slots → List ℕ → ℕ → Type 0
@@ -48,11 +49,18 @@ SaysDamaged digest_of told fault = (id : PoolId) (found : Option (List ℕ)) →
 -- what the files of a digest are to a content
 abbrev pub IsMet : Slots → List ℕ → Option Files → List ℕ → Met → Type 0
 IsMet slots digest told content (Same extension) =
-    (is_given (slots (id_of digest extension)) ≡ true) × ((all : Files) → told ≡ Some all → all (Pool (id_of digest extension)) ≡ Some content)
+    (is_given (slots (id_of digest extension)) ≡ true)
+    × ((all : Files) → told ≡ Some all → all (Pool (id_of digest extension)) ≡ Some content)
 IsMet slots digest told content (Free extension) =
     IsFree slots digest extension × ((all : Files) → told ≡ Some all → AreOthers slots digest all content 65536)
 IsMet slots digest told content Full =
     AreUsed slots digest 65536 × ((all : Files) → told ≡ Some all → AreOthers slots digest all content 65536)
+
+-- what the names of a digest are, whatever the content
+abbrev pub IsPlace : Slots → List ℕ → Met → Type 0
+IsPlace slots digest (Same extension) = is_given (slots (id_of digest extension)) ≡ true
+IsPlace slots digest (Free extension) = IsFree slots digest extension
+IsPlace slots digest Full = AreUsed slots digest 65536
 
 -- a damaged file is one of a live or staged name
 abbrev pub SaysGiven : Slots → PoolFault → Type 0

@@ -1,6 +1,6 @@
 -- What holds between a pool and the files, and that its calls keep it.
 use Rattle.std.specs.Prelude.{◌==◌}
-use Rattle.std.proofs.Common.{◌≡◌, ℕ, ◌<◌, true, false, List, [], ◌∷◌, length, Option, Some, None, inl, inr, refl, sym, ap, ◌∙◌, subst}
+use Rattle.std.proofs.Common.{◌≡◌, ℕ, ◌<◌, true, false, List, length, Option, Some, None, inl, inr, refl, sym, ap, ◌∙◌, subst}
 use Rattle.std.proofs.lemmas.Bool.{false≢true}
 use Rattle.disk_trait.specs.declared.ids.PoolId.{PoolId}
 use Rattle.disk_trait.specs.declared.ids.FileId.{FileId}
@@ -13,7 +13,7 @@ use Rattle.pool_changes.specs.declared.slot.Slot.{Slot}
 use Rattle.pool_changes.specs.declared.slot.Slot.TheVariants.{Live, Staged, Doomed}
 use Rattle.pool_index.specs.Items.{is_same_id}
 use Rattle.pool_index.specs.ItemLaws.{pool_id}
-use Rattle.pool_changes.specs.Slots.{Slots, is_live, is_given, size_of, claimed, let_go, one_id, with_slot, id_of}
+use Rattle.pool_changes.specs.Slots.{Slots, is_live, is_given, size_of, claimed, let_go, one_id, id_of}
 use Rattle.pool_changes.specs.Kept.{IsSet}
 use Rattle.pool_store.specs.Chains.{IsDamaged}
 use Rattle.pool_store.specs.Pools.{IsCertain, Adds, Takes}

@@ -54,11 +54,10 @@ pub record IsFull (digest : List ℕ) (slots : Slots) (told : Option Files) (con
   pub others : (all : Files) → told ≡ Some all → AreOthers slots digest all content 65536
 
 -- It got no name: nothing was done, or no live or staged file holds it and the least unused extension of its digest is doomed.
-pub record Misses (digest_of : List ℕ → List ℕ) (old new : Slots) (told told' : Option Files) (content : List ℕ) (fault : PoolFault) : Type 0 where
+pub record Misses (digest_of : List ℕ → List ℕ) (old new : Slots) (told told' : Option Files) (content : List ℕ)
+    (fault : PoolFault) : Type 0 where
   pub either : (IsSame old new × (told' ≡ told))
       ⊎ ((extension : ℕ) × (extension < 65536) × IsFree old (digest_of content) extension
       × ((all : Files) → told ≡ Some all → AreOthers old (digest_of content) all content 65536)
       × IsUnstaged old new told told' (id_of (digest_of content) extension))
   pub full : fault ≡ ChainFull → IsFull (digest_of content) old told content
-  -- nothing was done
-  pub memory : fault ≡ Memory → IsSame old new × (told' ≡ told)

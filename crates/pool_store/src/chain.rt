@@ -9,9 +9,11 @@ ghost use Rattle.disk_trait.specs.Files.{Files};
 ghost use Rattle.intent_journal.specs.Calls.{Reads};
 ghost use Rattle.pool_changes.specs.Kept.{slots_of};
 ghost use Rattle.pool_changes.specs.Slots.{id_of};
-ghost use Rattle.pool_store.specs.Chains.{IsMet, freed};
+ghost use Rattle.pool_store.specs.Chains.{IsPlace, IsMet, freed};
+ghost use Rattle.pool_store.specs.Sources.{IsSource, SaysLost, OfPiece};
 
 use crate::fault::PoolFault;
+use crate::source::{Source, is_same};
 use disk_trait::{Bytes, Disk, FileId, PoolId};
 use intent_journal::{Journal, JournalFault};
 use pool_changes::{Names, Slot};
@@ -69,28 +71,31 @@ pub(crate) fn read_file<D: Disk>(
     }
 }
 
-/// Whether a name is live or staged and its file holds exactly this content. No digest is made: a file that is absent, or
-/// damaged, holds another one.
+/// Whether a name is live or staged and its file holds exactly what the source does. No digest is made: a file that is
+/// absent, or damaged, holds something else.
 pub(crate) fn holds<D: Disk>(
     alloc: Global,
     journal: &mut Journal<D>,
     names: &Names,
     id: PoolId,
-    content: &[u8],
+    content: &Source,
 ) -> Result<bool, PoolFault>
     requires { journal.old.halted ≡ false }
-    ensures same { IfOk result (λ same. same ≡ true → (is_given (slots_of names.now id) ≡ true) × ((all : Files) → D.files journal.old.disk ≡ Some all → all (PoolFile id) ≡ Some content.now)) }
-    ensures other { IfOk result (λ same. same ≡ false → is_given (slots_of names.now id) ≡ true → (all : Files) → D.files journal.old.disk ≡ Some all → all (PoolFile id) ≡ Some content.now → ⊥) }
-    ensures fault { IfErr result (λ fault. (fault ≡ PoolFault.Disk) ⊎ (fault ≡ PoolFault.Memory)) }
+    ensures given { IfOk result (λ same. same ≡ true → is_given (slots_of names.now id) ≡ true) }
+    ensures same { IfOk result (λ same. same ≡ true → (all : Files) (bytes : List ℕ) → D.files journal.old.disk ≡ Some all
+        → IsSource content.now (D.files journal.old.disk) bytes → all (PoolFile id) ≡ Some bytes) }
+    ensures other { IfOk result (λ same. same ≡ false → is_given (slots_of names.now id) ≡ true → (all : Files) (bytes : List ℕ)
+        → D.files journal.old.disk ≡ Some all → IsSource content.now (D.files journal.old.disk) bytes → all (PoolFile id) ≡ Some bytes → ⊥) }
+    ensures lost { IfErr result (SaysLost content.now (D.files journal.old.disk)) }
+    ensures fault { IfErr result OfPiece }
     ensures reads { Reads journal.old journal.new }
     ensures counted { Counted (D.fault_count journal.old.disk) (D.fault_count journal.new.disk) (IsErrOf result PoolFault.Disk) }
 {
     if !is_given(names, id) {
         return Ok(false);
     }
-    match read_file(alloc, journal, FileId::Pool(id)) {
-        Ok(Some(found)) => Ok(found.as_slice() == content),
-        Ok(None) => Ok(false),
+    match is_same(alloc, journal, content, FileId::Pool(id)) {
+        Ok(same) => Ok(same),
         Err(fault) => Err(fault),
     }
 }
@@ -118,11 +123,14 @@ pub(crate) fn meet<D: Disk>(
     journal: &mut Journal<D>,
     names: &Names,
     digest: [u8; 16],
-    content: &[u8],
+    content: &Source,
 ) -> Result<Met, PoolFault>
     requires { journal.old.halted ≡ false }
-    ensures met { IfOk result (IsMet (slots_of names.now) digest (D.files journal.old.disk) content.now) }
-    ensures fault { IfErr result (λ fault. (fault ≡ PoolFault.Disk) ⊎ (fault ≡ PoolFault.Memory)) }
+    ensures place { IfOk result (IsPlace (slots_of names.now) digest) }
+    ensures met { IfOk result (λ met. (bytes : List ℕ) → IsSource content.now (D.files journal.old.disk) bytes
+        → IsMet (slots_of names.now) digest (D.files journal.old.disk) bytes met) }
+    ensures lost { IfErr result (SaysLost content.now (D.files journal.old.disk)) }
+    ensures fault { IfErr result OfPiece }
     ensures reads { Reads journal.old journal.new }
     ensures counted { Counted (D.fault_count journal.old.disk) (D.fault_count journal.new.disk) (IsErrOf result PoolFault.Disk) }
 {

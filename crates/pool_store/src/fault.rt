@@ -11,7 +11,8 @@ use std::fmt;
 #[derive(Debug, Drop)]
 pub enum PoolFault {
     /// A file of the index is outside its layout, the one file of older stores stands beside that of a byte, or a
-    /// content that the index lists has no file: the file, and what was found of it. At an opening alone.
+    /// content that the index lists has no file: the file, and what was found of it. At an opening alone. So is the file
+    /// of a stage that isn't as long as what was put into it.
     Foreign { file: FileId, found: Option<Bytes> },
     /// The disk failed; its count of faults rose.
     Disk,

@@ -3,7 +3,8 @@
 //!
 //! Its main clause: an id has exactly its bytes, whatever namer gives digests. A content that a live or staged file holds
 //! gets that file's name, and another one the least unused extension of its digest; equal digests are never trusted, and a
-//! file that is damaged is passed over. A name is *live* where the index lists it, *staged* from the write of its file to
+//! file that is damaged is passed over. A content comes from memory, or from the file of a stage, of which at most a piece is
+//! in memory. A name is *live* where the index lists it, *staged* from the write of its file to
 //! the commit that lists it, and *doomed* until a sweep takes its file away. A claim holds a staged name, and keeps a live
 //! one from being removed.
 //!
@@ -30,6 +31,7 @@ mod chain;
 mod fault;
 mod opening;
 mod pool;
+mod source;
 mod stage;
 mod sweep;
 

@@ -13,6 +13,7 @@ ghost use Rattle.pool_changes.specs.Slots.{is_live, is_staged, is_given, claims_
 ghost use Rattle.pool_store.specs.Chains.{SaysDamaged, SaysGiven};
 ghost use Rattle.pool_store.specs.Chains.{OfReading};
 ghost use Rattle.pool_changes.specs.Listed.{index_of, IsBucketOf, IsStatsOf};
+ghost use Rattle.pool_store.specs.Sources.{length_of, is_in_memory, IsStaged, IsSource, SaysLost, SaysStageLost};
 ghost use Rattle.pool_store.specs.Opened.{Opens};
 ghost use Rattle.pool_store.specs.Opening.{OfOpening, SaysForeign, AreFresh};
 ghost use Rattle.pool_store.specs.Complete.{NeverForeign};
@@ -24,6 +25,7 @@ ghost use Rattle.pool_changes.specs.Named.{NoneDoomed};
 use crate::chain::{Met, holds, is_given, read_file};
 use crate::fault::PoolFault;
 use crate::opening::{doomed_names, list_index};
+use crate::source::Source;
 use crate::stage::{find_place, stage_new};
 use crate::sweep::sweep_names;
 use disk_trait::{Bytes, Disk, FileId, PoolId};
@@ -190,8 +192,8 @@ impl<N: Namer> Pool<N> {
         }
     }
 
-    /// Whether a name is live or staged and its file holds exactly this content. The two are compared, and no digest is
-    /// made: a file that is absent or damaged holds another content.
+    /// Whether a name is live or staged and its file holds exactly this content. The two are compared, piece by piece, and no
+    /// digest is made: a file that is absent or damaged holds another content.
     pub fn holds<D: Disk>(
         &self,
         alloc: Global,
@@ -208,24 +210,30 @@ impl<N: Namer> Pool<N> {
         ensures reads { Reads journal.old journal.new }
         ensures counted { Counted (D.fault_count journal.old.disk) (D.fault_count journal.new.disk) (IsErrOf result PoolFault.Disk) }
     {
-        holds(alloc, journal, &self.names, id, content)
+        match holds(alloc, journal, &self.names, id, &Source::Bytes(content)) {
+            Ok(same) => Ok(same),
+            Err(fault) => Err(fault),
+        }
     }
 
-    /// Claims the content's name, which is that of the live or staged file that holds it, or else a new one, with the
-    /// least unused extension, whose file is staged. A file that holds anything else is passed over, damaged or not.
-    pub fn match_or_stage<D: Disk>(
+    /// Claims the name of what a source holds: that of the live or staged file that holds it, or else a new one, with the
+    /// least unused extension, whose file is staged. Its digest is given.
+    fn take_in<D: Disk>(
         &mut self,
         alloc: Global,
         journal: &mut Journal<D>,
-        content: &[u8],
+        content: &Source,
+        digest: [u8; 16],
     ) -> Result<PoolId, PoolFault>
-        requires some { 0 < length content.now }
+        requires some { 0 < length_of content.now }
         requires ready { journal.old.halted ≡ false }
-        ensures takes { IfOk result (λ id. Takes N.digest_of (slots_of self.old.names) (slots_of self.new.names) (D.files journal.old.disk) (D.files journal.new.disk) id content.now) }
-        ensures misses { IfErr result (λ fault. Misses N.digest_of (slots_of self.old.names) (slots_of self.new.names) (D.files journal.old.disk) (D.files journal.new.disk) content.now fault) }
-        ensures damaged { IfErr result (SaysDamaged N.digest_of (D.files journal.old.disk)) }
-        ensures given { IfErr result (SaysGiven (slots_of self.old.names)) }
-        ensures kind { IfErr result IsNotForeign }
+        ensures takes { IfOk result (λ id. (bytes : List ℕ) → IsSource content.now (D.files journal.old.disk) bytes → digest ≡ N.digest_of bytes
+            → Takes N.digest_of (slots_of self.old.names) (slots_of self.new.names) (D.files journal.old.disk) (D.files journal.new.disk) id bytes) }
+        ensures misses { IfErr result (λ fault. (bytes : List ℕ) → IsSource content.now (D.files journal.old.disk) bytes → digest ≡ N.digest_of bytes
+            → Misses N.digest_of (slots_of self.old.names) (slots_of self.new.names) (D.files journal.old.disk) (D.files journal.new.disk) bytes fault) }
+        ensures memory { IsErrOf result PoolFault.Memory → is_in_memory content.now ≡ true
+            → IsSame (slots_of self.old.names) (slots_of self.new.names) × (D.files journal.new.disk ≡ D.files journal.old.disk) }
+        ensures lost { IfErr result (SaysLost content.now (D.files journal.old.disk)) }
         ensures undamaged { IfErr result (λ fault. (other : PoolId) (found : Option (List ℕ)) → fault ≡ PoolFault.Damaged other found → ⊥) }
         ensures certain { IsCertain (slots_of self.old.names) (D.uncertain journal.old.disk) → IsCertain (slots_of self.old.names) (D.uncertain journal.new.disk) }
         ensures any_moment { (all : Files) → D.files journal.old.disk ≡ Some all → IsCertain (slots_of self.old.names) (D.uncertain journal.old.disk)
@@ -238,7 +246,6 @@ impl<N: Namer> Pool<N> {
         if self.made >= u64::MAX - self.spare {
             return Err(PoolFault::Memory);
         }
-        let digest = self.namer.name(content);
         let extension = match find_place(alloc, journal, &self.names, digest, content) {
             Ok(Met::Same(extension)) => {
                 let id = PoolId { digest, extension };
@@ -257,11 +264,82 @@ impl<N: Namer> Pool<N> {
         };
         let id = PoolId { digest, extension };
         self.made += 1;
-        match stage_new(&mut self.names, journal, id, content) {
+        match stage_new(alloc, &mut self.names, journal, id, content) {
             Ok(()) => {}
             Err(fault) => return Err(fault),
         }
         Ok(id)
+    }
+
+    /// Claims the content's name, which is that of the live or staged file that holds it, or else a new one, with the
+    /// least unused extension, whose file is staged. A file that holds anything else is passed over, damaged or not.
+    pub fn match_or_stage<D: Disk>(
+        &mut self,
+        alloc: Global,
+        journal: &mut Journal<D>,
+        content: &[u8],
+    ) -> Result<PoolId, PoolFault>
+        requires some { 0 < length content.now }
+        requires ready { journal.old.halted ≡ false }
+        ensures takes { IfOk result (λ id. Takes N.digest_of (slots_of self.old.names) (slots_of self.new.names) (D.files journal.old.disk) (D.files journal.new.disk) id content.now) }
+        ensures misses { IfErr result (λ fault. Misses N.digest_of (slots_of self.old.names) (slots_of self.new.names) (D.files journal.old.disk) (D.files journal.new.disk) content.now fault) }
+        ensures memory { IsErrOf result PoolFault.Memory
+            → IsSame (slots_of self.old.names) (slots_of self.new.names) × (D.files journal.new.disk ≡ D.files journal.old.disk) }
+        ensures damaged { IfErr result (SaysDamaged N.digest_of (D.files journal.old.disk)) }
+        ensures given { IfErr result (SaysGiven (slots_of self.old.names)) }
+        ensures kind { IfErr result IsNotForeign }
+        ensures undamaged { IfErr result (λ fault. (other : PoolId) (found : Option (List ℕ)) → fault ≡ PoolFault.Damaged other found → ⊥) }
+        ensures certain { IsCertain (slots_of self.old.names) (D.uncertain journal.old.disk) → IsCertain (slots_of self.old.names) (D.uncertain journal.new.disk) }
+        ensures any_moment { (all : Files) → D.files journal.old.disk ≡ Some all → IsCertain (slots_of self.old.names) (D.uncertain journal.old.disk)
+            → LeavesOnly D.moment D.left_since journal.old.disk journal.new.disk (ComesTo all (unlisted (slots_of self.old.names))) }
+        ensures spare { self.new.spare ≡ self.old.spare }
+        ensures form { self.new.in_one_file ≡ self.old.in_one_file }
+        ensures stays { journal.new.halted ≡ journal.old.halted }
+        ensures counted { Counted (D.fault_count journal.old.disk) (D.fault_count journal.new.disk) (IsErrOf result PoolFault.Disk) }
+    {
+        let digest = self.namer.name(content);
+        match self.take_in(alloc, journal, &Source::Bytes(content), digest) {
+            Ok(id) => Ok(id),
+            Err(fault) => Err(fault),
+        }
+    }
+
+    /// Claims the name of the content that the file of a stage holds, as `match_or_stage` does. The content is compared and
+    /// copied piece by piece, so it may be larger than the memory. Its size and its digest are those of all that was put into
+    /// the stage, which has some bytes: a file that isn't as long is `Foreign`. After a fault the new name may have a part of
+    /// the content, and is doomed.
+    pub fn match_or_stage_file<D: Disk>(
+        &mut self,
+        alloc: Global,
+        journal: &mut Journal<D>,
+        stage: u64,
+        size: u64,
+        digest: [u8; 16],
+    ) -> Result<PoolId, PoolFault>
+        requires some { 0 < size }
+        requires ready { journal.old.halted ≡ false }
+        ensures takes { IfOk result (λ id. (content : List ℕ) → IsStaged (D.files journal.old.disk) stage size content → digest ≡ N.digest_of content
+            → Takes N.digest_of (slots_of self.old.names) (slots_of self.new.names) (D.files journal.old.disk) (D.files journal.new.disk) id content) }
+        ensures misses { IfErr result (λ fault. (content : List ℕ) → IsStaged (D.files journal.old.disk) stage size content → digest ≡ N.digest_of content
+            → Misses N.digest_of (slots_of self.old.names) (slots_of self.new.names) (D.files journal.old.disk) (D.files journal.new.disk) content fault) }
+        ensures lost { IfErr result (SaysStageLost stage size (D.files journal.old.disk)) }
+        ensures undamaged { IfErr result (λ fault. (other : PoolId) (found : Option (List ℕ)) → fault ≡ PoolFault.Damaged other found → ⊥) }
+        ensures certain { IsCertain (slots_of self.old.names) (D.uncertain journal.old.disk) → IsCertain (slots_of self.old.names) (D.uncertain journal.new.disk) }
+        ensures any_moment { (all : Files) → D.files journal.old.disk ≡ Some all → IsCertain (slots_of self.old.names) (D.uncertain journal.old.disk)
+            → LeavesOnly D.moment D.left_since journal.old.disk journal.new.disk (ComesTo all (unlisted (slots_of self.old.names))) }
+        ensures spare { self.new.spare ≡ self.old.spare }
+        ensures form { self.new.in_one_file ≡ self.old.in_one_file }
+        ensures stays { journal.new.halted ≡ journal.old.halted }
+        ensures counted { Counted (D.fault_count journal.old.disk) (D.fault_count journal.new.disk) (IsErrOf result PoolFault.Disk) }
+    {
+        let content = Source::Stage {
+            number: stage,
+            size,
+        };
+        match self.take_in(alloc, journal, &content, digest) {
+            Ok(id) => Ok(id),
+            Err(fault) => Err(fault),
+        }
     }
 
     /// Removes the doomed files, one by one.
