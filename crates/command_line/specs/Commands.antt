@@ -36,6 +36,10 @@ flag_rule name = record (new_rule name) { long = Some name; action = Some SetTru
 abbrev pub word_rule : List ℕ → Rule
 word_rule name = record (new_rule name) { required = true }
 
+-- a word without an option, a number below 2 ^ 64, which has to be there
+abbrev pub number_word_rule : List ℕ → Rule
+number_word_rule name = record (new_rule name) { required = true; parser = Some (parser.Unsigned 0 18446744073709551615) }
+
 -- what each subcommand begins with: `--store DIR [--settings FILE]`
 abbrev pub common_app : List ℕ → App
 common_app name = with_rule (with_rule (new_app name) (required_rule (codes "store"))) (option_rule (codes "settings"))
@@ -67,6 +71,10 @@ abbrev pub restore_folder_app : App
 restore_folder_app =
     with_rule (with_rule (host_app (codes "restore-folder")) (required_number_rule (codes "number"))) (word_rule (codes "folder"))
 
+-- `demo NUMBER`
+abbrev pub demo_app : App
+demo_app = with_rule (common_app (codes "demo")) (number_word_rule (codes "number"))
+
 -- the program's name, with help turned off and a subcommand wanted
 abbrev pub top_app : App
 top_app = record {
@@ -86,6 +94,10 @@ links_app = with_subcommand (with_subcommand top_app pipe_app.top) serve_app.top
 abbrev pub served_app : App
 served_app = with_subcommand links_app night_app.top
 
+-- with those of a folder, too
+abbrev pub folders_app : App
+folders_app = with_subcommand (with_subcommand served_app dump_folder_app.top) restore_folder_app.top
+
 -- the whole command
 abbrev pub program_app : App
-program_app = with_subcommand (with_subcommand served_app dump_folder_app.top) restore_folder_app.top
+program_app = with_subcommand folders_app demo_app.top

@@ -23,13 +23,15 @@ use Rattle.command_line.specs.declared.line.Work.{Work}
 use Rattle.command_line.specs.declared.line.Work.TheVariants as work
 
 -- what a line asks for; of Serve, the address and the number of links, of Night, whether only where the schedule says so, of
--- DumpFolder, the host, the backup's kind and the folder, and of RestoreFolder, the host, the backup's number and the folder
+-- DumpFolder, the host, the backup's kind and the folder, of RestoreFolder, the host, the backup's number and the folder, and of Demo,
+-- the number that it is drawn from
 pub data Task : Type 0 where
   Pipe : Task
   Serve : List ℕ → Option ℕ → Task
   Night : Bool → Task
   DumpFolder : List ℕ → Kind → List ℕ → Task
   RestoreFolder : List ℕ → ℕ → List ℕ → Task
+  Demo : ℕ → Task
 
 -- a line: the store's folder, the settings' file and what it asks for
 pub record Line : Type 0 where
@@ -41,25 +43,24 @@ pub record Line : Type 0 where
 abbrev pub flag_of : List ℕ → List Row → Bool
 flag_of id rows = option_map_or (λ text. bytes_eq text (codes "true")) (first_of id rows) false
 
--- one decimal digit or more, and what they write is below 2 ^ 32
-abbrev pub is_number : List ℕ → Bool
-is_number digits =
-    nat_lt 0 (length digits)
-    && (list_all (λ byte. nat_lt (digit_value byte) 10) digits && nat_lt (digits_value 10 digits) (2 ^ 32))
+-- one decimal digit or more, and what they write is below a limit
+abbrev pub is_number : (limit : ℕ) → List ℕ → Bool
+is_number limit digits =
+    nat_lt 0 (length digits) && (list_all (λ byte. nat_lt (digit_value byte) 10) digits && nat_lt (digits_value 10 digits) limit)
 
--- the number below 2 ^ 32 that a text writes, where a plus may stand first
-unfoldable pub number_of : List ℕ → Option ℕ
-number_of text =
-    let digits = without_leading_plus text in if is_number digits then Some (digits_value 10 digits) else None
+-- the number below a limit that a text writes, where a plus may stand first
+unfoldable pub number_of : (limit : ℕ) → List ℕ → Option ℕ
+number_of limit text =
+    let digits = without_leading_plus text in if is_number limit digits then Some (digits_value 10 digits) else None
 
--- the number of an option, Some None where that was left out
+-- the number below 2 ^ 32 of an option, Some None where that was left out
 abbrev pub number_in : List ℕ → List Row → Option (Option ℕ)
 number_in id rows =
-    option_map_or (λ text. option_map (λ number. Some number) (number_of text)) (first_of id rows) (Some None)
+    option_map_or (λ text. option_map (λ number. Some number) (number_of (2 ^ 32) text)) (first_of id rows) (Some None)
 
--- the number of an option that has to be there
-abbrev pub needed_number_in : List ℕ → List Row → Option ℕ
-needed_number_in id rows = option_and_then number_of (first_of id rows)
+-- the number below a limit of an option or a word that has to be there
+abbrev pub needed_number_in : (limit : ℕ) → List ℕ → List Row → Option ℕ
+needed_number_in limit id rows = option_and_then (number_of limit) (first_of id rows)
 
 -- the host that a text names
 abbrev pub host_of : List ℕ → Option (List ℕ)
@@ -93,7 +94,11 @@ dump_folder_in rows = option_and_then (λ host. option_and_then (λ kind. option
 abbrev pub restore_folder_in : List Row → Option Task
 restore_folder_in rows =
     option_and_then (λ host. option_and_then (λ number. option_map (λ folder. RestoreFolder host number folder)
-    (first_of (codes "folder") rows)) (needed_number_in (codes "number") rows)) (host_in rows)
+    (first_of (codes "folder") rows)) (needed_number_in (2 ^ 32) (codes "number") rows)) (host_in rows)
+
+-- what `demo` asks for with these matches
+abbrev pub demo_in : List Row → Option Task
+demo_in rows = option_map (λ number. Demo number) (needed_number_in (2 ^ 64) (codes "number") rows)
 
 -- what the subcommand of this name asks for with these matches
 abbrev pub task_in : List ℕ → List Row → Option Task
@@ -102,7 +107,8 @@ task_in name rows =
     else (if bytes_eq name (codes "serve") then serve_in rows
     else (if bytes_eq name (codes "night") then Some (Night (flag_of (codes "scheduled") rows))
     else (if bytes_eq name (codes "dump-folder") then dump_folder_in rows
-    else (if bytes_eq name (codes "restore-folder") then restore_folder_in rows else None))))
+    else (if bytes_eq name (codes "restore-folder") then restore_folder_in rows
+    else (if bytes_eq name (codes "demo") then demo_in rows else None)))))
 
 -- the line of a subcommand with its matches
 abbrev pub line_in : List ℕ × List Row → Option Line
@@ -124,7 +130,8 @@ usage =
     ++ (codes "       backup_server serve --listen ADDR [--connections N] --store DIR [--settings FILE]\n"
     ++ (codes "       backup_server night [--scheduled] --store DIR [--settings FILE]\n"
     ++ (codes "       backup_server dump-folder --host H --kind full|incr --store DIR [--settings FILE] FOLDER\n"
-    ++ codes "       backup_server restore-folder --host H --number N --store DIR [--settings FILE] FOLDER")))
+    ++ (codes "       backup_server restore-folder --host H --number N --store DIR [--settings FILE] FOLDER\n"
+    ++ codes "       backup_server demo --store DIR [--settings FILE] NUMBER"))))
 
 -- the matches of a subcommand
 abbrev pub rows_in : ArgMatches → List Row
@@ -137,6 +144,7 @@ task_of (work.Serve listen connections) = Serve (string_bytes listen) connection
 task_of (work.Night scheduled) = Night scheduled
 task_of (work.DumpFolder host kind folder) = DumpFolder host kind (string_bytes folder)
 task_of (work.RestoreFolder host number folder) = RestoreFolder host number (string_bytes folder)
+task_of (work.Demo number) = Demo number
 
 abbrev pub meaning : CommandLine → Line
 meaning line = record {

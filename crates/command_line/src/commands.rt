@@ -1,7 +1,7 @@
 //! The command as clap takes it.
 ghost use Rattle.std.specs.Prelude.{◌≡◌, false, IfOk};
 ghost use Rattle.clap.specs.Walk.{rule_of};
-ghost use Rattle.command_line.specs.Commands.{IsCommandOf, option_rule, required_rule, number_rule, required_number_rule, flag_rule, word_rule, common_app, pipe_app, serve_app, night_app, host_app, dump_folder_app, restore_folder_app, top_app, links_app, served_app, program_app};
+ghost use Rattle.command_line.specs.Commands.{IsCommandOf, option_rule, required_rule, number_rule, required_number_rule, flag_rule, word_rule, number_word_rule, common_app, pipe_app, serve_app, night_app, host_app, dump_folder_app, restore_folder_app, demo_app, top_app, links_app, served_app, folders_app, program_app};
 
 use clap::{Arg, ArgAction, Command, value_parser};
 use std::alloc::{AllocError, Global};
@@ -57,6 +57,16 @@ fn required_word<'a>(alloc: Global, name: &'a str) -> Arg<'a>
     ensures local { result.global ≡ false }
 {
     Arg::new(alloc, name).required(true)
+}
+
+/// A word that stands without an option, takes a `u64` and has to be there.
+fn number_word<'a>(alloc: Global, name: &'a str) -> Arg<'a>
+    ensures rule { rule_of result ≡ number_word_rule name.now }
+    ensures local { result.global ≡ false }
+{
+    Arg::new(alloc, name)
+        .required(true)
+        .value_parser(value_parser!(u64))
 }
 
 /// A subcommand with the two options that each has.
@@ -116,6 +126,13 @@ fn restore_folder<'a>(alloc: Global) -> Result<Command<'a>, AllocError>
         .arg(required_word(alloc, "folder"))
 }
 
+/// `demo`.
+fn demo<'a>(alloc: Global) -> Result<Command<'a>, AllocError>
+    ensures { IfOk result (λ c. IsCommandOf demo_app c) }
+{
+    subcommand(alloc, "demo")?.arg(number_word(alloc, "number"))
+}
+
 /// The program's name, with help turned off.
 fn top<'a>(alloc: Global) -> Command<'a>
     ensures { IsCommandOf top_app result }
@@ -142,11 +159,18 @@ fn served<'a>(alloc: Global) -> Result<Command<'a>, AllocError>
     links(alloc)?.subcommand(night(alloc)?)
 }
 
-/// The program's command, with its subcommands.
-pub(crate) fn program<'a>(alloc: Global) -> Result<Command<'a>, AllocError>
-    ensures { IfOk result (λ c. IsCommandOf program_app c) }
+/// Those, and the ones of a folder.
+fn folders<'a>(alloc: Global) -> Result<Command<'a>, AllocError>
+    ensures { IfOk result (λ c. IsCommandOf folders_app c) }
 {
     served(alloc)?
         .subcommand(dump_folder(alloc)?)?
         .subcommand(restore_folder(alloc)?)
+}
+
+/// The program's command, with its subcommands.
+pub(crate) fn program<'a>(alloc: Global) -> Result<Command<'a>, AllocError>
+    ensures { IfOk result (λ c. IsCommandOf program_app c) }
+{
+    folders(alloc)?.subcommand(demo(alloc)?)
 }

@@ -2,10 +2,12 @@
 ghost use Rattle.std.specs.Prelude.{◌≡◌, None, Some, IfErr, IfOk, map, option_and_then, option_map};
 ghost use Rattle.std.specs.String.{string_bytes};
 ghost use Rattle.clap.specs.Simple.{subcommand_rows_of};
-ghost use Rattle.command_line.specs.Line.{line_in, line_of, meaning, rows_in, serve_in, task_in, task_of};
+ghost use Rattle.command_line.specs.Line.{demo_in, line_in, line_of, meaning, rows_in, serve_in, task_in, task_of};
 
 use crate::folders::{dump_folder_in, restore_folder_in};
-use crate::matches::{flag_in, matches_of, number_in, subcommand_in, text_in};
+use crate::matches::{
+    flag_in, matches_of, needed_long_number_in, number_in, subcommand_in, text_in,
+};
 use crate::usage::USAGE;
 use attr_records::HostName;
 use backup_rules::Kind;
@@ -39,6 +41,10 @@ pub enum Work {
         host: HostName,
         number: u32,
         folder: String,
+    },
+    /// Does a job of sixty days that is drawn from a number, in a store without hosts.
+    Demo {
+        number: u64,
     },
 }
 
@@ -98,6 +104,17 @@ fn serve_in(alloc: Global, found: &ArgMatches<'_>) -> Result<Work, LineFault>
     })
 }
 
+/// What `demo` asks for, by its word.
+fn demo_in(found: &ArgMatches<'_>) -> Result<Work, LineFault>
+    ensures ok { IfOk result (λ work. demo_in (rows_in found.now) ≡ Some (task_of work)) }
+    ensures none { IfErr result (λ fault. fault ≡ LineFault.NoParse → demo_in (rows_in found.now) ≡ None) }
+{
+    match needed_long_number_in(found, "number") {
+        Some(number) => Ok(Work::Demo { number }),
+        None => Err(LineFault::NoParse),
+    }
+}
+
 /// What a subcommand asks for, by its name and its options.
 fn work_in(alloc: Global, name: &str, found: &ArgMatches<'_>) -> Result<Work, LineFault>
     ensures ok { IfOk result (λ work. task_in name.now (rows_in found.now) ≡ Some (task_of work)) }
@@ -114,6 +131,8 @@ fn work_in(alloc: Global, name: &str, found: &ArgMatches<'_>) -> Result<Work, Li
         dump_folder_in(alloc, found)
     } else if name == "restore-folder" {
         restore_folder_in(alloc, found)
+    } else if name == "demo" {
+        demo_in(found)
     } else {
         Err(LineFault::NoParse)
     }

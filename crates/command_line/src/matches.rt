@@ -1,5 +1,5 @@
 //! What clap found in the words.
-ghost use Rattle.std.specs.Prelude.{◌≡◌, ◌≢◌, [], IfOk, IfErr, map, option_map};
+ghost use Rattle.std.specs.Prelude.{◌≡◌, ◌≢◌, ◌^◌, [], IfOk, IfErr, map, option_map};
 ghost use Rattle.std.specs.String.{string_bytes};
 ghost use Rattle.clap.specs.Simple.{subcommand_of, subcommand_rows_of};
 ghost use Rattle.clap.specs.Faults.{fault_of};
@@ -54,11 +54,21 @@ pub(crate) fn text_in<'a>(found: &ArgMatches<'a>, id: &str) -> Option<&'a str>
     found.get_str(id)
 }
 
-/// The number that a text writes.
+/// The number below 2^32 that a text writes.
 fn number_of(text: &str) -> Option<u32>
-    ensures { result ≡ number_of text.now }
+    ensures { result ≡ number_of (2 ^ 32) text.now }
 {
     match text.parse::<u32>() {
+        Ok(number) => Some(number),
+        Err(_) => None,
+    }
+}
+
+/// The number below 2^64 that a text writes.
+fn long_number_of(text: &str) -> Option<u64>
+    ensures { result ≡ number_of (2 ^ 64) text.now }
+{
+    match text.parse::<u64>() {
         Ok(number) => Some(number),
         Err(_) => None,
     }
@@ -79,10 +89,20 @@ pub(crate) fn number_in(found: &ArgMatches<'_>, id: &str) -> Option<Option<u32>>
 
 /// The number of an option that has to be there.
 pub(crate) fn needed_number_in(found: &ArgMatches<'_>, id: &str) -> Option<u32>
-    ensures { result ≡ needed_number_in id.now (rows_in found.now) }
+    ensures { result ≡ needed_number_in (2 ^ 32) id.now (rows_in found.now) }
 {
     match text_in(found, id) {
         Some(text) => number_of(text),
+        None => None,
+    }
+}
+
+/// The number below 2^64 of a word that has to be there.
+pub(crate) fn needed_long_number_in(found: &ArgMatches<'_>, id: &str) -> Option<u64>
+    ensures { result ≡ needed_number_in (2 ^ 64) id.now (rows_in found.now) }
+{
+    match text_in(found, id) {
+        Some(text) => long_number_of(text),
         None => None,
     }
 }

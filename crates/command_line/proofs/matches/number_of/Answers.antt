@@ -1,8 +1,9 @@
+use Rattle.std.specs.Prelude.{◌^◌}
 use Rattle.command_line.proofs.NumberLaws.{number_read, number_refused}
 use Rattle.command_line.proofs.matches.number_of.Goals as goal
 
 pub returns-in-Ok : goal.returns-in-Ok
-returns-in-Ok c = number_read c.args.text.now c.in-Ok.number c.in-Ok.ensures.value.0.0 c.in-Ok.ensures.value.0.1
+returns-in-Ok c = number_read (2 ^ 32) c.args.text.now c.in-Ok.number c.in-Ok.ensures.value.0.0 c.in-Ok.ensures.value.0.1
 
 pub returns-in-Err : goal.returns-in-Err
-returns-in-Err c = number_refused c.args.text.now c.in-Err.ensures.value.0
+returns-in-Err c = number_refused (2 ^ 32) c.args.text.now c.in-Err.ensures.value.0
