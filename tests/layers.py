@@ -5,14 +5,15 @@ crate's src/, specs/ and proofs/. A line is printed for each of these, and the s
 
   - a crate of crates.txt in no layer or in two, a crate of the table that crates.txt hasn't, a layer that isn't there;
   - a crate that names one of a layer that its own may not name; a row of crates.txt with a crate of a higher layer;
-  - a name that its crate's row of crates.txt doesn't lead to; a row that leads to itself;
+  - a name that its crate's row of crates.txt doesn't lead to; a row that leads to itself; a name in a row that no line of its crate
+    names (rt walks every path of crates.txt, so a spare name costs each check);
   - a crate that names what the second table keeps from it;
   - a crate over 1,500 lines of code (blank lines and comments apart) or 100 functions (`fn` of src/, tests too);
   - a line of a definition over 140 columns: of a file of specs/ without laws, `use` lines and comments apart;
   - more of these than the third table allows by name; or a row of it that nothing needs any more.
 
-Printed and not judged: how many names of crates.txt no line of their crate needs (--edges lists them), and how many files of
-specs/ mix definitions with laws: those not called Laws that import proofs of std (--mixed lists them).
+Printed and not judged: how many files of specs/ mix definitions with laws: those not called Laws that import proofs of std (--mixed
+lists them).
 It needs Python 3.8 alone, and a second or two. `tests/layers.py TOP` reads another checkout."""
 import argparse
 import os
@@ -214,6 +215,13 @@ def judge_names(page, crates):
                     yield f"{place}: {crate.name} names {it}, which it never does"
 
 
+def judge_spare(rows, crates):
+    for crate in crates:
+        for other in rows[crate.name]:
+            if other not in crate.named:
+                yield f"crates.txt: {crate.name} has {other}, which no line of it names"
+
+
 def judge_sizes(page, crates):
     for crate in crates:
         for limit, count, most in (("lines", crate.code, LINES), ("functions", crate.functions, FUNCTIONS), ("columns", crate.long, 0)):
@@ -235,26 +243,20 @@ def shown_limit(limit):
 def main():
     words = argparse.ArgumentParser(description=__doc__, formatter_class=argparse.RawDescriptionHelpFormatter)
     words.add_argument("top", nargs="?", default=os.path.dirname(os.path.dirname(os.path.realpath(__file__))))
-    words.add_argument("--edges", action="store_true", help="list the names of crates.txt that no line needs")
     words.add_argument("--mixed", action="store_true", help="list the files of specs/ that mix definitions with laws")
     asked = words.parse_args()
     page = Page(os.path.join(asked.top, "docs", "ARCHITECTURE.md"))
     rows = read_rows(os.path.join(asked.top, "crates.txt"))
     known = {*rows, *[it for row in rows.values() for it in row]}
     crates = [Crate(asked.top, it, known) for it in rows]
-    faults = [*page.faults, *judge_layers(page, rows, crates), *judge_rows(rows, crates), *judge_names(page, crates), *judge_sizes(page, crates)]
+    faults = [*page.faults, *judge_layers(page, rows, crates), *judge_rows(rows, crates), *judge_names(page, crates)]
+    faults += [*judge_spare(rows, crates), *judge_sizes(page, crates)]
     for fault in faults:
         print(fault)
-    spare = [(it.name, [other for other in rows[it.name] if other not in it.named]) for it in crates]
-    if asked.edges:
-        for name, others in spare:
-            if others:
-                print(f"{name}: {' '.join(others)}")
     mixed = [path for it in crates for path in it.mixed]
     if asked.mixed:
         print("\n".join(mixed))
-    count = sum(len(it) for it in rows.values())
-    print(f"{sum(len(it) for _, it in spare)} of {count} names of crates.txt are needed by no line; {len(mixed)} files of specs/ mix definitions with laws")
+    print(f"{len(mixed)} files of specs/ mix definitions with laws")
     print(f"{len(rows)} crates in {len(page.layers)} layers, {len(faults)} faults")
     return 1 if faults else 0
 
