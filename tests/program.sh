@@ -6,6 +6,7 @@
 program=${1:-$(cd "$(dirname "$0")/.." && pwd)/bin/backup_server}
 [ -x "$program" ] || { echo "$program isn't there: make build first"; exit 1; }
 example=$(cd "$(dirname "$0")/../examples" && pwd)/backup_server.toml
+model=$(cd "$(dirname "$0")" && pwd)/demo.py
 room=$(mktemp -d)
 trap 'rm -rf "$room"' EXIT
 cd "$room" || exit 1
@@ -66,7 +67,8 @@ usage='usage: backup_server pipe --store DIR [--settings FILE]
        backup_server serve --listen ADDR [--connections N] --store DIR [--settings FILE]
        backup_server night [--scheduled] --store DIR [--settings FILE]
        backup_server dump-folder --host H --kind full|incr --store DIR [--settings FILE] FOLDER
-       backup_server restore-folder --host H --number N --store DIR [--settings FILE] FOLDER'
+       backup_server restore-folder --host H --number N --store DIR [--settings FILE] FOLDER
+       backup_server demo --store DIR [--settings FILE] NUMBER'
 : >in
 : >want
 
@@ -77,7 +79,7 @@ Usage: backup_server <COMMAND>
 $usage"
 attempt
 judge 'no words' 2 "error: 'backup_server' requires a subcommand but one was not provided
-  [subcommands: pipe, serve, night, dump-folder, restore-folder]
+  [subcommands: pipe, serve, night, dump-folder, restore-folder, demo]
 
 Usage: backup_server <COMMAND>
 $usage"
@@ -130,6 +132,18 @@ judge 'a restore without a folder' 2 "error: the following required arguments we
   <folder>
 
 Usage: backup_server restore-folder --store <store> --host <host> --number <number> <folder>
+$usage"
+attempt demo --store made
+judge 'a demo without a number' 2 "error: the following required arguments were not provided:
+  <number>
+
+Usage: backup_server demo --store <store> <number>
+$usage"
+attempt demo --store made many
+judge 'a demo of a number that is none' 2 "error: invalid value 'many' for '<number>': invalid digit found in string
+$usage"
+attempt demo --store made 18446744073709551616
+judge 'a demo of a number that is too large' 2 "error: invalid value '18446744073709551616' for '<number>': number too large to fit in target type
 $usage"
 attempt pipe --store "made$(printf '\377')"
 judge 'a word that is not UTF-8' 2 "$usage"
@@ -200,6 +214,38 @@ attempt night --store unsettled --settings settings
 judge 'a night by settings with a wrong value' 7 'bad settings: FillCycle'
 [ "$(ls unsettled)" = lock ]
 expect 'a night by wrong settings opens no store'
+
+# Demos: twice the same, and the same as tests/demo.py says.
+demo_lines() {
+    if [ "$1" = 1 ]; then
+        printf 'demo 1\nhosts 4\nbackups 56 filled 32\npool files 819 bytes 116510 marked 63\ncheck ccf5a1439b17613e47c09731846c3f55\n'
+    else
+        python3 "$model" "$1"
+    fi
+}
+for number in 1 1 3141592653 18446744073709551615; do
+    if demo_lines "$number" >want 2>/dev/null; then
+        rm -rf demos
+        attempt demo --store demos "$number"
+        judge "a demo of $number" 0 ''
+    else
+        echo "skipped: a demo of $number, since there is no python3"
+    fi
+done
+find demos -type f ! -name head ! -name intent -exec cksum {} + | sort >before
+: >want
+attempt demo --store demos 1
+judge 'a demo where hosts are' 1 'store not empty'
+find demos -type f ! -name head ! -name intent -exec cksum {} + | sort >after
+cmp -s before after
+expect 'a demo where hosts are changes nothing but the epoch'
+rm -rf demos
+if command -v python3 >/dev/null; then
+    demo_lines 1 >want
+    [ "$(python3 "$model" 1)" = "$(cat want)" ]
+    expect 'the lines of a demo of 1 are those of the model'
+    : >want
+fi
 
 # The example has each setting with its default: a host that is added by it is the same as one without a settings file.
 printf 'PUT /hosts/pc1 HTTP/1.1\r\nHost: b\r\n\r\n' >in

@@ -4,7 +4,7 @@
 --     dump_complete, restore_complete      how such runs end
 use Rattle.std.specs.Prelude.{⊤, ◌||◌, if◌then◌else◌, ◌⊎◌, is_some, Result, IfOk, IfErr, IsErrOf, length}
 use Rattle.std.specs.Option.{ForSome}
-use Rattle.std.proofs.Common.{◌≡◌, ℕ, ◌-◌, ◌^◌, ◌<◌, ◌≤◌, Bool, true, false, List, [], ◌∷◌, ◌++◌, Option, None, Some, Ok, Err, refl, sym, ap, ◌∙◌, subst, inl, inr, arith, append-nil}
+use Rattle.std.proofs.Common.{◌≡◌, ℕ, ◌-◌, ◌^◌, ◌<◌, ◌≤◌, Bool, true, false, List, [], ◌++◌, Option, Some, Ok, Err, refl, sym, ap, ◌∙◌, subst, inl, inr, arith, append-nil}
 use Rattle.fault_counts.specs.Counts.{Rose, Counted}
 use Rattle.disk_trait.specs.declared.disk.Disk.{Ghosts as DiskGhosts}
 use Rattle.pool_name.specs.declared.namer.Namer.{Ghosts as NamerGhosts}
@@ -15,7 +15,6 @@ use Rattle.pool_changes.specs.Kept.{slots_of}
 use Rattle.pool_store.specs.Opening.{AreThePoolFiles}
 use Rattle.office_model.specs.Office.{Office, Durable, Names, reopened}
 use Rattle.office_model.specs.declared.refusal.Refusal.{Refusal}
-use Rattle.office_model.specs.declared.refusal.Refusal.TheVariants as R
 use Rattle.office_model.specs.Step.{Call, State, Running}
 use Rattle.office_model.specs.History.{Leads, calls_of}
 use Rattle.store_opening.specs.Opens.{IsOf, Opened}
@@ -45,9 +44,10 @@ use Rattle.admin_cli.specs.declared.note.Note.{Note}
 use Rattle.admin_cli.specs.declared.note.Note.TheVariants as N
 use Rattle.admin_cli.specs.Command.{AsksFor}
 use Rattle.admin_cli.specs.FolderTexts.{text_of_dump, text_of_restore}
-use Rattle.admin_cli.specs.Nights.{note_of_all, Says}
+use Rattle.admin_cli.specs.Nights.{Says}
 use Rattle.admin_cli.specs.Run.{StandsForEither, IsServed, LeadsOnDisk, IsComplete}
-use Rattle.admin_cli.specs.Folders.{note_of_rule, note_of_call, note_of_dump, note_of_restore, IsCauseAtWork, HasDumpCause, HasRestoreCause, Dumps, Restores, HoldsBackup, GivesBackup, DumpsFolder, RestoresFolder}
+use Rattle.admin_cli.specs.Folders.{note_of_dump, note_of_restore, IsCauseAtWork, HasDumpCause, HasRestoreCause, Dumps, Restores, HoldsBackup, GivesBackup, DumpsFolder, RestoresFolder}
+use Rattle.admin_cli.proofs.EndLaws.{rule_ends, call_ends, all_ends, said_rose}
 use Rattle.admin_cli.proofs.FolderStops.{refused_at_work, wider}
 use Rattle.admin_cli.proofs.RefusalLaws.{file_of}
 use Rattle.admin_cli.proofs.RunLaws.{is_served, EndsWell}
@@ -339,46 +339,21 @@ module _ {D G : Type 0} (d : DiskGhosts D) (f : FolderGhosts G) (digest_of : Lis
   abbrev Ends : Note → Type 0
   Ends said = EndsWell d digest_of disk disk' linked linked' note said a b
 
-  rule_ends : (said : Note) (halted : Bool) → Ends said → (halted ≡ true → Rose (d.fault_count disk) (d.fault_count disk'))
-      → Ends (note_of_rule said halted)
-  rule_ends said true well stopped =
-      let rose : Rose (d.fault_count disk) (d.fault_count disk') = stopped refl in absurd (omega (arith, rose, m, same))
-  rule_ends said false well stopped = well
-
-  call_ends : (refusal : Refusal) (halted : Bool) → IsCauseAtWork refusal (d.fault_count disk) (d.fault_count disk')
-      → (halted ≡ true → Rose (d.fault_count disk) (d.fault_count disk')) → Ends (note_of_call refusal halted)
-  call_ends (R.Broken rule) halted cause stopped = rule_ends (N.Refused rule) halted (inr (inl refl)) stopped
-  call_ends R.Halted halted cause stopped = absurd cause
-  call_ends R.DiskFault halted cause stopped = absurd (omega (arith, cause, m, same))
-  call_ends (R.Damaged file found) halted cause stopped = absurd cause
-  call_ends R.Memory halted cause stopped = inr (inr (inl refl))
-
-  all_ends : (failed halted : Bool) → (failed ≡ true → Rose linked linked') → (halted ≡ true → Rose (d.fault_count disk) (d.fault_count disk'))
-      → Ends (note_of_all failed halted)
-  all_ends true halted link stopped = let rose : Rose linked linked' = link refl in absurd (omega (arith, rose, l, same_link))
-  all_ends false true link stopped =
-      let rose : Rose (d.fault_count disk) (d.fault_count disk') = stopped refl in absurd (omega (arith, rose, m, same))
-  all_ends false false link stopped = inl refl
-
-  said_rose : (text : Option (List ℕ)) (link link' : LinkSeen) (failed : Bool) → link.faults ≡ linked → link'.faults ≡ linked'
-      → Says text link link' failed → failed ≡ true → Rose linked linked'
-  said_rose None link link' failed is is' says e = let no : ⊥ = let f' = says.1 in cc (f', e) in absurd no
-  said_rose (Some text) link link' failed is is' says e =
-      subst (λ (k : ℕ). Rose k linked') is (subst (λ (k : ℕ). Rose link.faults k) is' (says.counted.rose e))
-
   dump_ends : (host : List ℕ) (result : Result ℕ DumpRefusal) (link link' : LinkSeen) (failed halted : Bool)
       → link.faults ≡ linked → link'.faults ≡ linked' → Says (text_of_dump host result) link link' failed
       → HasDumpCause result (d.fault_count disk) (d.fault_count disk') → (halted ≡ true → Rose (d.fault_count disk) (d.fault_count disk'))
       → Counted (f.fault_count folder) (f.fault_count folder') (IsErrOf result P.Folder) → Ends (note_of_dump result failed halted)
   dump_ends host (Ok number) link link' failed halted is is' says cause stopped counted =
-      all_ends failed halted (said_rose (text_of_dump host (Ok number)) link link' failed is is' says) stopped
-  dump_ends host (Err (P.Refused refusal)) link link' failed halted is is' says cause stopped counted = call_ends refusal halted cause stopped
+      all_ends d digest_of disk disk' linked linked' note a b m same l same_link failed halted
+      (said_rose d digest_of disk disk' linked linked' note a b m same l same_link (text_of_dump host (Ok number)) link link' failed is is' says) stopped
+  dump_ends host (Err (P.Refused refusal)) link link' failed halted is is' says cause stopped counted =
+      call_ends d digest_of disk disk' linked linked' note a b m same l same_link refusal halted cause stopped
   dump_ends host (Err (P.BadPath rule)) link link' failed halted is is' says cause stopped counted =
-      rule_ends N.BadPath halted (inr (inl refl)) stopped
+      rule_ends d digest_of disk disk' linked linked' note a b m same l same_link N.BadPath halted (inr (inl refl)) stopped
   dump_ends host (Err P.BadTarget) link link' failed halted is is' says cause stopped counted =
-      rule_ends N.BadTarget halted (inr (inl refl)) stopped
+      rule_ends d digest_of disk disk' linked linked' note a b m same l same_link N.BadTarget halted (inr (inl refl)) stopped
   dump_ends host (Err P.FileTooLarge) link link' failed halted is is' says cause stopped counted =
-      rule_ends N.FileTooLarge halted (inr (inl refl)) stopped
+      rule_ends d digest_of disk disk' linked linked' note a b m same l same_link N.FileTooLarge halted (inr (inl refl)) stopped
   dump_ends host (Err P.Folder) link link' failed halted is is' says cause stopped counted =
       let rose : Rose (f.fault_count folder) (f.fault_count folder') = counted.rose refl in absurd (omega (arith, rose, g, same_folder))
   dump_ends host (Err P.Memory) link link' failed halted is is' says cause stopped counted = inr (inr (inl refl))
@@ -388,11 +363,12 @@ module _ {D G : Type 0} (d : DiskGhosts D) (f : FolderGhosts G) (digest_of : Lis
       → HasRestoreCause result (d.fault_count disk) (d.fault_count disk') → (halted ≡ true → Rose (d.fault_count disk) (d.fault_count disk'))
       → Counted (f.fault_count folder) (f.fault_count folder') (IsErrOf result F.Folder) → Ends (note_of_restore result failed halted)
   restore_ends host number (Ok entries) link link' failed halted is is' says cause stopped counted =
-      all_ends failed halted (said_rose (text_of_restore host number (Ok entries)) link link' failed is is' says) stopped
+      all_ends d digest_of disk disk' linked linked' note a b m same l same_link failed halted
+      (said_rose d digest_of disk disk' linked linked' note a b m same l same_link (text_of_restore host number (Ok entries)) link link' failed is is' says) stopped
   restore_ends host number (Err (F.Refused refusal)) link link' failed halted is is' says cause stopped counted =
-      call_ends refusal halted cause stopped
+      call_ends d digest_of disk disk' linked linked' note a b m same l same_link refusal halted cause stopped
   restore_ends host number (Err F.NotEmpty) link link' failed halted is is' says cause stopped counted =
-      rule_ends N.FolderNotEmpty halted (inr (inl refl)) stopped
+      rule_ends d digest_of disk disk' linked linked' note a b m same l same_link N.FolderNotEmpty halted (inr (inl refl)) stopped
   restore_ends host number (Err F.Folder) link link' failed halted is is' says cause stopped counted =
       let rose : Rose (f.fault_count folder) (f.fault_count folder') = counted.rose refl in absurd (omega (arith, rose, g, same_folder))
   restore_ends host number (Err F.Memory) link link' failed halted is is' says cause stopped counted = inr (inr (inl refl))

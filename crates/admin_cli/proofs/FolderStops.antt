@@ -1,4 +1,5 @@
 -- Why a folder command of a store at work stops: the calls before the one that was refused were answered, so the office was at work then.
+--     wider, at_work      why one call is refused
 --     refused_at_work
 use Rattle.std.proofs.Common.{◌≡◌, ℕ, ◌≤◌, List, [], ◌∷◌, ◌++◌, Ok, Err, refl, sym, ap, ◌∙◌, subst, arith}
 use Rattle.fault_counts.specs.Counts.{Rose}
@@ -12,7 +13,7 @@ use Rattle.office_model.specs.History.{Entry, IsUndamaged, IsHistory, calls_of, 
 use Rattle.call_scripts.specs.Scripts.{EndRefused}
 use Rattle.admin_cli.specs.Folders.{IsCauseAtWork}
 
-later_than : (state : State) (faults : ℕ) (entries : List Entry) → IsHistory state faults entries → faults ≤ last_faults faults entries
+pub later_than : (state : State) (faults : ℕ) (entries : List Entry) → IsHistory state faults entries → faults ≤ last_faults faults entries
 later_than state faults [] legal = omega arith
 later_than state faults (entry ∷ entries) legal =
     let first = legal.0.later in
@@ -27,7 +28,7 @@ wider R.DiskFault a b c k le more why = omega (arith, le, more, why)
 wider (R.Damaged file found) a b c k le more why = why
 wider R.Memory a b c k le more why = tt
 
-at_work : (old : Office) (names : Names) (event : Event) (named : Refusal) (state : State) (faults faults' : ℕ)
+pub at_work : (old : Office) (names : Names) (event : Event) (named : Refusal) (state : State) (faults faults' : ℕ)
     → IsStep (Running old names) event (Err named) state → IsUndamaged (Err named) → (named ≡ R.DiskFault → Rose faults faults')
     → IsCauseAtWork named faults faults'
 at_work old names event (R.Broken rule) state faults faults' step undamaged cause = tt
@@ -37,10 +38,10 @@ at_work old names event (R.Damaged file found) state faults faults' step undamag
 at_work old names event R.Memory state faults faults' step undamaged cause = tt
 
 -- the first entry of a list is that of its calls
-same_head : (a b : Call) (more others : List Call) → a ∷ more ≡ b ∷ others → b ≡ a
+pub same_head : (a b : Call) (more others : List Call) → a ∷ more ≡ b ∷ others → b ≡ a
 same_head a b more others e = cc (e)
 
-same_tail : (a b : Call) (more others : List Call) → a ∷ more ≡ b ∷ others → more ≡ others
+pub same_tail : (a b : Call) (more others : List Call) → a ∷ more ≡ b ∷ others → more ≡ others
 same_tail a b more others e = cc (e)
 
 -- the calls up to one that was refused, and what was called behind it

@@ -1,3 +1,6 @@
+pub mod DemoLaws
+pub mod DemoStops
+pub mod EndLaws
 pub mod FolderLaws
 pub mod FolderStops
 pub mod ForeignLaws

@@ -15,6 +15,8 @@ use Rattle.office_model.specs.declared.refusal.Refusal.{Refusal}
 use Rattle.office_model.specs.declared.refusal.Refusal.TheVariants as R
 use Rattle.night_work.specs.declared.ends.NightEnd.{NightEnd}
 use Rattle.night_work.specs.declared.ends.NightEnd.TheVariants as N
+use Rattle.demo_work.specs.declared.ends.DemoEnd.{DemoEnd}
+use Rattle.demo_work.specs.declared.ends.DemoEnd.TheVariants as M
 use Rattle.folder_walk.specs.declared.refusals.DumpRefusal.{DumpRefusal}
 use Rattle.folder_walk.specs.declared.refusals.DumpRefusal.TheVariants as P
 use Rattle.folder_restore.specs.declared.refusals.RestoreRefusal.{RestoreRefusal}
@@ -22,7 +24,7 @@ use Rattle.folder_restore.specs.declared.refusals.RestoreRefusal.TheVariants as 
 use Rattle.browse_http.specs.declared.end.End.{End}
 use Rattle.browse_http.specs.declared.end.End.TheVariants.{Ended, Truncated, BadRequest, LinkFault, Memory}
 use Rattle.admin_cli.specs.declared.note.Note.{Note}
-use Rattle.admin_cli.specs.declared.note.Note.TheVariants.{Usage, NoMemory, DiskFailed, Foreign, Refused, BadPath, BadTarget, FileTooLarge, FolderNotEmpty, FolderFailed}
+use Rattle.admin_cli.specs.declared.note.Note.TheVariants.{Usage, NoMemory, DiskFailed, Foreign, Refused, BadPath, BadTarget, FileTooLarge, FolderNotEmpty, StoreNotEmpty, FolderFailed}
 use Rattle.admin_cli.specs.Statuses.{status_of}
 use Rattle.command_line.specs.declared.line.LineFault.{LineFault}
 use Rattle.command_line.specs.declared.line.LineFault.TheVariants as L
@@ -30,6 +32,7 @@ use Rattle.command_line.specs.Line.{Line, Task}
 use Rattle.admin_cli.specs.Command.{AsksFor}
 use Rattle.admin_cli.specs.Asked.{IsSettingsFile, note_of_settings, IsRefused, TellsRefusals}
 use Rattle.admin_cli.specs.Folders.{note_of_rule, note_of_call, note_of_dump, note_of_restore}
+use Rattle.admin_cli.specs.Demos.{note_of_demo}
 use Rattle.admin_cli.specs.Nights.{note_of_all, note_of_refused, note_of_night}
 use Rattle.admin_cli.specs.Run.{note_of, note_of_refusal}
 use Rattle.admin_cli.specs.Servers.{note_of_served}
@@ -136,6 +139,12 @@ restore_other (Err W.NotEmpty) failed halted = rule_other FolderNotEmpty halted 
 restore_other (Err W.Folder) failed halted = other FolderFailed 3 refl (λ e. omega (arith, e)) (λ e. omega (arith, e))
 restore_other (Err W.Memory) failed halted = other NoMemory 6 refl (λ e. omega (arith, e)) (λ e. omega (arith, e))
 
+demo_other : (end : DemoEnd) (failed halted : Bool) → IsOther (note_of_demo end failed halted)
+demo_other (M.Done summary) failed halted = all_other failed halted
+demo_other M.Occupied failed halted = rule_other StoreNotEmpty halted refl
+demo_other (M.Refused refusal) failed halted = call_other refusal halted
+demo_other M.Memory failed halted = other NoMemory 6 refl (λ e. omega (arith, e)) (λ e. omega (arith, e))
+
 doors_other : (failed halted : Bool) → IsOther (note_of_served failed halted)
 doors_other true halted = other (note_of_served true halted) 3 refl (λ e. omega (arith, e)) (λ e. omega (arith, e))
 doors_other false true = other (note_of_served false true) 4 refl (λ e. omega (arith, e)) (λ e. omega (arith, e))
@@ -177,6 +186,11 @@ pub tells_restore : (line : Option Line) (settings : List ℕ) (note : Note) (re
     → IsSome line → IsSettingsFile settings → note ≡ note_of_restore result failed halted → TellsRefusals line settings note
 tells_restore line settings note result failed halted said file note_is =
     tells_understood line settings note said file (subst IsOther (sym note_is) (restore_other result failed halted))
+
+pub tells_demo : (line : Option Line) (settings : List ℕ) (note : Note) (end : DemoEnd) (failed halted : Bool)
+    → IsSome line → IsSettingsFile settings → note ≡ note_of_demo end failed halted → TellsRefusals line settings note
+tells_demo line settings note end failed halted said file note_is =
+    tells_understood line settings note said file (subst IsOther (sym note_is) (demo_other end failed halted))
 
 pub tells_doors : (line : Option Line) (settings : List ℕ) (read : Settings) (note : Note) (failed halted : Bool)
     → IsSome line → IsSettings settings read → note ≡ note_of_served failed halted → TellsRefusals line settings note

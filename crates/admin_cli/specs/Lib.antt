@@ -1,5 +1,6 @@
 pub mod Asked
 pub mod Command
+pub mod Demos
 pub mod FolderTexts
 pub mod Folders
 pub mod Nights

@@ -4,7 +4,7 @@ use Rattle.std.specs.Prelude.{ℕ, List, [], ◌++◌, codes, Option, Some, None
 use Rattle.disk_trait.specs.Names.{real_name}
 use Rattle.office_model.specs.RuleNames.{rule_name}
 use Rattle.admin_cli.specs.declared.note.Note.{Note}
-use Rattle.admin_cli.specs.declared.note.Note.TheVariants.{Nothing, InputEnded, NotUnderstood, Refused, BadPath, BadTarget, FileTooLarge, FolderNotEmpty, Usage, LinkFailed, DoorFailed, FolderFailed, DiskFailed, Foreign, EpochsSpent, NoMemory, BadSettings}
+use Rattle.admin_cli.specs.declared.note.Note.TheVariants.{Nothing, InputEnded, NotUnderstood, Refused, BadPath, BadTarget, FileTooLarge, FolderNotEmpty, StoreNotEmpty, Usage, LinkFailed, DoorFailed, FolderFailed, DiskFailed, Foreign, EpochsSpent, NoMemory, BadSettings}
 
 abbrev pub text_of : Note → Option (List ℕ)
 text_of Nothing = Some []
@@ -15,6 +15,7 @@ text_of BadPath = Some (codes "refused BadPath")
 text_of BadTarget = Some (codes "refused BadTarget")
 text_of FileTooLarge = Some (codes "refused FileTooLarge")
 text_of FolderNotEmpty = Some (codes "folder not empty")
+text_of StoreNotEmpty = Some (codes "store not empty")
 text_of Usage = None
 text_of LinkFailed = Some (codes "link failed")
 text_of DoorFailed = Some (codes "door failed")

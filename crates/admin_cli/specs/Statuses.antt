@@ -1,7 +1,7 @@
 -- The program's exit statuses.
 use Rattle.std.specs.Prelude.{ℕ}
 use Rattle.admin_cli.specs.declared.note.Note.{Note}
-use Rattle.admin_cli.specs.declared.note.Note.TheVariants.{Nothing, InputEnded, NotUnderstood, Refused, BadPath, BadTarget, FileTooLarge, FolderNotEmpty, Usage, LinkFailed, DoorFailed, FolderFailed, DiskFailed, Foreign, EpochsSpent, NoMemory, BadSettings}
+use Rattle.admin_cli.specs.declared.note.Note.TheVariants.{Nothing, InputEnded, NotUnderstood, Refused, BadPath, BadTarget, FileTooLarge, FolderNotEmpty, StoreNotEmpty, Usage, LinkFailed, DoorFailed, FolderFailed, DiskFailed, Foreign, EpochsSpent, NoMemory, BadSettings}
 
 -- the status of a run, by what it says as it ends
 abbrev pub status_of : Note → ℕ
@@ -13,6 +13,7 @@ status_of BadPath = 1
 status_of BadTarget = 1
 status_of FileTooLarge = 1
 status_of FolderNotEmpty = 1
+status_of StoreNotEmpty = 1
 status_of Usage = 2
 status_of LinkFailed = 3
 status_of DoorFailed = 3

@@ -8,6 +8,7 @@ ghost use Rattle.admin_cli.specs.Runs.{Runs};
 ghost use Rattle.admin_cli.specs.Servers.{counts_of};
 
 use crate::asked::{Asked, read_asked};
+use crate::demos::run_demo;
 use crate::done::Done;
 use crate::folders::{dump, restore};
 use crate::nightly::run_night;
@@ -29,7 +30,8 @@ use stream_traits::{Clock, Faults, Gate, Link};
 /// serve the links of their doors beside each other, until each door is closed or failed; `night [--scheduled]` does a night's
 /// work on it, and says what came of it on the link; `dump-folder --host H --kind full|incr FOLDER` makes the folder the host's next
 /// backup; and `restore-folder --host H --number N FOLDER` makes a backup in the folder, in which nothing lies. Both say so on the
-/// link, and tell `progress` how far they are; which real folder FOLDER is, is the caller's matter. The settings are the bytes of the file, and empty without one: a host
+/// link, and tell `progress` how far they are; which real folder FOLDER is, is the caller's matter. `demo NUMBER` does a job of sixty days
+/// that is drawn from the number, in a store without hosts, and says on the link what came of it. The settings are the bytes of the file, and empty without one: a host
 /// that is added has their rules, what is due is decided by their zone's clock, and so are the night's buckets and its time. The words
 /// are read first, then the settings; a disk, a link, a clock, a folder and doors whose words or settings are refused are left alone, and
 /// the folder by each other command. Doors serve
@@ -132,6 +134,7 @@ where
         } => restore(alloc, host, *number, disk, namer, link, folder, progress).with_workers(
             workers,
         ),
+        Work::Demo { number } => run_demo(alloc, *number, disk, namer, link).with_workers(workers),
         Work::Serve {
             listen: _,
             connections: _,

@@ -1,9 +1,7 @@
 ghost use Rattle.std.specs.Prelude.{◌≡◌};
-ghost use Rattle.admin_cli.specs.Run.{note_of_refusal};
 
 use crate::note::Note;
 use disk_trait::Disk;
-use office_store::OpenRefusal;
 use serve_workers::Worker;
 
 /// How a run ended: what the program says of it, which has the status, and the disk, the link and the workers, handed back.
@@ -71,17 +69,5 @@ impl<D: Disk, T, C, G> DoneAtDoors<D, T, C, G> {
             workers,
         } = self;
         Done::new(note, disk, link, workers)
-    }
-}
-
-/// What is said of a run whose store wasn't opened.
-pub fn note_of_refusal(refusal: &OpenRefusal) -> Note
-    ensures { result ≡ note_of_refusal refusal.now }
-{
-    match refusal {
-        OpenRefusal::Foreign { file, found: _ } => Note::Foreign(*file),
-        OpenRefusal::EpochsSpent => Note::EpochsSpent,
-        OpenRefusal::DiskFault => Note::DiskFailed,
-        OpenRefusal::Memory => Note::NoMemory,
     }
 }

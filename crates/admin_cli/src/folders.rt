@@ -10,10 +10,11 @@ ghost use Rattle.admin_cli.specs.Run.{Refuses};
 ghost use Rattle.admin_cli.specs.FolderTexts.{text_of_dump, text_of_restore};
 ghost use Rattle.admin_cli.specs.Folders.{note_of_rule, note_of_call, note_of_dump, note_of_restore, DumpsFolder, RestoresFolder};
 
-use crate::done::{DoneOnLink, note_of_refusal};
+use crate::done::DoneOnLink;
 use crate::folder_texts::{text_of_dump, text_of_restore};
 use crate::nightly::note_of_all;
 use crate::note::Note;
+use crate::opening::open_store;
 use crate::saying::say;
 use attr_records::HostName;
 use backup_rules::Kind;
@@ -22,20 +23,20 @@ use folder_restore::{RestoreRefusal, restore_folder};
 use folder_trait::{Folder, Progress};
 use folder_walk::{DumpRefusal, dump_folder};
 use office_model::Refusal;
-use office_store::{DirectPort, Store};
+use office_store::DirectPort;
 use pool_name::Namer;
 use std::alloc::Global;
 use stream_traits::{Clock, Faults, Link};
 
 /// What is said if a rule was broken: of a halted store that it is.
-fn note_of_rule(note: Note, halted: bool) -> Note
+pub fn note_of_rule(note: Note, halted: bool) -> Note
     ensures { result ≡ note_of_rule note halted }
 {
     if halted { Note::DiskFailed } else { note }
 }
 
 /// What is said of a call that was refused.
-fn note_of_call(refusal: &Refusal, halted: bool) -> Note
+pub fn note_of_call(refusal: &Refusal, halted: bool) -> Note
     ensures { result ≡ note_of_call refusal.now halted }
 {
     match refusal {
@@ -94,12 +95,9 @@ pub fn dump<D: Disk, N: Namer, C: Clock, L: Link, F: Folder, P: Progress>(
         (seen_of ⟦<L as Faults>⟧ link) (seen_of ⟦<L as Faults>⟧ result.link) (C.moments clock.old) (C.moments clock.new) result.note
         × (folder.new ≡ folder.old)) }
 {
-    let store = match Store::open(alloc, disk, namer) {
+    let store = match open_store(alloc, disk, namer) {
         Ok(store) => store,
-        Err((disk, refusal)) => {
-            let note = note_of_refusal(&refusal);
-            return DoneOnLink { note, disk, link };
-        }
+        Err((disk, note)) => return DoneOnLink { note, disk, link },
     };
     let mut port = DirectPort::new(store);
     let dumped = dump_folder(alloc, &mut port, folder, host, kind, clock, progress);
@@ -131,12 +129,9 @@ pub fn restore<D: Disk, N: Namer, L: Link, F: Folder, P: Progress>(
         ⊎ (Refuses ⟦<D as Disk>⟧ N.digest_of disk result.disk line bytes
         (seen_of ⟦<L as Faults>⟧ link) (seen_of ⟦<L as Faults>⟧ result.link) moments moments result.note × (folder.new ≡ folder.old)) }
 {
-    let store = match Store::open(alloc, disk, namer) {
+    let store = match open_store(alloc, disk, namer) {
         Ok(store) => store,
-        Err((disk, refusal)) => {
-            let note = note_of_refusal(&refusal);
-            return DoneOnLink { note, disk, link };
-        }
+        Err((disk, note)) => return DoneOnLink { note, disk, link },
     };
     let mut port = DirectPort::new(store);
     let restored = restore_folder(alloc, &mut port, folder, host, number, progress);

@@ -9,11 +9,13 @@
 
 mod asked;
 mod commands;
+mod demos;
 mod done;
 mod folder_texts;
 mod folders;
 mod nightly;
 mod note;
+mod opening;
 mod pipe;
 mod saying;
 mod servers;

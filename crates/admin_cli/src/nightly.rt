@@ -6,13 +6,14 @@ ghost use Rattle.admin_cli.specs.Command.{AsksFor};
 ghost use Rattle.admin_cli.specs.Nights.{note_of_all, note_of_refused, note_of_night, DoesNight};
 ghost use Rattle.admin_cli.specs.Run.{Refuses};
 
-use crate::done::{DoneOnLink, note_of_refusal};
+use crate::done::DoneOnLink;
 use crate::note::Note;
+use crate::opening::open_store;
 use crate::saying::say;
 use disk_trait::Disk;
 use night_work::{NightEnd, night};
 use office_model::Refusal;
-use office_store::{DirectPort, Store};
+use office_store::DirectPort;
 use pool_name::Namer;
 use settings_file::Settings;
 use std::alloc::Global;
@@ -71,12 +72,9 @@ pub fn run_night<D: Disk, N: Namer, C: Clock, L: Link>(
         ⊎ Refuses ⟦<D as Disk>⟧ N.digest_of disk result.disk line bytes
         (seen_of ⟦<L as Faults>⟧ link) (seen_of ⟦<L as Faults>⟧ result.link) (C.moments clock.old) (C.moments clock.new) result.note }
 {
-    let store = match Store::open(alloc, disk, namer) {
+    let store = match open_store(alloc, disk, namer) {
         Ok(store) => store,
-        Err((disk, refusal)) => {
-            let note = note_of_refusal(&refusal);
-            return DoneOnLink { note, disk, link };
-        }
+        Err((disk, note)) => return DoneOnLink { note, disk, link },
     };
     let mut port = DirectPort::new(store);
     let end = night(

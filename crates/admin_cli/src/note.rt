@@ -13,7 +13,7 @@ pub enum Note {
     InputEnded,
     /// The head of a request was refused.
     NotUnderstood,
-    /// A call of a folder command was refused, since it breaks this rule.
+    /// A call of a folder command or of a demo was refused, since it breaks this rule.
     Refused(BrokenRule),
     /// A path of the folder breaks a rule of paths.
     BadPath,
@@ -23,6 +23,8 @@ pub enum Note {
     FileTooLarge,
     /// Something lies in the folder that is to be filled.
     FolderNotEmpty,
+    /// There is a host in the store that is to be without.
+    StoreNotEmpty,
     /// The words are no command line.
     Usage,
     /// The link failed; its count of faults rose.
@@ -56,7 +58,7 @@ impl Note {
             Note::InputEnded => 1,
             Note::NotUnderstood => 1,
             Note::Refused(_) | Note::BadPath | Note::BadTarget | Note::FileTooLarge => 1,
-            Note::FolderNotEmpty => 1,
+            Note::FolderNotEmpty | Note::StoreNotEmpty => 1,
             Note::Usage => 2,
             Note::LinkFailed | Note::DoorFailed | Note::FolderFailed => 3,
             Note::DiskFailed => 4,
@@ -83,6 +85,7 @@ impl fmt::Display for Note {
             Note::BadTarget => write!(f, "refused BadTarget"),
             Note::FileTooLarge => write!(f, "refused FileTooLarge"),
             Note::FolderNotEmpty => write!(f, "folder not empty"),
+            Note::StoreNotEmpty => write!(f, "store not empty"),
             Note::Usage => write!(f, "{USAGE}"),
             Note::LinkFailed => write!(f, "link failed"),
             Note::DoorFailed => write!(f, "door failed"),

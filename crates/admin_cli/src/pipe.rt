@@ -6,11 +6,12 @@ ghost use Rattle.admin_cli.specs.Command.{AsksFor};
 ghost use Rattle.admin_cli.specs.Run.{note_of, Serves, Refuses};
 
 use crate::asked::interface_of;
-use crate::done::{DoneOnLink, note_of_refusal};
+use crate::done::DoneOnLink;
 use crate::note::Note;
+use crate::opening::open_store;
 use browse_http::{End, Served, serve_connection};
 use disk_trait::Disk;
-use office_store::{DirectPort, Store};
+use office_store::DirectPort;
 use pool_name::Namer;
 use settings_file::Settings;
 use std::alloc::{AllocError, Global};
@@ -56,12 +57,9 @@ pub fn serve_pipe<D: Disk, N: Namer, C: Clock, L: Link>(
             };
         }
     };
-    let store = match Store::open(alloc, disk, namer) {
+    let store = match open_store(alloc, disk, namer) {
         Ok(store) => store,
-        Err((disk, refusal)) => {
-            let note = note_of_refusal(&refusal);
-            return DoneOnLink { note, disk, link };
-        }
+        Err((disk, note)) => return DoneOnLink { note, disk, link },
     };
     let mut port = DirectPort::new(store);
     let Served { end, link } = serve_connection(

@@ -6,8 +6,9 @@ ghost use Rattle.admin_cli.specs.Run.{IsCause};
 ghost use Rattle.admin_cli.specs.Servers.{counts_of, has_risen, note_of_served, ServesStore};
 
 use crate::asked::interface_of;
-use crate::done::{DoneAtDoors, note_of_refusal};
+use crate::done::DoneAtDoors;
 use crate::note::Note;
+use crate::opening::open_store;
 use caller_doors::Door;
 use disk_trait::Disk;
 use office_store::Store;
@@ -112,10 +113,9 @@ where
             };
         }
     };
-    let store = match Store::open(alloc, disk, namer) {
+    let store = match open_store(alloc, disk, namer) {
         Ok(store) => store,
-        Err((disk, refusal)) => {
-            let note = note_of_refusal(&refusal);
+        Err((disk, note)) => {
             return DoneAtDoors {
                 note,
                 disk,

@@ -214,6 +214,7 @@ module _ {P : Type 0} (moves : P → List Call → P → Type 0) where
         follows = demo_follows number work finished.calls begun finished.follows.follows;
         passed = (refl, finished.follows.passed);
       },
+      (finished.calls, refl),
       summary_is (told_of nothing_told finished.calls) (finished.told nothing_told begun.tally),
     );
   }

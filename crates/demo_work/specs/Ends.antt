@@ -40,9 +40,14 @@ pub record FollowsPassed (script : Script) (calls : List Call) : Type 0 where
   pub follows : Follows script calls
   pub passed : ArePassed calls
 
+-- the first call found no host
+abbrev pub FindsNobody : List Call → Type 0
+FindsNobody calls = (later : List Call) × (calls ≡ (E.Hosts, Ok (A.Hosts [])) ∷ later)
+
 abbrev pub Ends : ℕ → DemoEnd → List Call → Type 0
+-- no host was there, and the summary is of what the calls told
 Ends number (Done summary) calls =
-    FollowsPassed (demo_script number) calls × (summary ≡ summary_of number (told_of nothing_told calls))
+    FollowsPassed (demo_script number) calls × FindsNobody calls × (summary ≡ summary_of number (told_of nothing_told calls))
 -- a host was there, and nothing else was called
 Ends number Occupied calls = (host : List ℕ) × (hosts : List (List ℕ)) × (calls ≡ (E.Hosts, Ok (A.Hosts (host ∷ hosts))) ∷ [])
 Ends number (Refused refusal) calls = FollowsUpTo (demo_script number) refusal calls

@@ -2,7 +2,7 @@ use Rattle.std.proofs.Common.{◌≡◌, Option, refl, subst, inl, inr}
 use Rattle.command_line.specs.declared.line.Work.{Work}
 use Rattle.command_line.specs.Line.{Line, task_of}
 use Rattle.admin_cli.specs.Command.{AsksFor}
-use Rattle.admin_cli.proofs.HeadlineLaws.{runs_refused, runs_pipe, runs_night, runs_dump, runs_restore, runs_doors}
+use Rattle.admin_cli.proofs.HeadlineLaws.{runs_refused, runs_pipe, runs_night, runs_demo, runs_dump, runs_restore, runs_doors}
 use Rattle.admin_cli.proofs.NightLaws.{some_period}
 use Rattle.admin_cli.proofs.RunLaws.{refuses_early}
 use Rattle.admin_cli.proofs.commands.do_asked.Goals as goal
@@ -46,6 +46,14 @@ returns-in-RestoreFolder g c =
     rw c.with_workers-in-RestoreFolder.ensures (inl (
       runs_restore _ _ _ _ _ _ _ _ _ _ _ _ _ _
           (c.restore.ensures _ _ _ _ _ (asks _ _ _ c.in-RestoreFolder.is c.in-Ok.ensures.ok.work) c.in-Ok.ensures.ok.settings_are),
+      refl,
+    ))
+
+pub returns-in-Demo : goal.returns-in-Demo
+returns-in-Demo g c =
+    rw c.with_workers-in-Demo.ensures (inl (
+      runs_demo _ _ _ _ _ _ _ _ _ _ _ _ _ _
+          (c.run_demo.ensures _ _ _ _ (asks _ _ _ c.in-Demo.is c.in-Ok.ensures.ok.work) c.in-Ok.ensures.ok.settings_are) refl,
       refl,
     ))
 

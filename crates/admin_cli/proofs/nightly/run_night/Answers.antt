@@ -5,14 +5,8 @@ use Rattle.admin_cli.proofs.nightly.run_night.Goals as goal
 
 pub returns-in-Err : goal.returns-in-Err
 returns-in-Err g c = λ line bytes asked is.
-    inr (refuses _ _ c.args.disk c.in-Err.disk line bytes _ c.args.settings.now _ _ c.in-Err.refusal c.note_of_refusal-note.result
-    asked is c.note_of_refusal-note.ensures (record {
-      why = c.in-Err.ensures.foreign;
-      spent = c.in-Err.ensures.spent;
-      counted = c.in-Err.ensures.left_counted;
-      left = c.in-Err.ensures.left;
-      crash = c.in-Err.ensures.stops;
-    }))
+    let refused = c.in-Err.ensures.refused in
+    inr (refuses _ _ c.args.disk c.in-Err.disk line bytes _ c.args.settings.now _ _ refused.0 c.in-Err.note asked is refused.1 refused.2)
 
 pub returns : goal.returns
 returns g c = λ line bytes asked is.

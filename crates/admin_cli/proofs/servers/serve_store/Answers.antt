@@ -9,24 +9,19 @@ pub returns-in-Err : goal.returns-in-Err
 returns-in-Err g c = λ line bytes listen connections asked is.
     inr (lacks_memory _ _ c.args.disk line bytes (Serve listen connections) _ asked refl, refl)
 
-pub returns-in-Err-open : goal.returns-in-Err-open
-returns-in-Err-open g c = λ line bytes listen connections asked is.
+pub returns-in-Err-open_store : goal.returns-in-Err-open_store
+returns-in-Err-open_store g c = λ line bytes listen connections asked is.
+    let refused = c.in-Err-open_store.ensures.refused in
     inr (
-      is_cause _ _ c.args.disk c.in-Err-open.disk line bytes _ c.args.settings c.in-Err-open.refusal c.note_of_refusal-note.result
-          asked is c.note_of_refusal-note.ensures (record {
-            why = c.in-Err-open.ensures.foreign;
-            spent = c.in-Err-open.ensures.spent;
-            counted = c.in-Err-open.ensures.left_counted;
-            left = c.in-Err-open.ensures.left;
-            crash = c.in-Err-open.ensures.stops;
-          }),
+      is_cause _ _ c.args.disk c.in-Err-open_store.disk line bytes _ c.args.settings refused.0 c.in-Err-open_store.note asked is refused.1
+          refused.2,
       refl,
     )
 
 pub returns-in_default : goal.returns-in_default
 returns-in_default g c = λ line bytes listen connections asked is.
-    inl (inr (serves_nobody c.args.disk c.in-Ok-open.store c.in-Ok-open.store c.in-Ok-open.ensures.opened c.in-Ok-open.ensures.counted c.in-Ok-open.ensures.listed
-    _ _ _ _ _ line bytes listen connections c.args.settings _ _ _ _ asked is (Moves-none c.in-Ok-open.store)
+    inl (inr (serves_nobody c.args.disk c.in-Ok-open_store.store c.in-Ok-open_store.store c.in-Ok-open_store.ensures.opened c.in-Ok-open_store.ensures.counted c.in-Ok-open_store.ensures.listed
+    _ _ _ _ _ line bytes listen connections c.args.settings _ _ _ _ asked is (Moves-none c.in-Ok-open_store.store)
     (ap (λ w. w.items) c.without_memory.ensures.workers)
     c.without_memory.ensures.disk c.without_memory.ensures.note))
 
@@ -34,14 +29,14 @@ pub returns-in-Err-serve_workers : goal.returns-in-Err-serve_workers
 returns-in-Err-serve_workers g c = λ line bytes listen connections asked is.
     let back = c.in-Err-serve_workers.ensures.err in
     let none = c.without_memory-in-Err-serve_workers.ensures in
-    inl (inr (serves_nobody c.args.disk c.in-Ok-open.store c.in-Ok-open.store c.in-Ok-open.ensures.opened c.in-Ok-open.ensures.counted c.in-Ok-open.ensures.listed
-    _ _ _ _ _ line bytes listen connections c.args.settings _ _ _ _ asked is (Moves-none c.in-Ok-open.store)
+    inl (inr (serves_nobody c.args.disk c.in-Ok-open_store.store c.in-Ok-open_store.store c.in-Ok-open_store.ensures.opened c.in-Ok-open_store.ensures.counted c.in-Ok-open_store.ensures.listed
+    _ _ _ _ _ line bytes listen connections c.args.settings _ _ _ _ asked is (Moves-none c.in-Ok-open_store.store)
     (ap (λ w. w.items) (none.workers ∙ back.1))
     (none.disk ∙ ap (λ store. store.parts.journal.disk) back.0) none.note))
 
 pub returns : goal.returns
 returns g c = λ line bytes listen connections asked is.
-    inl (inl (serves_doors c.args.disk c.in-Ok-open.store c.in-Ok-serve_workers.served.store c.in-Ok-open.ensures.opened c.in-Ok-open.ensures.counted c.in-Ok-open.ensures.listed _ _ _ _ _ _ line bytes listen connections c.args.settings _ _ _ _ _ _ _ asked is c.in-Ok.ensures
+    inl (inl (serves_doors c.args.disk c.in-Ok-open_store.store c.in-Ok-serve_workers.served.store c.in-Ok-open_store.ensures.opened c.in-Ok-open_store.ensures.counted c.in-Ok-open_store.ensures.listed _ _ _ _ _ _ line bytes listen connections c.args.settings _ _ _ _ _ _ _ asked is c.in-Ok.ensures
     c.in-Ok-serve_workers.ensures.ok
     (rw c.as_slice.ensures.value at c.in-Ok-counts_of.ensures)
     (rw (c.as_slice-2.ensures.value, c.as_slice-3.ensures.value) at c.has_risen-failed.ensures)
