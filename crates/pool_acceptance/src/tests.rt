@@ -74,6 +74,30 @@ fn take_in<N: Namer>(
     Ok(pool.match_or_stage(alloc, journal, content))
 }
 
+/// Makes these bytes the file of a stage.
+fn put_stage(journal: &mut Journal<MemoryDisk>, stage: u64, bytes: &[u8]) -> Result<(), Fail> {
+    match journal.stage(FileId::Stage(stage), bytes) {
+        Ok(()) => Ok(()),
+        Err(_) => Err(Fail::new("the stage was not written")),
+    }
+}
+
+/// Takes in the content that was put into a stage.
+fn take_stage_in<N: Namer>(
+    alloc: Global,
+    pool: &mut Pool<N>,
+    journal: &mut Journal<MemoryDisk>,
+    stage: u64,
+    content: &[u8],
+) -> Result<Result<PoolId, PoolFault>, Fail> {
+    if journal.halted() || content.is_empty() {
+        return Err(Fail::new("the journal is halted, or the content empty"));
+    }
+    let digest = pool.namer().name(content);
+    let size = content.len() as u64;
+    Ok(pool.match_or_stage_file(alloc, journal, stage, size, digest))
+}
+
 /// The extension that a content gets.
 fn extension_of<N: Namer>(
     alloc: Global,
@@ -226,7 +250,51 @@ fn contents_of_one_digest_have_extensions(rt: HostRuntime) -> Result<(), Fail> {
     Ok(())
 }
 
-/// The file of a listed name is damaged: its content gets the next extension, and from then on that one.
+/// Contents of one digest, of one, two and three pieces, some of them longer by a byte than others, are told apart whether
+/// they come from a stage or from memory.
+#[test]
+fn a_stage_is_compared_and_copied_piece_by_piece(rt: HostRuntime) -> Result<(), Fail> {
+    let alloc = rt.alloc();
+    let mut journal = journal_of(alloc, &[])?;
+    let mut pool = opened(alloc, &mut journal, FirstByteNamer)?;
+    let digest = FirstByteNamer.name(&[7]);
+    let rows: [(usize, u16); 7] = [
+        (1, 0),
+        (65_535, 1),
+        (65_536, 2),
+        (65_537, 3),
+        (131_072, 4),
+        (131_073, 5),
+        (150_000, 6),
+    ];
+    for (length, extension) in &rows {
+        let content = vec![in alloc; 7u8; *length]?;
+        put_stage(&mut journal, 3, content.as_slice())?;
+        let id = PoolId {
+            digest,
+            extension: *extension,
+        };
+        for _ in 0..2 {
+            match take_stage_in(alloc, &mut pool, &mut journal, 3, content.as_slice())? {
+                Ok(found) => assert!(rt; found == id),
+                Err(fault) => return Err(Fail::new(format_args!("{fault}"))),
+            }
+        }
+        assert_eq!(rt;
+            extension_of(alloc, &mut pool, &mut journal, content.as_slice())?,
+            *extension
+        );
+        match read(alloc, &pool, &mut journal, id)? {
+            Ok(bytes) => assert_eq!(rt; bytes.as_slice(), content.as_slice()),
+            Err(_) => return Err(Fail::new("damaged")),
+        }
+    }
+    Ok(())
+}
+
+/// The file of a listed name is damaged: its content gets the next extension, and from then on that one, from memory and
+/// from a stage. Reads of the listed name go on answering what was found. A stage whose file is shorter than what was put
+/// into it, or absent, is foreign.
 #[test]
 fn a_damaged_file_is_passed_over(rt: HostRuntime) -> Result<(), Fail> {
     let alloc = rt.alloc();
@@ -235,13 +303,33 @@ fn a_damaged_file_is_passed_over(rt: HostRuntime) -> Result<(), Fail> {
         &[
             (FileId::PoolBucket(0x5d), BUCKET),
             (FileId::Pool(HELLO), b"hellO"),
+            (FileId::Stage(0), b"hello"),
+            (FileId::Stage(1), b"worl"),
         ],
     )?;
     let mut pool = opened(alloc, &mut journal, Md5Namer)?;
     assert_eq!(rt; extension_of(alloc, &mut pool, &mut journal, b"hello")?, 1);
     assert_eq!(rt; extension_of(alloc, &mut pool, &mut journal, b"hello")?, 1);
+    let stages: [(u64, &[u8], Option<u16>); 3] = [
+        (0, b"hello", Some(1)),
+        (1, b"world", None),
+        (2, b"other", None),
+    ];
+    for (stage, content, extension) in stages {
+        match take_stage_in(alloc, &mut pool, &mut journal, stage, content)? {
+            Ok(id) => assert!(rt; Some(id.extension) == extension),
+            Err(PoolFault::Foreign { file, found: _ }) => {
+                assert!(rt; extension.is_none() && file == FileId::Stage(stage));
+            }
+            Err(fault) => return Err(Fail::new(format_args!("{fault}"))),
+        }
+    }
     assert!(rt; !holds(alloc, &pool, &mut journal, HELLO, b"hello")?);
     assert!(rt; holds(alloc, &pool, &mut journal, HELLO, b"hellO")?);
+    match read(alloc, &pool, &mut journal, HELLO)? {
+        Err(found) => assert_eq!(rt; found.as_slice(), b"hellO".as_slice()),
+        Ok(_) => return Err(Fail::new("a damaged content was read")),
+    }
     Ok(())
 }
 
