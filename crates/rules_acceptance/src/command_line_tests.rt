@@ -8,7 +8,7 @@ struct Taken {
     says: &'static str,
 }
 
-static TAKEN: [Taken; 27] = [
+static TAKEN: [Taken; 30] = [
     Taken {
         words: "b pipe --store S",
         says: "Pipe S None",
@@ -117,9 +117,21 @@ static TAKEN: [Taken; 27] = [
         words: "b restore-folder --store S --host a --number +7 F",
         says: "RestoreFolder { host: HostName { bytes: [97] }, number: 7, folder: \"F\" } S None",
     },
+    Taken {
+        words: "b demo --store S 1",
+        says: "Demo { number: 1 } S None",
+    },
+    Taken {
+        words: "b demo 18446744073709551615 --settings F --store S",
+        says: "Demo { number: 18446744073709551615 } S Some(\"F\")",
+    },
+    Taken {
+        words: "b demo --store S +07",
+        says: "Demo { number: 7 } S None",
+    },
 ];
 
-static REFUSED: [&str; 74] = [
+static REFUSED: [&str; 82] = [
     "b",
     "b frob",
     "b frob --store S",
@@ -194,6 +206,14 @@ static REFUSED: [&str; 74] = [
     "b restore-folder --store S --host a --number 1",
     "b restore-folder --store S --host a --number 1 F G",
     "b restore-folder --store S --host a --number 1 --kind full F",
+    "b demo",
+    "b demo 1",
+    "b demo --store S",
+    "b demo --store S 1 2",
+    "b demo --store S 18446744073709551616",
+    "b demo --store S -1",
+    "b demo --store S x",
+    "b demo --store S --number 1",
 ];
 
 fn words_of(alloc: Global, line: &str) -> Result<Vec<String>, AllocError> {
@@ -249,6 +269,10 @@ fn says_what_is_wrong(rt: HostRuntime) -> Result<(), AllocError> {
         (
             "b restore-folder --store S --host a --number 4294967296 F",
             "error: invalid value '4294967296' for '--number <number>': 4294967296 is not in 0..=4294967295\n",
+        ),
+        (
+            "b demo --store S 18446744073709551616",
+            "error: invalid value '18446744073709551616' for '<number>': number too large to fit in target type\n",
         ),
         ("b dump-folder --store S --host A --kind full F", ""),
         ("b pipe --store S", ""),
