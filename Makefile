@@ -1,4 +1,4 @@
-# make build   proves the program's crates and compiles bin/backup_server, if it is out of date: a first build takes 30 to 40 minutes
+# make build   proves the program's crates and compiles bin/backup_server, if it is out of date: a first build takes 30 to 60 minutes
 # make demo    backs up two files into a fresh store and gives one back: each request, and what came of it
 # make test    the gate, and then the scripts of tests/ on the program that it built: tests/crash.sh and tests/serve.sh take some minutes each
 # make install copies program, client, units, man page and settings below PREFIX (/usr/local): DESTDIR=FOLDER puts a folder before
