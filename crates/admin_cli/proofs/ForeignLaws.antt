@@ -138,7 +138,7 @@ module _ {D N S : Type 0} {d : DiskGhosts D} {n : NamerGhosts N S} where
         };
       }
   table_of mid new (E.Clean bucket) file found of_night says = absurd says.1
-  table_of mid new E.Sweep file found of_night says = absurd says.1
+  table_of mid new E.Sweep file found of_night says = absurd says.1.0
   table_of mid new event file found of_night says = absurd of_night
 
   by_refusal : (old new : Store D N S d n) (calls : List Call) (moment : ℕ) (day : ℤ) (period : ℕ) (file : FileId)

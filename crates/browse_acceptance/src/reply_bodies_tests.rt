@@ -65,6 +65,12 @@ fn what_was_done_has_its_body(rt: HostRuntime) -> Result<(), Fail> {
     let text = "{\"restore\":\"18446744073709551615-0\"}";
     expect_json(alloc, &sweep, Answer::Restore(DUMP), text)?;
     expect_json(alloc, &sweep, Answer::Committed(0), "{\"number\":0}")?;
+    expect_json(alloc, &sweep, Answer::Stage(7), "{\"stage\":7}")?;
+    let opened = Answer::Opened {
+        reader: 3,
+        size: 12,
+    };
+    expect_json(alloc, &sweep, opened, "{\"reader\":3,\"size\":12}")?;
     expect_json(alloc, &sweep, Answer::Expired(12), "{\"deleted\":12}")?;
     expect_json(alloc, &sweep, Answer::Reopened(2), "{\"epoch\":2}")
 }

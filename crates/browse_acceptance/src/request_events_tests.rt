@@ -3,7 +3,7 @@ use backup_rules::{Rules, Setting};
 use http_heads::{Front, read_front};
 use http_query::QueryRule;
 use http_routes::{Route, router};
-use office_model::Event;
+use office_model::{Event, PutItem};
 use request_events::*;
 use std::alloc::Global;
 use std::test::Fail;
@@ -189,7 +189,7 @@ fn expect_put(alloc: Global, query: &str, wanted: (u16, u32, u32)) -> Result<(),
         Event::Put {
             dump,
             path: _,
-            item,
+            item: PutItem::Whole(item),
         },
     ) = asked(alloc, head.as_str(), b"hello", &defaults)
     else {

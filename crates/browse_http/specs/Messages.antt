@@ -85,6 +85,7 @@ rule_status B.NotAFile = 409
 rule_status B.NotADirectory = 409
 rule_status B.Kept = 409
 rule_status B.BadBucket = 422
+rule_status B.BadPiece = 400
 
 abbrev pub refusal_status : Refusal → ℕ
 refusal_status (R.Broken rule) = rule_status rule
@@ -102,6 +103,8 @@ abbrev pub answer_status : Event → Answer → ℕ
 answer_status event A.Done = done_status event
 answer_status event (A.Dump name) = 201
 answer_status event (A.Committed number) = 201
+answer_status event (A.Stage number) = 201
+answer_status event (A.Opened reader size) = 201
 answer_status event (A.Restore name) = 201
 answer_status event _ = 200
 
@@ -151,9 +154,10 @@ answer_json event answer =
     unwrap_or (option_map (λ fields. object_text fields) (short_fields event answer))
     (unwrap_or (option_map (λ value. json_text value) (long_data answer)) [])
 
--- the message of an answer: the bytes of a file or of a frame, or JSON
+-- the message of an answer: the bytes of a file, of a part of it or of a frame, or JSON
 abbrev pub answer_message : Event → Answer → Bool → Bool → Message
 answer_message event (A.Content bytes) closes is_head = bytes_message bytes closes is_head
+answer_message event (A.Part bytes) closes is_head = bytes_message bytes closes is_head
 answer_message event (A.Next frame) closes is_head = bytes_message (frame_bytes frame) closes is_head
 answer_message event answer closes is_head = json_message (answer_status event answer) (answer_json event answer) None closes is_head
 

@@ -107,7 +107,7 @@ pub fn write_refusal<L: Link>(
     )
 }
 
-/// Writes the bytes of a file, as they lie in the answer.
+/// Writes the bytes of a file or of a part of it, as they lie in the answer.
 fn write_bytes<L: Link>(
     wire: &mut Wire<L>,
     body: &[u8],
@@ -176,6 +176,7 @@ fn write_answer<L: Link>(
     }
     match answer {
         Answer::Content(bytes) => write_bytes(wire, bytes.as_slice(), closes, is_head),
+        Answer::Part(bytes) => write_bytes(wire, bytes.as_slice(), closes, is_head),
         _ => unreachable!(),
     }
 }

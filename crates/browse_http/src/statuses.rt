@@ -74,6 +74,7 @@ fn rule_status(rule: BrokenRule) -> StatusCode
         BrokenRule::NotADirectory => StatusCode::CONFLICT,
         BrokenRule::Kept => StatusCode::CONFLICT,
         BrokenRule::BadBucket => StatusCode::UNPROCESSABLE_ENTITY,
+        BrokenRule::BadPiece => StatusCode::BAD_REQUEST,
     }
 }
 
@@ -123,6 +124,8 @@ pub fn answer_status(event: &Event, answer: &Answer) -> StatusCode
         Answer::Done => done_status(event),
         Answer::Dump(_) => StatusCode::CREATED,
         Answer::Committed(_) => StatusCode::CREATED,
+        Answer::Stage(_) => StatusCode::CREATED,
+        Answer::Opened { .. } => StatusCode::CREATED,
         Answer::Restore(_) => StatusCode::CREATED,
         _ => StatusCode::OK,
     }

@@ -17,6 +17,7 @@ use Rattle.tree_frames.specs.declared.nodes.Frame.TheVariants.{Entry, Piece, End
 use Rattle.office_model.specs.declared.session.SessionName.{SessionName}
 use Rattle.office_model.specs.declared.event.Event.{Event}
 use Rattle.office_model.specs.declared.event.Event.TheVariants as E
+use Rattle.office_model.specs.declared.event.PutItem.TheVariants.{Whole}
 use Rattle.office_model.specs.declared.answer.Answer.{Answer}
 use Rattle.office_model.specs.declared.answer.Answer.TheVariants as A
 use Rattle.office_model.specs.declared.refusal.Refusal.{Refusal}
@@ -73,8 +74,8 @@ demo_rules = changed default_rules demo_change
 abbrev pub event_of : SessionName → Ask → Event
 event_of dump (Q.AddHost host) = E.AddHost (host_name host) demo_rules
 event_of dump (Q.OpenDump host kind now) = E.OpenDump (host_name host) kind now
-event_of dump (Q.PutDir dir) = E.Put dump (dir_path dir) dir_item
-event_of dump (Q.PutFile dir file value times) = E.Put dump (file_path dir file) (file_item value times)
+event_of dump (Q.PutDir dir) = E.Put dump (dir_path dir) (Whole dir_item)
+event_of dump (Q.PutFile dir file value times) = E.Put dump (file_path dir file) (Whole (file_item value times))
 event_of dump (Q.Remove dir file) = E.Remove dump (file_path dir file)
 event_of dump (Q.Commit now) = E.Commit dump now
 event_of dump (Q.Expire host now) = E.Expire (host_name host) now

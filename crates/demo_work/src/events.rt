@@ -2,13 +2,14 @@
 
 ghost use Rattle.std.specs.Prelude.{◌≡◌, IfOk};
 ghost use Rattle.office_model.specs.declared.event.Event.TheVariants as E;
+ghost use Rattle.office_model.specs.declared.event.PutItem.TheVariants.{Whole};
 ghost use Rattle.demo_work.specs.Asks.{host_name, dir_path, file_path, word_of, repeated, file_item, dir_item, demo_rules, event_of};
 
 use crate::asks::Ask;
 use attr_records::{Attr, Dir, File, HostName, Item, PathName};
 use backup_rules::{KeepCounts, Kind, RuleChange, Rules, Setting};
 use disk_trait::Bytes;
-use office_model::{Event, SessionName};
+use office_model::{Event, PutItem, SessionName};
 use short_text::ShortText;
 use std::alloc::{AllocError, Global};
 use stream_traits::Moment;
@@ -131,12 +132,12 @@ fn open_dump(alloc: Global, host: u64, kind: Kind, now: Moment) -> Result<Event,
 
 /// A directory with the default attributes is put.
 fn put_dir(alloc: Global, dump: SessionName, dir: u64) -> Result<Event, AllocError>
-    ensures { IfOk result (λ event. event ≡ E.Put dump (dir_path dir) dir_item) }
+    ensures { IfOk result (λ event. event ≡ E.Put dump (dir_path dir) (Whole dir_item)) }
 {
     let path = dir_path(alloc, dir)?;
-    let item = Item::Dir(Dir {
+    let item = PutItem::Whole(Item::Dir(Dir {
         attr: Attr::dir_default(),
-    });
+    }));
     Ok(Event::Put { dump, path, item })
 }
 
@@ -149,10 +150,10 @@ fn put_file(
     value: u64,
     times: u64,
 ) -> Result<Event, AllocError>
-    ensures { IfOk result (λ event. event ≡ E.Put dump (file_path dir file) (file_item value times)) }
+    ensures { IfOk result (λ event. event ≡ E.Put dump (file_path dir file) (Whole (file_item value times))) }
 {
     let path = file_path(alloc, dir, file)?;
-    let item = file_item(alloc, value, times)?;
+    let item = PutItem::Whole(file_item(alloc, value, times)?);
     Ok(Event::Put { dump, path, item })
 }
 

@@ -82,7 +82,7 @@ fn carry_out<N: Namer>(
         Event::ReadNext { restore } => read_next(parts, alloc, *restore),
         Event::CloseRead { restore } => close_read(parts, *restore),
         Event::Clean { bucket } => clean(parts, alloc, *bucket),
-        Event::Sweep => sweep(parts),
+        Event::Sweep => sweep(parts, alloc),
         _ => Err(Refusal::Halted),
     }
 }

@@ -5,6 +5,7 @@ use Rattle.attr_records.specs.Items.{Tree}
 use Rattle.backup_rules.specs.declared.lines.Kind.{Kind}
 use Rattle.office_model.specs.declared.session.SessionName.{SessionName}
 use Rattle.office_model.specs.declared.event.Event.TheVariants as E
+use Rattle.office_model.specs.declared.event.PutItem.TheVariants.{Whole}
 use Rattle.office_model.specs.declared.answer.Answer.TheVariants as A
 use Rattle.tree_frames.specs.declared.nodes.Frame.{Frame}
 use Rattle.tree_frames.specs.declared.nodes.Frame.TheVariants.{Entry, Piece, End}
@@ -16,7 +17,7 @@ open_call host kind now dump = (E.OpenDump host kind now, Ok (A.Dump dump))
 
 -- a row was put
 abbrev pub put_call : SessionName → List ℕ × Item → Call
-put_call dump row = (E.Put dump row.0 row.1, Ok A.Done)
+put_call dump row = (E.Put dump row.0 (Whole row.1), Ok A.Done)
 
 abbrev pub put_calls : SessionName → Tree → List Call
 put_calls dump rows = map (put_call dump) rows

@@ -5,6 +5,7 @@ use Rattle.attr_records.specs.Items.{Tree}
 use Rattle.backup_rules.specs.declared.lines.Kind.TheVariants.{Full}
 use Rattle.office_model.specs.declared.session.SessionName.{SessionName}
 use Rattle.office_model.specs.declared.event.Event.TheVariants as E
+use Rattle.office_model.specs.declared.event.PutItem.TheVariants.{Whole}
 use Rattle.office_model.specs.declared.answer.Answer.TheVariants as A
 use Rattle.office_model.specs.Office.{Office, Names, IsSound}
 use Rattle.office_model.specs.Step.{Call, State, Running}
@@ -32,7 +33,7 @@ pub after_puts : (rows : Tree) (office : Office) (names : Names) (faults : ℕ) 
 after_puts [] office names faults dump name tree more state' faults' sound has leads =
     record { office = office; names = names; faults = faults; sound = sound; has = has; rest = leads }
 after_puts (row ∷ rows) office names faults dump name tree more state' faults' sound has leads =
-    let a = answered office names faults (E.Put dump row.0 row.1) A.Done (put_calls dump rows ++ more) state' faults' leads in
+    let a = answered office names faults (E.Put dump row.0 (Whole row.1)) A.Done (put_calls dump rows ++ more) state' faults' leads in
     after_puts rows a.after a.after_names a.faults dump name _ more state' faults' a.sound
     (put_step office names dump name tree row.0 row.1 A.Done a.after sound has a.carried) a.rest
 

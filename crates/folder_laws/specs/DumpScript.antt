@@ -10,6 +10,7 @@ use Rattle.backup_rules.specs.declared.lines.Kind.TheVariants.{Full, Incr}
 use Rattle.office_model.specs.declared.session.SessionName.{SessionName}
 use Rattle.office_model.specs.declared.event.Event.{Event}
 use Rattle.office_model.specs.declared.event.Event.TheVariants as E
+use Rattle.office_model.specs.declared.event.PutItem.TheVariants.{Whole}
 use Rattle.office_model.specs.declared.answer.Answer.TheVariants as A
 use Rattle.call_scripts.specs.Scripts.{Script, each_of}
 use Rattle.folder_laws.specs.declared.known.Known.{Known}
@@ -17,7 +18,7 @@ use Rattle.folder_laws.specs.Compares.{root}
 use Rattle.folder_laws.specs.Lists.{gone_from, known_from, last_line}
 
 abbrev pub put_events : SessionName → Tree → List Event
-put_events dump rows = map (λ (row : List ℕ × Item). E.Put dump row.0 row.1) rows
+put_events dump rows = map (λ (row : List ℕ × Item). E.Put dump row.0 (Whole row.1)) rows
 
 abbrev pub remove_events : SessionName → List (List ℕ) → List Event
 remove_events dump paths = map (E.Remove dump) paths

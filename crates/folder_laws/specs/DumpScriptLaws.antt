@@ -9,6 +9,7 @@ use Rattle.office_model.specs.declared.session.SessionName.{SessionName}
 use Rattle.office_model.specs.declared.answer.NamedNode.{NamedNode}
 use Rattle.office_model.specs.declared.event.Event.{Event}
 use Rattle.office_model.specs.declared.event.Event.TheVariants as E
+use Rattle.office_model.specs.declared.event.PutItem.TheVariants.{Whole}
 use Rattle.office_model.specs.declared.answer.Answer.TheVariants as A
 use Rattle.office_model.specs.Step.{Call}
 use Rattle.call_scripts.specs.Scripts.{each_of, behind, Begins, events_of, AreAnswered}
@@ -22,7 +23,7 @@ use Rattle.folder_laws.specs.DumpScript.{put_events, remove_events, list_script,
 
 pub events_of-puts : (dump : SessionName) (rows : Tree) → events_of (put_calls dump rows) ≡ put_events dump rows
 events_of-puts dump [] = refl
-events_of-puts dump (row ∷ rows) = ap (λ events. E.Put dump row.0 row.1 ∷ events) (events_of-puts dump rows)
+events_of-puts dump (row ∷ rows) = ap (λ events. E.Put dump row.0 (Whole row.1) ∷ events) (events_of-puts dump rows)
 
 pub AreAnswered-puts : (dump : SessionName) (rows : Tree) → AreAnswered (put_calls dump rows)
 AreAnswered-puts dump [] = tt

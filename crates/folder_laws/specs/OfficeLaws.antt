@@ -14,6 +14,7 @@ use Rattle.attr_records.specs.Trees.{with_node}
 use Rattle.attr_records.specs.Trees as Trees
 use Rattle.backup_rules.specs.declared.lines.Kind.{Kind}
 use Rattle.office_model.specs.declared.session.SessionName.{SessionName}
+use Rattle.office_model.specs.declared.event.PutItem.TheVariants.{Whole}
 use Rattle.office_model.specs.declared.answer.Answer.{Answer}
 use Rattle.office_model.specs.declared.answer.Answer.TheVariants as A
 use Rattle.office_model.specs.declared.refusal.BrokenRule.TheVariants.{Put as PutRule, NoSession}
@@ -86,11 +87,11 @@ retreed office session name tree tree' has = record {
 -- a put that was answered
 pub put_step : (office : Office) (names : Names) (session : SessionName) (name : List ℕ) (tree : Tree) (path : List ℕ) (item : Item)
     (answer : Answer) (after : Office) → IsSound office → HasDump office session name tree
-    → PutEvent.carried session path item office names ≡ Ok (record { answer = answer; after = after })
+    → PutEvent.carried session path (Whole item) office names ≡ Ok (record { answer = answer; after = after })
     → HasDump after session name (with_node tree path item)
 put_step office names session name tree path item answer after sound has e =
     let full : Bool = PutEvent.is_chain_full office.pool office.dumps names (content_of item) in
-    let w = bound (PutEvent.with_put session path item full office.dumps) (λ dumps. Ok (record { answer = A.Done; after = with_dumps office dumps })) _ e in
+    let w = bound (PutEvent.with_put is_large session path item full office.dumps) (λ dumps. Ok (record { answer = A.Done; after = with_dumps office dumps })) _ e in
     let a = bound (dump_at office.dumps session) _ w.0 w.1 in
     let same = asked_dump office session name tree sound has a.0 a.1 in
     let b = kept (option_map PutRule (Trees.broken_put is_dir is_large a.0.value.tree path item)) _ w.0 a.2 in
@@ -204,7 +205,7 @@ pub commit_step : (office : Office) (session : SessionName) (name : List ℕ) (t
     → Shows after name number tree
 commit_step office session name tree now number after sound sound' has e =
     let w = bound (CommitEvent.committed session now office.hosts office.pool office.dumps)
-    (λ parts. Ok (record { answer = A.Committed parts.number; after = CommitEvent.after office parts })) _ e in
+    (λ parts. Ok (record { answer = A.Committed parts.number; after = CommitEvent.after session office parts })) _ e in
     let a = bound (dump_at office.dumps session) _ w.0 w.1 in
     let same = asked_dump office session name tree sound has a.0 a.1 in
     let b = bound (found NoSession (slice_get office.hosts a.0.value.host)) _ w.0 a.2 in
@@ -218,7 +219,7 @@ commit_step office session name tree now number after sound sound' has e =
       dumps = remove office.dumps a.0.index;
     } in
     let made_is : made ≡ w.0 = let f : Ok made ≡ Ok w.0 = b.2 in cc in
-    let after_is : CommitEvent.after office w.0 ≡ after = after_of _ (A.Committed number) _ after w.2 in
+    let after_is : CommitEvent.after session office w.0 ≡ after = after_of _ (A.Committed number) _ after w.2 in
     let number_is : b.0.next ≡ number = ap (λ (c : CommitEvent.Committing). c.number) made_is ∙ committed_is _ _ (answer_of _ (A.Committed number) _ after w.2) in
     let host' : Host = CommitEvent.with_commit b.0 a.0.value now in
     let hosts_are : slice_set office.hosts a.0.value.host host' ≡ after.hosts =

@@ -11,6 +11,7 @@ use Rattle.stream_traits.specs.Moments.{first_moment, after_reading}
 use Rattle.office_model.specs.declared.session.SessionName.{SessionName}
 use Rattle.office_model.specs.declared.event.Event.{Event}
 use Rattle.office_model.specs.declared.event.Event.TheVariants as E
+use Rattle.office_model.specs.declared.event.PutItem.TheVariants.{Whole}
 use Rattle.office_model.specs.declared.answer.Answer.TheVariants as A
 use Rattle.office_model.specs.declared.refusal.Refusal.{Refusal}
 use Rattle.office_model.specs.Meaning.{Reply}
@@ -45,18 +46,18 @@ begins_puts dump done rest events calls None are =
     events_are =
         ap (λ es. es ++ (put_events dump rest ++ events)) (events_of-puts dump done)
         ∙ sym (append_assoc (put_events dump done) (put_events dump rest) events)
-        ∙ ap (λ es. es ++ events) (sym (map-append (λ (row : List ℕ × Item). E.Put dump row.0 row.1) done rest))
+        ∙ ap (λ es. es ++ events) (sym (map-append (λ (row : List ℕ × Item). E.Put dump row.0 (Whole row.1)) done rest))
 begins_puts dump done rest events calls (Some refusal) are =
     subst (λ cs. Begins (each_of (put_events dump (done ++ rest) ++ events)) cs) (sym are.3)
-    (subst (λ es. Begins (each_of es) (put_calls dump done ++ (E.Put dump are.0.0 are.0.1, Err refusal) ∷ [])) events_are
-    (begins_refused (put_calls dump done) (E.Put dump are.0.0 are.0.1) refusal (put_events dump are.1 ++ events) (AreAnswered-puts dump done)))
+    (subst (λ es. Begins (each_of es) (put_calls dump done ++ (E.Put dump are.0.0 (Whole are.0.1), Err refusal) ∷ [])) events_are
+    (begins_refused (put_calls dump done) (E.Put dump are.0.0 (Whole are.0.1)) refusal (put_events dump are.1 ++ events) (AreAnswered-puts dump done)))
   where
-    events_are : events_of (put_calls dump done) ++ E.Put dump are.0.0 are.0.1 ∷ (put_events dump are.1 ++ events)
+    events_are : events_of (put_calls dump done) ++ E.Put dump are.0.0 (Whole are.0.1) ∷ (put_events dump are.1 ++ events)
         ≡ put_events dump (done ++ rest) ++ events
     events_are =
         ap (λ es. es ++ (put_events dump (are.0 ∷ are.1) ++ events)) (events_of-puts dump done)
         ∙ sym (append_assoc (put_events dump done) (put_events dump (are.0 ∷ are.1)) events)
-        ∙ ap (λ es. es ++ events) (sym (map-append (λ (row : List ℕ × Item). E.Put dump row.0 row.1) done (are.0 ∷ are.1)))
+        ∙ ap (λ es. es ++ events) (sym (map-append (λ (row : List ℕ × Item). E.Put dump row.0 (Whole row.1)) done (are.0 ∷ are.1)))
         ∙ ap (λ rows. put_events dump (done ++ rows) ++ events) (sym are.2)
 
 -- all puts, and a commit that was refused

@@ -11,6 +11,7 @@ use Rattle.folder_trait.specs.declared.found.FoundFile.{FoundFile}
 use Rattle.folder_trait.specs.Folders.{found_of, IsReading}
 use Rattle.office_model.specs.declared.session.SessionName.{SessionName}
 use Rattle.office_model.specs.declared.event.Event.TheVariants as E
+use Rattle.office_model.specs.declared.event.PutItem.TheVariants.{Whole}
 use Rattle.office_model.specs.declared.answer.Answer.TheVariants as A
 use Rattle.office_model.specs.Step.{Call}
 use Rattle.folder_laws.specs.Calls.{put_call}
@@ -70,23 +71,23 @@ module _ {P : Type 0} (moves : P → List Call → P → Type 0) (none : (p : P)
   }
 
   -- it was put
-  pub puts_one : (item : Item) → moves old ((E.Put dump path item, Ok A.Done) ∷ []) new → IsItemThere told path node (Some item)
+  pub puts_one : (item : Item) → moves old ((E.Put dump path (Whole item), Ok A.Done) ∷ []) new → IsItemThere told path node (Some item)
       → PutsEntry moves old new told dump path node (Ok tt)
   puts_one item moved there = record {
-    calls = (E.Put dump path item, Ok A.Done) ∷ [];
+    calls = (E.Put dump path (Whole item), Ok A.Done) ∷ [];
     moved = moved;
     so = tt;
     ends = λ tree is other at found. ap (λ x. put_call dump (path, x) ∷ []) (some_injects (there tree is other at found));
   }
 
   -- it was refused
-  pub puts_refused : (item : Item) (fault : DumpRefusal) → IsCallFault moves old new (E.Put dump path item) fault → IsItemThere told path node (Some item)
+  pub puts_refused : (item : Item) (fault : DumpRefusal) → IsCallFault moves old new (E.Put dump path (Whole item)) fault → IsItemThere told path node (Some item)
       → PutsEntry moves old new told dump path node (Err fault)
   puts_refused item (D.Refused refusal) moved there = record {
-    calls = (E.Put dump path item, Err refusal) ∷ [];
+    calls = (E.Put dump path (Whole item), Err refusal) ∷ [];
     moved = moved;
     so = (refl, refl);
-    ends = λ tree is other at found. ap (λ x. (E.Put dump path x, Err refusal) ∷ []) (some_injects (there tree is other at found));
+    ends = λ tree is other at found. ap (λ x. (E.Put dump path (Whole x), Err refusal) ∷ []) (some_injects (there tree is other at found));
   }
   puts_refused item (D.BadPath rule) moved there = absurd moved
   puts_refused item D.BadTarget moved there = absurd moved

@@ -22,6 +22,7 @@ use Rattle.folder_laws.specs.WalkLaws.{first_open, open_more, open_first, node_b
 use Rattle.folder_laws.specs.Calls.{put_call, put_calls}
 use Rattle.office_model.specs.declared.session.SessionName.{SessionName}
 use Rattle.office_model.specs.declared.event.Event.TheVariants as E
+use Rattle.office_model.specs.declared.event.PutItem.TheVariants.{Whole}
 use Rattle.office_model.specs.Step.{Call}
 use Rattle.folder_walk.specs.declared.rows.Row.{Row}
 use Rattle.folder_walk.specs.declared.refusals.DumpRefusal.{DumpRefusal}
@@ -176,7 +177,7 @@ module _ (dump : SessionName) (tree : Tree) (is_tree : IsTree is_dir tree) where
         rest = n.next ∷ n.later;
         split = n.split;
         ends = subst (λ (r : Option Refusal). PutsFail dump n.done (n.next ∷ n.later) (calls ++ more) r) (sym is)
-            (n.next, n.later, refl, (λ i. n.asked i ++ (e ∙ ap (λ p. (E.Put dump p n.next.1, Err refusal) ∷ []) path_is) i));
+            (n.next, n.later, refl, (λ i. n.asked i ++ (e ∙ ap (λ p. (E.Put dump p (Whole n.next.1), Err refusal) ∷ []) path_is) i));
       }
 
 -- answered calls come before

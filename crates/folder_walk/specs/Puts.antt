@@ -11,6 +11,7 @@ use Rattle.folder_laws.specs.Calls.{put_call, put_calls}
 use Rattle.office_model.specs.declared.session.SessionName.{SessionName}
 use Rattle.office_model.specs.declared.event.Event.{Event}
 use Rattle.office_model.specs.declared.event.Event.TheVariants as E
+use Rattle.office_model.specs.declared.event.PutItem.TheVariants.{Whole}
 use Rattle.office_model.specs.declared.refusal.Refusal.{Refusal}
 use Rattle.office_model.specs.Step.{Call}
 use Rattle.call_scripts.specs.Scripts.{AreAnswered, EndRefused}
@@ -41,7 +42,7 @@ EndSo (Err fault) calls = AnsweredOr (refusal_of fault) calls
 -- the call of a row that failed: it was refused; else it wasn't made, or was made before something else failed
 abbrev pub PutFails : SessionName → List ℕ × Item → List Call → Option Refusal → Type 0
 PutFails dump row calls None = (calls ≡ []) ⊎ (calls ≡ put_call dump row ∷ [])
-PutFails dump row calls (Some refusal) = calls ≡ (E.Put dump row.0 row.1, Err refusal) ∷ []
+PutFails dump row calls (Some refusal) = calls ≡ (E.Put dump row.0 (Whole row.1), Err refusal) ∷ []
 
 -- the put of one row
 abbrev pub PutEnds : SessionName → List ℕ × Item → List Call → Result ⊤ DumpRefusal → Type 0
@@ -94,7 +95,7 @@ abbrev pub PutsFail : SessionName → Tree → Tree → List Call → Option Ref
 PutsFail dump done rest calls None = calls ≡ put_calls dump done
 PutsFail dump done rest calls (Some refusal) =
     (row : List ℕ × Item) × (more : Tree) × (rest ≡ row ∷ more)
-    × (calls ≡ put_calls dump done ++ (E.Put dump row.0 row.1, Err refusal) ∷ [])
+    × (calls ≡ put_calls dump done ++ (E.Put dump row.0 (Whole row.1), Err refusal) ∷ [])
 
 -- the calls are puts of the first rows; of all, if it is Ok
 abbrev pub PutAllEnds : SessionName → Tree → Tree → List Call → Result ⊤ DumpRefusal → Type 0

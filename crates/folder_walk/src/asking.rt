@@ -1,6 +1,6 @@
 //! The calls of a dump, one each.
 
-ghost use Rattle.std.specs.Prelude.{◌≢◌, [], ◌∷◌, Option, Ok, IfOk, IfErr, OnOk};
+ghost use Rattle.std.specs.Prelude.{◌≡◌, ◌≢◌, [], ◌∷◌, Option, Ok, IfOk, IfErr, OnOk};
 ghost use Rattle.std.specs.Option.{option_copied};
 ghost use Rattle.attr_records.specs.Items.{Tree};
 ghost use Rattle.office_model.specs.declared.event.Event.TheVariants as E;
@@ -14,7 +14,7 @@ use crate::refusals::DumpRefusal;
 use attr_records::{HostName, PathName};
 use backup_rules::Kind;
 use office_model::{Answer, EntryList, Event, Port, SessionName};
-use std::alloc::Global;
+use std::alloc::{AllocError, Global};
 use stream_traits::Moment;
 
 /// Opens a dump.
@@ -101,6 +101,19 @@ pub(crate) fn last_number<P: Port>(
     }
 }
 
+/// The path of a directory, once more.
+fn copy_directory(
+    alloc: Global,
+    directory: Option<&PathName>,
+) -> Result<Option<PathName>, AllocError>
+    ensures { IfOk result (λ copy. copy ≡ option_copied directory.entry) }
+{
+    match directory {
+        None => Ok(None),
+        Some(directory) => Ok(Some(directory.copy(alloc)?)),
+    }
+}
+
 /// What lies in a directory of a backup.
 pub(crate) fn ask_list<P: Port>(
     alloc: Global,
@@ -117,12 +130,8 @@ pub(crate) fn ask_list<P: Port>(
     let Ok(host) = host.copy(alloc) else {
         return Err(DumpRefusal::Memory);
     };
-    let directory = match directory {
-        None => None,
-        Some(directory) => match directory.copy(alloc) {
-            Ok(directory) => Some(directory),
-            Err(_) => return Err(DumpRefusal::Memory),
-        },
+    let Ok(directory) = copy_directory(alloc, directory) else {
+        return Err(DumpRefusal::Memory);
     };
     let event = Event::List {
         host,

@@ -8,6 +8,7 @@ ghost use Rattle.attr_records.specs.Trees.{node_at};
 ghost use Rattle.folder_trait.specs.declared.found.FoundNode.TheVariants as N;
 ghost use Rattle.folder_trait.specs.Folders.{found_of};
 ghost use Rattle.office_model.specs.declared.event.Event.TheVariants as E;
+ghost use Rattle.office_model.specs.declared.event.PutItem.TheVariants.{Whole};
 ghost use Rattle.office_model.specs.declared.answer.Answer.TheVariants as A;
 ghost use Rattle.folder_walk.specs.Rows.{rows_found, is_dir_node};
 ghost use Rattle.folder_walk.specs.Causes.{IsNoRefusal, IsListFault, IsRowCause, IsDumpCause};
@@ -17,7 +18,7 @@ use crate::refusals::DumpRefusal;
 use crate::rows::{Row, rows_in};
 use attr_records::{BadTarget, File, Item, Link, LinkTarget, MAX_FILE_BYTES, PathName};
 use folder_trait::{Count, Folder, FolderFault, FoundFile, FoundLink, FoundNode, Progress};
-use office_model::{Event, Port, SessionName};
+use office_model::{Event, Port, PutItem, SessionName};
 use std::alloc::{AllocError, Global};
 
 /// The file at a path of a folder, with its bytes; `None` if it has gone. Of a large one no byte is read.
@@ -99,10 +100,11 @@ fn put_item<P: Port>(
     path: PathName,
     item: Item,
 ) -> Result<(), DumpRefusal>
-    ensures ok { OnOk result (P.moves port.old ((E.Put dump path item, Ok A.Done) ∷ []) port.new) }
-    ensures err { IfErr result (IsCallFault P.moves port.old port.new (E.Put dump path item)) }
+    ensures ok { OnOk result (P.moves port.old ((E.Put dump path (Whole item), Ok A.Done) ∷ []) port.new) }
+    ensures err { IfErr result (IsCallFault P.moves port.old port.new (E.Put dump path (Whole item))) }
     ensures unfailed { IfErr result (λ fault. fault ≢ DumpRefusal.Folder) }
 {
+    let item = PutItem::Whole(item);
     match port.call(alloc, &Event::Put { dump, path, item }) {
         Ok(_) => Ok(()),
         Err(refusal) => Err(DumpRefusal::Refused(refusal)),

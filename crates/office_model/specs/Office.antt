@@ -1,7 +1,8 @@
--- The office: hosts with their backups, the pool, the open dumps and restores. Trees are whole.
-use Rattle.std.specs.Prelude.{◌≡◌, ℕ, ◌+◌, ◌-◌, ◌<◌, ◌≤◌, ◌^◌, Bool, true, List, [], length, Option, Some, ◌==◌, ◌||◌, slice_get, bytes_eq}
-use Rattle.std.specs.List.{position_from, list_any}
-use Rattle.attr_records.specs.Items.{Tree, is_dir}
+-- The office: hosts with their backups, the pool, the open dumps, restores, stages and readers. Trees are whole.
+use Rattle.std.specs.Prelude.{◌≡◌, ℕ, ◌+◌, ◌-◌, ◌<◌, ◌≤◌, ◌^◌, Bool, true, not, List, [], length, Option, Some, ◌==◌, ◌||◌, slice_get, bytes_eq}
+use Rattle.std.specs.List.{position_from, list_any, filter}
+use Rattle.std.specs.Option.{option_and_then}
+use Rattle.attr_records.specs.Items.{Tree, is_dir, some_bytes}
 use Rattle.attr_records.specs.Trees as Trees
 use Rattle.ordered_lists.specs.Order.{IsInOrder}
 use Rattle.backup_rules.specs.declared.lines.Kind.{Kind}
@@ -11,7 +12,7 @@ use Rattle.disk_trait.specs.declared.ids.PoolId.{PoolId}
 use Rattle.office_model.specs.declared.session.SessionName.{SessionName}
 use Rattle.office_model.specs.Session.{is_same_session}
 use Rattle.office_model.specs.Places.{AtEach, Differ}
-use Rattle.office_model.specs.Pool.{Pool, byte_cmp, is_pooled, holds}
+use Rattle.office_model.specs.Pool.{Pool, byte_cmp, is_pooled, is_same_content, holds}
 
 pub record Backup : Type 0 where
   pub line : Line
@@ -41,16 +42,30 @@ pub record Restore : Type 0 where
   pub tree : Tree
   pub position : ℕ
 
+-- an open stage of the open dump of this name, with the bytes that came
+pub record Stage : Type 0 where
+  pub number : ℕ
+  pub dump : SessionName
+  pub bytes : List ℕ
+
+-- an open reader of a file's bytes; its position is the number of bytes that were given
+pub record Reader : Type 0 where
+  pub number : ℕ
+  pub content : List ℕ
+  pub position : ℕ
+
 -- what the disk keeps: hosts in order of adding, and the pool
 pub record Durable : Type 0 where
   pub epoch : ℕ
   pub hosts : List Host
   pub pool : Pool
 
--- what is open in this epoch: dumps and restores in order of opening, and the number of the next session
+-- what is open in this epoch: dumps, restores, stages and readers in order of opening, and the number of the next session
 pub record Volatile : Type 0 where
   pub dumps : List Dump
   pub restores : List Restore
+  pub stages : List Stage
+  pub readers : List Reader
   pub sequence : ℕ
 
 pub record Office : Type 0 where
@@ -59,16 +74,19 @@ pub record Office : Type 0 where
   pub volatile : Volatile
   pub open volatile use *
 
--- how contents are named: the digest of each, and the names of pool files that are in use
+-- how contents are named: the digest of each, and the names of pool files that are in use; and the numbers of the next stage and of
+-- the next reader, which no epoch sets back
 pub record Names : Type 0 where
   pub digest_of : List ℕ → List ℕ
   pub used : List PoolId
+  pub next_stage : ℕ
+  pub next_reader : ℕ
 
 abbrev pub blank : Durable
 blank = record { epoch = 0; hosts = []; pool = [] }
 
 abbrev pub nothing_open : Volatile
-nothing_open = record { dumps = []; restores = []; sequence = 0 }
+nothing_open = record { dumps = []; restores = []; stages = []; readers = []; sequence = 0 }
 
 -- in the next epoch
 abbrev pub raised : Durable → Durable
@@ -92,6 +110,16 @@ with_dumps office dumps = record office { volatile = record office.volatile { du
 abbrev pub with_restores : Office → List Restore → Office
 with_restores office restores = record office { volatile = record office.volatile { restores = restores } }
 
+abbrev pub with_stages : Office → List Stage → Office
+with_stages office stages = record office { volatile = record office.volatile { stages = stages } }
+
+abbrev pub with_readers : Office → List Reader → Office
+with_readers office readers = record office { volatile = record office.volatile { readers = readers } }
+
+-- stages end with their dump
+abbrev pub stages_left : SessionName → List Stage → List Stage
+stages_left session stages = filter (λ stage. not (is_same_session stage.dump session)) stages
+
 abbrev pub numbered_as : Office → ℕ → Office
 numbered_as office sequence = record office { volatile = record office.volatile { sequence = sequence } }
 
@@ -113,6 +141,12 @@ dump_index_of_host dumps host = position_from (λ dump. dump.host == host) 0 dum
 abbrev pub restore_index : List Restore → SessionName → Option ℕ
 restore_index restores name = position_from (λ restore. is_same_session restore.name name) 0 restores
 
+abbrev pub stage_index : List Stage → ℕ → Option ℕ
+stage_index stages number = position_from (λ stage. stage.number == number) 0 stages
+
+abbrev pub reader_index : List Reader → ℕ → Option ℕ
+reader_index readers number = position_from (λ reader. reader.number == number) 0 readers
+
 abbrev pub backup_index : List Backup → ℕ → Option ℕ
 backup_index backups number = position_from (λ backup. backup.line.number == number) 0 backups
 
@@ -133,9 +167,16 @@ in_bases dumps content = list_any (λ dump. holds dump.base content) dumps
 abbrev pub in_restores : List Restore → List ℕ → Bool
 in_restores restores content = list_any (λ restore. holds restore.tree content) restores
 
+abbrev pub in_readers : List Reader → List ℕ → Bool
+in_readers readers content = list_any (λ reader. is_same_content content (some_bytes reader.content)) readers
+
 -- the pool or an open dump's tree has it
 abbrev pub is_held : Pool → List Dump → List ℕ → Bool
 is_held pool dumps content = is_pooled pool content || in_dumps dumps content
+
+-- the bytes of a stage, if it is there and has some
+abbrev pub stage_content : List Stage → ℕ → Option (List ℕ)
+stage_content stages number = option_and_then (λ stage. some_bytes stage.bytes) (option_and_then (slice_get stages) (stage_index stages number))
 
 -- ---- limits
 
@@ -147,6 +188,18 @@ host_limit = 1024
 
 abbrev pub last_sequence : ℕ
 last_sequence = 2 ^ 64 - 1
+
+-- the most bytes of one content
+abbrev pub content_limit : ℕ
+content_limit = 1099511627775
+
+-- the most bytes of a file that one answer holds
+abbrev pub answer_limit : ℕ
+answer_limit = 67108864
+
+-- the most bytes of a piece of a stage, and those of a part of a reader
+unfoldable pub piece_limit : ℕ
+piece_limit = 65536
 
 -- ---- soundness, part by part
 
@@ -217,16 +270,46 @@ pub record AreDumps (dumps : List Dump) : Type 0 where
 abbrev pub AreRestores : List Restore → Type 0
 AreRestores restores = AtEach (λ (restore : Restore). IsTree restore.tree) restores
 
+-- a stage's dump is open
+pub record HasDump (dumps : List Dump) (stage : Stage) : Type 0 where
+  pub index : ℕ
+  pub dump : Dump
+  pub is_dump : slice_get dumps index ≡ Some dump
+  pub name : dump.name ≡ stage.dump
+
+-- open stages are of open dumps, differ in their numbers, and have no more bytes than a content
+pub record AreStages (dumps : List Dump) (stages : List Stage) : Type 0 where
+  pub of_dumps : AtEach (HasDump dumps) stages
+  pub numbers_differ : Differ (λ (stage : Stage). stage.number) stages
+  pub fit : AtEach (λ (stage : Stage). length stage.bytes ≤ content_limit) stages
+
+-- open readers differ in their numbers, and none gave more than there is
+pub record AreReaders (readers : List Reader) : Type 0 where
+  pub numbers_differ : Differ (λ (reader : Reader). reader.number) readers
+  pub places : AtEach (λ (reader : Reader). reader.position ≤ length reader.content) readers
+
+-- the numbers of open stages and readers were given out
+pub record AreGivenOut (next_stage next_reader : ℕ) (now : Volatile) : Type 0 where
+  pub stages : AtEach (λ (stage : Stage). stage.number < next_stage) now.stages
+  pub readers : AtEach (λ (reader : Reader). reader.number < next_reader) now.readers
+
 -- what is open, by itself
 pub record IsSoundVolatile (epoch : ℕ) (now : Volatile) : Type 0 where
   pub sessions : AreSessions epoch now.sequence now.dumps now.restores
   pub dumps : AreDumps now.dumps
   pub restores : AreRestores now.restores
+  pub stages : AreStages now.dumps now.stages
+  pub readers : AreReaders now.readers
 
--- the pool has the contents of bases and restores
+-- what a reader gives is in the pool, if it is not empty
+abbrev pub IsPooledReader : Pool → Reader → Type 0
+IsPooledReader pool reader = (content : List ℕ) → some_bytes reader.content ≡ Some content → is_pooled pool content ≡ true
+
+-- the pool has the contents of bases, restores and readers
 pub record IsPooledOpen (pool : Pool) (now : Volatile) : Type 0 where
   pub of_bases : AtEach (λ (dump : Dump). IsPooledTree pool dump.base) now.dumps
   pub of_restores : AtEach (λ (restore : Restore). IsPooledTree pool restore.tree) now.restores
+  pub of_readers : AtEach (IsPooledReader pool) now.readers
 
 -- what ties both: open dumps have their hosts, and what is open is in the pool
 pub record AreTied (kept : Durable) (now : Volatile) : Type 0 where

@@ -3,18 +3,22 @@ use Rattle.std.specs.Prelude.{◌||◌}
 use Rattle.std.proofs.Common.{◌≡◌, ℕ, Bool, false, true, List, Option, None, Some, Ok, Err, refl, sym, ap, ◌∙◌, subst}
 use Rattle.std.proofs.lemmas.Bool.{false≢true, or_parts}
 use Rattle.disk_trait.specs.declared.disk.Disk.{Ghosts as DiskGhosts}
-use Rattle.attr_records.specs.Items.{content_of}
 use Rattle.pool_name.specs.declared.namer.Namer.{Ghosts as NamerGhosts}
 use Rattle.journal_view.specs.View.{FindsOnly}
 use Rattle.journal_view.specs.ViewLaws.{FindsOnly-still}
 use Rattle.office_model.specs.declared.event.Event.{Event}
 use Rattle.office_model.specs.declared.event.Event.TheVariants.{Put, Reopen}
+use Rattle.office_model.specs.declared.event.PutItem.{PutItem}
+use Rattle.office_model.specs.declared.event.PutItem.TheVariants.{Whole, Staged}
+use Rattle.attr_records.specs.declared.nodes.Item.{Item}
+use Rattle.attr_records.specs.Items.{content_of}
+use Rattle.office_model.specs.events.Put as PutEvent
 use Rattle.office_model.specs.declared.refusal.Refusal.TheVariants.{Broken, Halted as HaltedReply, DiskFault, Damaged, Memory}
 use Rattle.office_model.specs.Meaning.{Reply}
 use Rattle.office_model.specs.Office.{Office, Durable, Names}
 use Rattle.office_model.specs.Step.{State, Running, Halted, IsHaltedReply, IsStep, meaning_of}
 use Rattle.office_model.specs.UsedNames.{AreHaltedNamesAfter}
-use Rattle.office_model.specs.events.Put.{name_change}
+use Rattle.office_model.specs.events.Put.{change_of}
 use Rattle.store_parts.specs.declared.parts.StoreParts.{StoreParts}
 use Rattle.store_parts.specs.States.{IsRunning, InState}
 use Rattle.store_parts.specs.Runs.{Steps, Runs}
@@ -35,17 +39,23 @@ pub no_reopening : (event : Event) (asked : Bool) → asked ≡ is_reopen event 
 no_reopening event asked is no_one e = false≢true (sym no_one ∙ is ∙ ap is_reopen e)
 
 -- the names stay, whatever a put holds
-put_stays : (a b : Durable) (names : Names) (content : Option (List ℕ))
-    → IsHaltedReply a b (name_change content) (Err HaltedReply) (Halted a b names)
-    × AreHaltedNamesAfter names (name_change content) (Err HaltedReply) names
-put_stays a b names None = ((refl, refl, refl), refl)
-put_stays a b names (Some content) = ((refl, refl, refl), refl)
+whole_stays : (a b : Durable) (names : Names) (content : Option (List ℕ))
+    → IsHaltedReply a b (PutEvent.name_change content) (Err HaltedReply) (Halted a b names)
+    × AreHaltedNamesAfter names (PutEvent.name_change content) (Err HaltedReply) names
+whole_stays a b names None = ((refl, refl, refl), refl)
+whole_stays a b names (Some content) = ((refl, refl, refl), refl)
+
+put_stays : (a b : Durable) (names : Names) (item : PutItem)
+    → IsHaltedReply a b (change_of item) (Err HaltedReply) (Halted a b names)
+    × AreHaltedNamesAfter names (change_of item) (Err HaltedReply) names
+put_stays a b names (Whole item) = whole_stays a b names (content_of item)
+put_stays a b names (Staged file) = ((refl, refl, refl), refl)
 
 -- a halted office stays, and answers Halted
 stays_halted : (a b : Durable) (names : Names) (event : Event) → is_reopen event ≡ false
     → IsStep (Halted a b names) event (Err HaltedReply) (Halted a b names)
 stays_halted a b names Reopen other = absurd (false≢true (sym other))
-stays_halted a b names (Put session path item) other = put_stays a b names (content_of item)
+stays_halted a b names (Put session path item) other = put_stays a b names item
 stays_halted a b names event other = ((refl, refl, refl), refl)
 
 module _ {D N S : Type 0} {d : DiskGhosts D} {n : NamerGhosts N S} where

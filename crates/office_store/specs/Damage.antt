@@ -1,10 +1,12 @@
 -- What an answer says of the files that its event called for, over any disk that tells its files.
---     IsThere old event reply      Ok and Damaged are said only of a host or a restore that is there
---     NextSays, ReopeningSays      of a restore's next frame, and of a reopening
+--     IsThere old event reply      Ok and Damaged are said only of a host, a restore or a reader that is there
+--     NextSays, PartSays, PutSays, SweepSays, ReopeningSays      of a restore's next frame, of a reader's next part, of a put, of a sweep and
+--         of a reopening
 --     SaysOfFiles old event reply new      Ok is said only if they were there, each in its grammar or with its digest; Damaged names one
 --         that wasn't, with what was found of it
 --     TellsDamage old event reply new      both, if the store didn't answer that it is halted
-use Rattle.std.specs.Prelude.{⊤, ◌≡◌, ℕ, [], ◌∷◌, Some, Ok, Err, slice_get}
+use Rattle.std.specs.Prelude.{⊤, ◌≡◌, ℕ, [], ◌∷◌, Some, Ok, Err, OnOk, slice_get}
+use Rattle.disk_trait.specs.Files.{Files}
 use Rattle.disk_trait.specs.declared.disk.Disk.{Ghosts as DiskGhosts}
 use Rattle.pool_name.specs.declared.namer.Namer.{Ghosts as NamerGhosts}
 use Rattle.backup_index.specs.Index.{Index}
@@ -12,18 +14,27 @@ use Rattle.journal_view.specs.View.{told}
 use Rattle.office_catalog.specs.Known.{host_named, names_of}
 use Rattle.office_model.specs.declared.event.Event.{Event}
 use Rattle.office_model.specs.declared.event.Event.TheVariants as E
+use Rattle.office_model.specs.declared.event.PutItem.{PutItem}
+use Rattle.office_model.specs.declared.event.PutItem.TheVariants.{Whole, Staged}
 use Rattle.office_model.specs.declared.refusal.Refusal.TheVariants as R
 use Rattle.office_model.specs.declared.session.SessionName.{SessionName}
 use Rattle.office_model.specs.Meaning.{Reply}
 use Rattle.office_model.specs.History.{IsUndamaged}
+use Rattle.open_sessions.specs.declared.readers.OpenReader.{OpenReader}
 use Rattle.open_sessions.specs.declared.sessions.OpenRestore.{OpenRestore}
 use Rattle.open_sessions.specs.Places.{next_in}
 use Rattle.store_parts.specs.declared.parts.StoreParts.{StoreParts}
+use Rattle.store_parts.specs.FoundLaws.{reader_place}
 use Rattle.store_dumps.specs.Opening.{OpensDump}
+use Rattle.store_stages.specs.Losing.{NamesLost}
 use Rattle.store_reads.specs.Told.{ReadsTree, TellsBackup, HasDamagedTable, IsReadReply, ListsRows, SaysNode, GivesFile}
 use Rattle.store_restores.specs.Finding.{place_of, HasRestore}
 use Rattle.store_restores.specs.Giving.{GivesNext}
 use Rattle.store_restores.specs.Opening.{OpensRestore}
+use Rattle.store_readers.specs.Finding.{HasReader}
+use Rattle.store_readers.specs.Giving.{GivesPart}
+use Rattle.store_readers.specs.Opening.{OpensFile}
+use Rattle.store_cleaning.specs.StageFiles.{OnlyOpen}
 use Rattle.store_commits.specs.Tables.{HeedsTables}
 use Rattle.store_deletions.specs.Called.{SaysOfTables, HasHost}
 use Rattle.store_deletions.specs.Shortens.{named_numbers}
@@ -34,6 +45,7 @@ module _ {D N S : Type 0} {d : DiskGhosts D} {n : NamerGhosts N S} where
   -- the look-ups of the other events are in what they say of the files
   abbrev pub IsThere : StoreParts D N S d n → Event → Reply → Type 0
   IsThere old (E.ReadNext restore) reply = HasRestore old restore reply
+  IsThere old (E.ReadPart number) reply = HasReader old number reply
   IsThere old (E.Delete host number) reply = HasHost old host reply
   IsThere old (E.Expire host now) reply = HasHost old host reply
   IsThere old event reply = ⊤
@@ -42,6 +54,21 @@ module _ {D N S : Type 0} {d : DiskGhosts D} {n : NamerGhosts N S} where
   abbrev pub NextSays : StoreParts D N S d n → SessionName → Reply → StoreParts D N S d n → Type 0
   NextSays old restore reply new = (at : ℕ) (session : OpenRestore S) → Some at ≡ place_of old.sessions.restores.items restore
       → slice_get old.sessions.restores.items at ≡ Some session → GivesNext (next_in session.rows session.place) old at session reply new
+
+  -- of the reader of this number, at its place in memory
+  abbrev pub PartSays : StoreParts D N S d n → ℕ → Reply → StoreParts D N S d n → Type 0
+  PartSays old number reply new = (at : ℕ) (reader : OpenReader S) → Some at ≡ reader_place old number
+      → slice_get old.sessions.readers.items.items at ≡ Some reader → GivesPart old at reader reply new
+
+  -- a put calls for the file of a stage alone
+  abbrev pub PutSays : StoreParts D N S d n → PutItem → Reply → Type 0
+  PutSays old (Whole item) reply = IsUndamaged reply
+  PutSays old (Staged file) reply = NamesLost old file.stage reply
+
+  -- after Ok no stage has a file but those that are open, as they were
+  abbrev pub SweepSays : StoreParts D N S d n → Reply → StoreParts D N S d n → Type 0
+  SweepSays old reply new = IsUndamaged reply
+      × OnOk reply ((all : Files) → told old.journal ≡ Some all → OnlyOpen old.sessions.stages.items.items all (told new.journal))
 
   -- after Ok the parts have what the files hold, and no other file is there
   abbrev pub ReopeningSays : StoreParts D N S d n → Reply → StoreParts D N S d n → Type 0
@@ -57,6 +84,11 @@ module _ {D N S : Type 0} {d : DiskGhosts D} {n : NamerGhosts N S} where
       IsReadReply (ReadsTree old host number) (HasDamagedTable old host number) (SaysNode path) reply
   SaysOfFiles old (E.ReadFile host number path) reply new =
       IsReadReply (ReadsTree old host number) (HasDamagedTable old host number) (GivesFile n.digest_of (told old.journal) path) reply
+  SaysOfFiles old (E.OpenFile host number path) reply new = IsReadReply (ReadsTree old host number) (HasDamagedTable old host number)
+      (λ rows answer. OpensFile n.holds old.sessions path rows answer new.sessions) reply
+  SaysOfFiles old (E.ReadPart number) reply new = PartSays old number reply new
+  SaysOfFiles old (E.Put session path item) reply new = PutSays old item reply
+  SaysOfFiles old E.Sweep reply new = SweepSays old reply new
   SaysOfFiles old (E.OpenDump host kind now) reply new = OpensDump old host kind now reply new
   SaysOfFiles old (E.Commit session now) reply new = HeedsTables old session reply new
   SaysOfFiles old (E.OpenRead host number) reply new = IsReadReply (TellsBackup old host number) (HasDamagedTable old host number)

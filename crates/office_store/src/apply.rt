@@ -7,7 +7,7 @@ ghost use Rattle.store_parts.specs.Runs.{Runs};
 
 use crate::store::Store;
 use disk_trait::Disk;
-use office_model::{Answer, Event, Refusal};
+use office_model::{Answer, Event, PutItem, Refusal};
 use pool_name::Namer;
 use std::alloc::Global;
 use store_cleaning::{clean, sweep};
@@ -16,8 +16,10 @@ use store_deletions::{delete, expire};
 use store_dumps::{abort, open_dump, put, remove};
 use store_hosts::{add_host, backups, contact, due, hosts, keep, set_rules, stats};
 use store_parts::StoreParts;
+use store_readers::{close_file, open_file, read_part};
 use store_reads::{list, lookup, read_file};
 use store_restores::{close_read, open_read, read_next};
+use store_stages::{put_staged, stage_drop, stage_open, stage_piece};
 
 /// Whether an event opens the store again.
 fn is_reopen(event: &Event) -> bool
@@ -43,8 +45,14 @@ fn carry_out<D: Disk, N: Namer>(
         Event::AddHost { host, rules } => add_host(parts, alloc, host, rules),
         Event::SetRules { host, change } => set_rules(parts, alloc, host, change),
         Event::OpenDump { host, kind, now } => open_dump(parts, alloc, host, *kind, *now),
-        Event::Put { dump, path, item } => put(parts, alloc, *dump, path, item),
+        Event::Put { dump, path, item } => match item {
+            PutItem::Whole(item) => put(parts, alloc, *dump, path, item),
+            PutItem::Staged(file) => put_staged(parts, alloc, *dump, path, file),
+        },
         Event::Remove { dump, path } => remove(parts, alloc, *dump, path),
+        Event::StageOpen { dump } => stage_open(parts, *dump),
+        Event::StagePiece { stage, bytes } => stage_piece(parts, *stage, bytes.as_slice()),
+        Event::StageDrop { stage } => stage_drop(parts, *stage),
         Event::Commit { dump, now } => commit_dump(parts, alloc, *dump, *now),
         Event::Abort { dump } => abort(parts, alloc, *dump),
         Event::List {
@@ -54,6 +62,9 @@ fn carry_out<D: Disk, N: Namer>(
         } => list(parts, alloc, host, *number, directory.as_ref()),
         Event::Lookup { host, number, path } => lookup(parts, alloc, host, *number, path),
         Event::ReadFile { host, number, path } => read_file(parts, alloc, host, *number, path),
+        Event::OpenFile { host, number, path } => open_file(parts, alloc, host, *number, path),
+        Event::ReadPart { reader } => read_part(parts, alloc, *reader),
+        Event::CloseFile { reader } => close_file(parts, *reader),
         Event::OpenRead { host, number } => open_read(parts, alloc, host, *number),
         Event::ReadNext { restore } => read_next(parts, alloc, *restore),
         Event::CloseRead { restore } => close_read(parts, *restore),
@@ -63,7 +74,7 @@ fn carry_out<D: Disk, N: Namer>(
         Event::Contact { host, good } => contact(parts, alloc, host, *good),
         Event::Due { host, now, local } => due(parts, host, *now, local),
         Event::Clean { bucket } => clean(parts, alloc, *bucket),
-        Event::Sweep => sweep(parts),
+        Event::Sweep => sweep(parts, alloc),
         Event::Stats => stats(parts),
         Event::Hosts => hosts(parts, alloc),
         Event::Backups { host } => backups(parts, alloc, host),

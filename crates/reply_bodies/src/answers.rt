@@ -22,6 +22,8 @@ pub fn answer_text(event: &Event, answer: &Answer) -> Option<ShortText>
         Answer::Done => Some(done_text(event)),
         Answer::Dump(name) => Some(named(b"dump", session_name(*name).as_slice())),
         Answer::Committed(number) => Some(counted(b"number", u64::from(*number))),
+        Answer::Stage(number) => Some(counted(b"stage", *number)),
+        Answer::Opened { reader, size } => Some(opened_text(*reader, *size)),
         Answer::Restore(name) => Some(named(b"restore", session_name(*name).as_slice())),
         Answer::Expired(count) => Some(counted(b"deleted", u64::from(*count))),
         Answer::Contacts { good, bad } => Some(contacts_text(*good, *bad)),
@@ -62,6 +64,19 @@ fn done_text(event: &Event) -> ShortText
         Event::AddHost { host, .. } => named(b"host", host.as_slice()),
         _ => empty(),
     }
+}
+
+/// The number of a reader, and how many bytes it gives.
+#[tactic(auto, unfolding(crate::specs::Objects::object_text))]
+fn opened_text(reader: u64, size: u64) -> ShortText
+    ensures { result ≡ object_text ((codes "reader", Count reader) ∷ (codes "size", Count size) ∷ []) }
+{
+    let mut text = ShortText::new();
+    text.push(b"{");
+    push_count(&mut text, false, b"reader", reader);
+    push_count(&mut text, true, b"size", size);
+    text.push(b"}");
+    text
 }
 
 /// The counts of a host's contacts.

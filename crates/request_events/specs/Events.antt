@@ -5,6 +5,7 @@ use Rattle.std.specs.Prelude.{ℕ, Bool, List, Ok, is_some}
 use Rattle.http_heads.specs.Heads.{HeadParts}
 use Rattle.office_model.specs.declared.event.Event.{Event}
 use Rattle.office_model.specs.declared.event.Event.TheVariants as E
+use Rattle.office_model.specs.declared.event.PutItem.TheVariants.{Whole}
 use Rattle.office_model.specs.declared.session.SessionName.{SessionName}
 use Rattle.wake_schedule.specs.declared.zone.Local.{Local}
 use Rattle.wake_schedule.specs.Clock.{local_of}
@@ -22,7 +23,7 @@ abbrev pub local_in : Defaults → ℕ → Local
 local_in defaults moment = local_of moment (ahead_at defaults.zone moment)
 
 abbrev pub put_event : SessionName → List ℕ → PlannedItem → Bool → List ℕ → Said Event
-put_event dump path item has_length body = item_of item has_length body >>= λ whole. Ok (E.Put dump path whole)
+put_event dump path item has_length body = item_of item has_length body >>= λ whole. Ok (E.Put dump path (Whole whole))
 
 -- the event of a plan with a body, whose length was named or not, a moment and the settings
 abbrev pub event_of : Plan → Bool → List ℕ → ℕ → Defaults → Said Event

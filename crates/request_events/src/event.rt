@@ -12,7 +12,7 @@ use attr_records::{HostName, PathName};
 use http_heads::Head;
 use http_routes::Route;
 use matchit::Router;
-use office_model::{Event, SessionName};
+use office_model::{Event, PutItem, SessionName};
 use std::alloc::Global;
 use stream_traits::Moment;
 
@@ -67,6 +67,7 @@ fn put(
     ensures { Says result (put_event dump path item has_length body.items) }
 {
     let item = item_of(alloc, item, has_length, body)?;
+    let item = PutItem::Whole(item);
     Ok(Event::Put { dump, path, item })
 }
 

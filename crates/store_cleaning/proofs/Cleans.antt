@@ -63,7 +63,7 @@ use Rattle.office_changes.specs.CleanLaws.{IsCleanedIndex, clean_stands}
 use Rattle.office_pool.specs.FitLaws.{given_one}
 use Rattle.store_parts.specs.declared.parts.StoreParts.{StoreParts}
 use Rattle.store_parts.specs.Held.{given, AreCountsOf, IsKeptView}
-use Rattle.store_parts.specs.States.{slots, IsRunning}
+use Rattle.store_parts.specs.States.{slots, IsRunning, staging_of}
 use Rattle.store_parts.specs.Runs.{Runs}
 use Rattle.store_parts.specs.Writes.{Writes}
 use Rattle.store_parts.specs.StoredLaws.{contents_written}
@@ -150,7 +150,8 @@ module _ {D N S : Type 0} {d : DiskGhosts D} {n : NamerGhosts N S} where
       let hosted = protected_counted n.digest_of (index_of (slots parts)) at.backups at.all office.durable at.stands id
       (ap is_some listed.0)
       ∙ sym (hosts_count id parts.counts at.backups at.counted) in
-      let opened = sessions_hold (given (slots parts)) (contents_of at.all) one id claimed.0 n.holds office.volatile parts.sessions at.sessions
+      let opened = sessions_hold (given (slots parts)) (contents_of at.all) one id claimed.0 n.holds (staging_of at.all names)
+      office.volatile parts.sessions at.sessions
       ∙ ap (nat_lt 0) (sym (at.claimed id)) in
       (λ i. claimed.1 i || is_named parts.counts (listed.1 i))
       ∙ kept_by (in_hosts office.hosts content)
@@ -333,10 +334,15 @@ module _ {D N S : Type 0} {d : DiskGhosts D} {n : NamerGhosts N S} where
                   catalog_is = catalog ∙ at.catalog_is;
                 };
                 counted = subst (λ (cs : List Items). AreCountsOf cs at.backups) (sym counts) at.counted;
-                sessions = subst (λ (s : Sessions S). AreSessions n.holds (given (slots new)) (contents_of image) office.volatile s)
-                    (sym sessions)
+                sessions = subst (λ (s : Sessions S). AreSessions n.holds (given (slots new)) (contents_of image)
+                    (staging_of image names) office.volatile s) (sym sessions)
                     (AreSessions-claimed n.holds (given (slots old)) (contents_of at.all) (given (slots new)) (contents_of image)
-                    office.volatile old.sessions
+                    (staging_of at.all names) (staging_of image names) office.volatile old.sessions
+                    (record {
+                      staged = λ i stage there. applied_contents cleaning.change.changes at.all (F.Stage stage.number) leads.are refl;
+                      next_stage = refl;
+                      next_reader = refl;
+                    })
                     (λ id g some. (
                       still_given id g (subst (λ (m : ℕ). 0 < m) (sym (at.claimed id)) some),
                       sym (ap (λ (c : PoolId → List ℕ). c id) (contents_written cleaning.change.changes at.all leads.are)),

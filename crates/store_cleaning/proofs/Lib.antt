@@ -1,2 +1,3 @@
+pub mod StageFiles
 pub mod Sweeps
 pub mod Cleans

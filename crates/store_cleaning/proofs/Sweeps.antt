@@ -1,5 +1,5 @@
 -- What a sweep leaves.
---     IsSweptTo old new office names all      the pool and the files have changed, and some of the names in use are left
+--     IsSweptTo old new names stages all      the pool and the files have changed, and some of the names in use are left
 --     all_swept      without doomed names there is a name for each content that is held, and no other
 --     runs_swept, runs_unswept      the answers
 use Rattle.std.specs.Prelude.{◌≡◌, ◌⊎◌, ℕ, zero, suc, Bool, true, List, [], ◌∷◌, map, Option, Some, None, Ok, Err, is_some, option_map, slice_get, if◌then◌else◌}
@@ -35,7 +35,7 @@ use Rattle.open_sessions.specs.declared.sessions.Sessions.{Sessions}
 use Rattle.office_model.specs.declared.answer.Answer.TheVariants.{Done}
 use Rattle.office_model.specs.declared.event.Event.TheVariants.{Sweep}
 use Rattle.office_model.specs.declared.refusal.Refusal.TheVariants.{DiskFault}
-use Rattle.office_model.specs.Office.{Office, Names, is_held}
+use Rattle.office_model.specs.Office.{Office, Names, Stage, is_held}
 use Rattle.office_model.specs.Step.{Running, meaning_of}
 use Rattle.office_model.specs.UsedNames.{Among, AreSome, AreSwept}
 use Rattle.office_files.specs.Pooled.{contents_of}
@@ -118,13 +118,13 @@ given_kept : (old : Slots) (id : PoolId) → is_given (old id) ≡ true → IsKe
 given_kept old id given = slot_kept old id (λ doomed. false≢true (sym (ap is_given doomed) ∙ given))
 
 module _ {D N S : Type 0} {d : DiskGhosts D} {n : NamerGhosts N S} where
-  pub record IsSweptTo (old new : StoreParts D N S d n) (names : Names) (all : Files) : Type 0 where
-    pub has : HasStaged old new names all
+  pub record IsSweptTo (old new : StoreParts D N S d n) (names : Names) (stages : List Stage) (all : Files) : Type 0 where
+    pub has : HasStaged old new names stages all
     pub some : AreSome names.used has.used'
 
   module _ (old new : StoreParts D N S d n) (office : Office) (names : Names) (at : IsRunning old office names)
       (certain : IsCertain (slots old) (uncertain new.journal)) (pruned : IsPruned (slots old) (slots new)) where
-    swept_seen : Sweeps (slots old) (slots new) (told new.journal) at.all → IsSweptTo old new names at.all
+    swept_seen : Sweeps (slots old) (slots new) (told new.journal) at.all → IsSweptTo old new names office.stages at.all
     swept_seen sweeps = record {
       has = record {
         used' = filter (is_used (slots new)) names.used;
@@ -135,6 +135,7 @@ module _ {D N S : Type 0} {d : DiskGhosts D} {n : NamerGhosts N S} where
           file = λ id g. sweeps.same (F.Pool id) (given_kept (slots old) id g);
           metadata = λ asked kind. sweeps.same asked (metadata_kept (slots old) asked kind);
           live = λ id. alike (slots old) (slots new) pruned (item_of id) refl id;
+          stage = λ i stage there. sweeps.same (F.Stage stage.number) (λ id e. absurd cc);
         };
         fits = fits_less n.digest_of (slots old) (slots new) (uncertain old.journal) (uncertain new.journal) at.all sweeps.now
             (less_swept (slots old) (slots new) (told new.journal) at.all sweeps pruned) certain at.fits;
@@ -153,7 +154,7 @@ module _ {D N S : Type 0} {d : DiskGhosts D} {n : NamerGhosts N S} where
             ap is_some same ∙ at.all_used id (ap is_some (sym (sweeps.same (F.Pool id) kept)) ∙ there)
 
     pub swept_to : ((all : Files) → d.files old.journal.disk ≡ Some all
-        → Sweeps (slots old) (slots new) (d.files new.journal.disk) all) → IsSweptTo old new names at.all
+        → Sweeps (slots old) (slots new) (d.files new.journal.disk) all) → IsSweptTo old new names office.stages at.all
     swept_to sweeps =
         let raw = told_raw (d.files old.journal.disk) at.all at.told_is in
         swept_seen (subst (λ (f : Files). Sweeps (slots old) (slots new) (told new.journal) f) raw.2
@@ -233,7 +234,7 @@ module _ {D N S : Type 0} {d : DiskGhosts D} {n : NamerGhosts N S} where
       (crash : (all : Files) → d.files old.journal.disk ≡ Some all → IsCertain (slots old) (d.uncertain old.journal.disk)
       → LeavesOnly d.moment d.left_since old.journal.disk new.journal.disk (ComesTo all (unlisted (slots old)))) where
     module _ (office : Office) (names : Names) (at : IsRunning old office names) where
-      abbrev swept : IsSweptTo old new names at.all
+      abbrev swept : IsSweptTo old new names office.stages at.all
       swept = swept_to old new office names at (certain at.fits.certain) pruned sweeps
 
       abbrev names' : Names

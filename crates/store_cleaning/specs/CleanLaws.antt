@@ -9,7 +9,7 @@ use Rattle.std.specs.Prelude.{◌≡◌, ℕ, zero, suc, ◌+◌, ◌<◌, ◌/�
 use Rattle.std.specs.declared.cmp.Ordering.TheVariants.{Equal}
 use Rattle.std.specs.Ordering.{eq_by_cmp}
 use Rattle.std.specs.Cmp.{Equal-is}
-use Rattle.std.specs.Cmp.Lexicographic.{nat_list_cmp_total}
+use Rattle.std.specs.Cmp.Lexicographic.{bytes_decides, nat_list_cmp_total}
 use Rattle.std.specs.FinMap.Entries.{find}
 use Rattle.std.specs.List.{filter, list_any, cons_option}
 use Rattle.std.specs.Option.{option_and_then, option_map}
@@ -21,10 +21,12 @@ use Rattle.ordered_lists.specs.Order.{IsInOrder}
 use Rattle.disk_trait.specs.declared.ids.PoolId.{PoolId}
 use Rattle.disk_trait.specs.declared.ids.FileId.TheVariants.{Pool as PoolFile}
 use Rattle.disk_trait.specs.Names.{is_same_file-itself}
-use Rattle.attr_records.specs.Items.{Tree}
+use Rattle.attr_records.specs.Items.{Tree, some_bytes}
+use Rattle.attr_tables.specs.Records.{is_same_id as is_content_id}
+use Rattle.attr_tables.specs.RecordLaws.{same_id as same_content_id, id_itself as content_id_itself}
 use Rattle.merge_view.specs.Views.{Rows}
-use Rattle.stored_trees.specs.Resolved.{resolved, AreTold, IsOneToOne}
-use Rattle.stored_trees.specs.Occurrences.{occurrences}
+use Rattle.stored_trees.specs.Resolved.{bytes_of, resolved, AreTold, IsToldContent, IsOneToOne}
+use Rattle.stored_trees.specs.Occurrences.{is_content, occurrences}
 use Rattle.stored_trees.specs.OccurrenceLaws.{occurrences-resolved}
 use Rattle.stored_trees.specs.NodeLaws.{alike}
 use Rattle.pool_index.specs.declared.item.IndexItem.{IndexItem}
@@ -42,12 +44,13 @@ use Rattle.nightly_clean.specs.Cleanings.{is_named, is_protected as is_kept, is_
 use Rattle.open_sessions.specs.declared.sessions.OpenDump.{OpenDump}
 use Rattle.open_sessions.specs.declared.sessions.OpenRestore.{OpenRestore}
 use Rattle.open_sessions.specs.declared.sessions.Sessions.{Sessions}
-use Rattle.open_sessions.specs.Opened.{IsDump, IsRestore, AreSessions, base_of, claims_in, claims_in_dumps, claims_in_restores}
+use Rattle.open_sessions.specs.declared.readers.OpenReader.{OpenReader}
+use Rattle.open_sessions.specs.Opened.{IsDump, IsRestore, IsReader, Staging, AreSessions, base_of, claims_in, claims_in_dumps, claims_in_restores, claims_of_reader, claims_in_readers}
 use Rattle.pool_fate.specs.declared.fate.Fate.{Fate}
 use Rattle.pool_fate.specs.declared.fate.Fate.TheVariants.{Stays, Gains, Loses, Leaves}
-use Rattle.office_model.specs.Office.{Office, Volatile, Dump, Restore, in_dumps, in_bases, in_restores}
+use Rattle.office_model.specs.Office.{Office, Volatile, Dump, Restore, Reader, in_dumps, in_bases, in_restores, in_readers}
 use Rattle.office_model.specs.Places.{Differ}
-use Rattle.office_model.specs.Pool.{Pool, byte_cmp, mark_of, holds, kept_as, fate, cleaned, fated}
+use Rattle.office_model.specs.Pool.{Pool, byte_cmp, mark_of, is_same_content, holds, kept_as, fate, cleaned, fated}
 use Rattle.pool_fate.specs.Fates.{fate_of, mark_after, is_same_fate}
 use Rattle.office_model.specs.UsedNames.{Among}
 use Rattle.office_model.specs.events.Clean.{in_bucket, is_protected}
@@ -71,13 +74,14 @@ above_sum (suc m) n = is_above (suc m + n) (omega arith) ∙ sym (ap (λ (b : Bo
 
 -- ---- what open sessions hold
 
--- an open dump's tree or base, or an open restore's tree
+-- an open dump's tree or base, or an open restore's tree; or an open reader gives it
 abbrev pub opened_has : Volatile → List ℕ → Bool
-opened_has now content = in_dumps now.dumps content || (in_bases now.dumps content || in_restores now.restores content)
+opened_has now content =
+    in_dumps now.dumps content || (in_bases now.dumps content || (in_restores now.restores content || in_readers now.readers content))
 
 -- what a cleaning of this office keeps
 abbrev pub protected_in : Office → List ℕ → Bool
-protected_in office = is_protected office.hosts office.dumps office.restores
+protected_in office = is_protected office.hosts office.dumps office.restores office.readers
 
 -- two tests of each of two parts
 mixed : (a b p q : Bool) → ((a || p) || (b || q)) ≡ ((a || b) || (p || q))
@@ -89,6 +93,19 @@ mixed false false p q = refl
 assoc : (a b c : Bool) → (a || (b || c)) ≡ ((a || b) || c)
 assoc true b c = refl
 assoc false b c = refl
+
+-- bytes are a content exactly if there are some, and they are the same
+bytes_are : (bytes content : List ℕ) → is_same_content content (some_bytes bytes) ≡ true → bytes ≡ content
+bytes_are [] content e = absurd cc
+bytes_are (byte ∷ bytes) content e = sym ((bytes_decides content (byte ∷ bytes)).0 e)
+
+are_bytes : (bytes content : List ℕ) → bytes ≡ content → 0 < length content → is_same_content content (some_bytes bytes) ≡ true
+are_bytes [] content same some = absurd (let none : length content ≡ 0 = ap length (sym same) in omega (arith, none, some))
+are_bytes (byte ∷ bytes) content same some = (bytes_decides content (byte ∷ bytes)).1 (sym same)
+
+one_above : (b : Bool) → b ≡ nat_lt 0 (if b then 1 else 0)
+one_above true = refl
+one_above false = refl
 
 module _ (given : PoolId → Type 0) (contents : PoolId → List ℕ) (one : IsOneToOne given contents) (id : PoolId) (g : given id) where
   rows_hold : (rows : Rows) → AreTold given contents rows → holds (resolved contents rows) (contents id) ≡ nat_lt 0 (occurrences id rows)
@@ -129,15 +146,46 @@ module _ (given : PoolId → Type 0) (contents : PoolId → List ℕ) (one : IsO
       let tree = tree_holds restore.tree s.rows is.tree is.rows.told in
       (λ i. tree i || rest i) ∙ sym (above_sum (occurrences id s.rows) (claims_in_restores sessions id))
 
-  pub sessions_hold : {S : Type 0} (took_in : S → List ℕ → Type 0) (now : Volatile) (sessions : Sessions S)
-      → AreSessions took_in given contents now sessions
+  -- a told content is that of the id exactly if it is of the id
+  content_is : (size : ℕ) (held : Option PoolId) → IsToldContent given contents size held
+      → is_same_content (contents id) (some_bytes (bytes_of contents held)) ≡ nat_lt 0 (if is_content id held then 1 else 0)
+  content_is size None told = refl
+  content_is size (Some other) told =
+      alike (is_same_content (contents id) (some_bytes (contents other))) (is_content_id other id)
+      (λ e. subst (λ (x : PoolId). is_content_id other x ≡ true) (one.one other id told.0 g (bytes_are (contents other) (contents id) e))
+      (content_id_itself other))
+      (λ e. are_bytes (contents other) (contents id) (ap contents (same_content_id other id e)) (one.some id g))
+      ∙ one_above (is_content_id other id)
+
+  readers_hold : {S : Type 0} (took_in : S → List ℕ → Type 0) (readers : List Reader) (opened : List (OpenReader S))
+      → AtEachPair (λ i. IsReader took_in given contents) readers opened
+      → in_readers readers (contents id) ≡ nat_lt 0 (claims_in_readers opened id)
+  readers_hold took_in [] [] pairs = refl
+  readers_hold took_in [] (held ∷ opened) pairs = absurd (let same = pairs.counted in omega arith)
+  readers_hold took_in (reader ∷ readers) [] pairs = absurd (let same = pairs.counted in omega arith)
+  readers_hold took_in (reader ∷ readers) (held ∷ opened) pairs =
+      let is = first_pair (λ i. IsReader took_in given contents) reader readers held opened pairs in
+      let rest = readers_hold took_in readers opened (later_pairs (λ i. IsReader took_in given contents) reader readers held opened pairs) in
+      let here = ap (λ (bytes : List ℕ). is_same_content (contents id) (some_bytes bytes)) is.content
+      ∙ content_is held.size held.content is.told in
+      (λ i. here i || rest i) ∙ sym (above_sum (claims_of_reader held id) (claims_in_readers opened id))
+
+  pub sessions_hold : {S : Type 0} (took_in : S → List ℕ → Type 0) (staging : Staging) (now : Volatile) (sessions : Sessions S)
+      → AreSessions took_in given contents staging now sessions
       → opened_has now (contents id) ≡ nat_lt 0 (claims_in sessions id)
-  sessions_hold took_in now sessions are =
+  sessions_hold took_in staging now sessions are =
       let dumps = dumps_hold now.dumps sessions.dumps.items are.dumps in
       let restores = restores_hold took_in now.restores sessions.restores.items are.restores in
-      assoc (in_dumps now.dumps (contents id)) (in_bases now.dumps (contents id)) (in_restores now.restores (contents id))
-      ∙ (λ i. dumps i || restores i)
-      ∙ sym (above_sum (claims_in_dumps sessions.dumps.items id) (claims_in_restores sessions.restores.items id))
+      let readers = readers_hold took_in now.readers sessions.readers.items.items are.readers in
+      let d = claims_in_dumps sessions.dumps.items id in
+      let r = claims_in_restores sessions.restores.items id in
+      let last = claims_in_readers sessions.readers.items.items id in
+      assoc (in_dumps now.dumps (contents id)) (in_bases now.dumps (contents id))
+      (in_restores now.restores (contents id) || in_readers now.readers (contents id))
+      ∙ assoc (in_dumps now.dumps (contents id) || in_bases now.dumps (contents id)) (in_restores now.restores (contents id))
+      (in_readers now.readers (contents id))
+      ∙ (λ i. (dumps i || restores i) || readers i)
+      ∙ sym (above_sum (d + r) last ∙ ap (λ (b : Bool). b || nat_lt 0 last) (above_sum d r))
 
 -- ---- what the counts of hosts name
 

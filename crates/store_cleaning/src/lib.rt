@@ -5,13 +5,14 @@
 //! | Function | The event |
 //! |---|---|
 //! | [`clean`] | the contents of a bucket that nothing holds are marked, and those that were marked leave the pool |
-//! | [`sweep`] | the files of the pool that nothing lists are removed |
+//! | [`sweep`] | the files of the pool that nothing lists are removed, and those of stages that aren't open |
 //!
 //! A content that nothing holds leaves the pool at the second cleaning that finds it so, and its file at the sweep behind it.
 //! What nothing holds is judged by the counts of all hosts and by the claims of open sessions, in memory: no table is read.
 #![tactic(auto)]
 
 mod cleaning;
+mod stage_files;
 mod sweeping;
 
 pub use cleaning::clean;

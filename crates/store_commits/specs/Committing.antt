@@ -17,7 +17,8 @@ use Rattle.ref_counts.specs.Numbers.{Items}
 use Rattle.ref_counts.specs.Stored.{Backup as StoredBackup}
 use Rattle.open_sessions.specs.declared.sessions.OpenDump.{OpenDump}
 use Rattle.open_sessions.specs.Opened.{IsDump}
-use Rattle.office_model.specs.Office.{Office, Host, Dump, Names, number_limit, with_dumps, with_hosts, with_pool}
+use Rattle.office_model.specs.declared.session.SessionName.{SessionName}
+use Rattle.office_model.specs.Office.{Office, Host, Dump, Names, number_limit, with_dumps, with_hosts, with_pool, with_stages, stages_left}
 use Rattle.office_model.specs.Pool.{with_tree}
 use Rattle.office_model.specs.events.Commit.{with_commit}
 use Rattle.office_files.specs.Pairs.{other_at}
@@ -28,11 +29,15 @@ use Rattle.store_parts.specs.Held.{given, AreCountsOf, IsKeptView}
 use Rattle.store_parts.specs.States.{slots, IsRunning}
 use Rattle.store_commits.specs.AcceptLaws.{with_added}
 
--- the dump at a place becomes its host's newest backup
+-- the dump at a place becomes its host's newest backup, and the stages of a dump of this name end
+abbrev pub office_ended : SessionName → Office → ℕ → Dump → Host → ℕ → Office
+office_ended session office place dump host now =
+    with_stages (with_dumps (with_pool (with_hosts office (slice_set office.hosts dump.host (with_commit host dump now)))
+    (with_tree office.pool dump.tree)) (remove office.dumps place)) (stages_left session office.stages)
+
+-- its own name
 abbrev pub office_after : Office → ℕ → Dump → Host → ℕ → Office
-office_after office place dump host now =
-    with_dumps (with_pool (with_hosts office (slice_set office.hosts dump.host (with_commit host dump now))) (with_tree office.pool dump.tree))
-    (remove office.dumps place)
+office_after office place dump host now = office_ended dump.name office place dump host now
 
 module _ {D N S : Type 0} {d : DiskGhosts D} {n : NamerGhosts N S} where
   -- the dump of the model that an open dump at a place is, and its host, which has a number left

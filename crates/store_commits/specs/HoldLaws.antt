@@ -4,7 +4,6 @@
 --     holds_committed      they hold the office after it
 --     runs_not_written, runs_committed      the event's answer after the write
 use Rattle.std.specs.Prelude.{◌≡◌, ◌≤◌, ◌<◌, ℕ, true, false, not, List, length, Some, Ok, Err, is_some, slice_get, slice_set}
-use Rattle.std.specs.List.{remove}
 use Rattle.std.proofs.Common.{refl, sym, ap, ◌∙◌, subst, inr, arith}
 use Rattle.disk_trait.specs.declared.ids.PoolId.{PoolId}
 use Rattle.disk_trait.specs.declared.disk.Disk.{Ghosts as DiskGhosts}
@@ -19,9 +18,8 @@ use Rattle.pool_changes.specs.Kept.{slots_of}
 use Rattle.pool_changes.specs.Indexed.{after as relisted_after, relisted_by}
 use Rattle.open_sessions.specs.declared.sessions.OpenDump.{OpenDump}
 use Rattle.open_sessions.specs.declared.sessions.Sessions.{Sessions}
-use Rattle.open_sessions.specs.Opened.{AreSessions, claims_of_dump, OnlyDumps}
+use Rattle.open_sessions.specs.Opened.{AreSessions, claims_of_dump}
 use Rattle.open_sessions.specs.SessionLaws.{claims_in_dumps-remove}
-use Rattle.open_sessions.specs.CallLaws.{AreSessions-dump_taken, claims_in-dump_taken}
 use Rattle.office_catalog.specs.Known.{Known, with_change, with_line}
 use Rattle.office_catalog.specs.Changed.{IsFor, after as known_after}
 use Rattle.office_model.specs.declared.session.SessionName.{SessionName}
@@ -33,6 +31,7 @@ use Rattle.office_model.specs.Office.{Office, Names, dump_index}
 use Rattle.office_model.specs.UsedNames.{AreSound}
 use Rattle.office_model.specs.Parts.{dump_at}
 use Rattle.office_model.specs.laws.Judging.{at_found}
+use Rattle.office_model.specs.laws.Lookups.{named}
 use Rattle.office_model.specs.laws.StateLaws.{AreSound-carried}
 use Rattle.office_model.specs.events.Commit as CommitEvent
 use Rattle.office_files.specs.Hosts.{index_of_host}
@@ -40,7 +39,7 @@ use Rattle.office_files.specs.Pooled.{contents_of}
 use Rattle.office_known.specs.KnownLaws.{known_of_office}
 use Rattle.store_parts.specs.declared.parts.StoreParts.{StoreParts}
 use Rattle.store_parts.specs.Held.{given, AreCountsOf, IsKeptView}
-use Rattle.store_parts.specs.States.{slots, IsRunning}
+use Rattle.store_parts.specs.States.{slots, IsRunning, staging_of}
 use Rattle.store_parts.specs.Runs.{Runs}
 use Rattle.store_parts.specs.Writes.{Writes}
 use Rattle.store_parts.specs.RunLaws.{reads_behind, runs_behind}
@@ -54,7 +53,8 @@ use Rattle.store_commits.specs.AcceptLaws.{with_added, claims_added}
 use Rattle.store_commits.specs.Planned.{IsPlanned}
 use Rattle.store_commits.specs.CommittedLaws.{number_is, planned_changes}
 use Rattle.store_commits.specs.RunningLaws.{running_committed}
-use Rattle.store_commits.specs.Committing.{office_after, IsMeant, meant, IsStoredAfter}
+use Rattle.store_commits.specs.Ending.{EndsDump, AreSessions-dump_ended, claims_in-dump_ended}
+use Rattle.store_commits.specs.Committing.{office_ended, office_after, IsMeant, meant, IsStoredAfter}
 use Rattle.store_commits.specs.AfterLaws.{stored_after}
 use Rattle.store_commits.specs.KnownLaws.{index_found, catalog_committed}
 use Rattle.store_commits.specs.Tables.{place_of}
@@ -69,8 +69,7 @@ module _ {D N S : Type 0} {d : DiskGhosts D} {n : NamerGhosts N S} where
     pub form : new.pool.in_one_file ≡ false
     pub catalog : new.catalog ≡ known_after plan.catalog mid.catalog
     pub counts : new.counts ≡ slice_set mid.counts plan.host plan.counts
-    pub dumps : new.sessions.dumps.items ≡ remove mid.sessions.dumps.items place
-    pub only : OnlyDumps mid.sessions new.sessions
+    pub ends : (dump : OpenDump) → slice_get mid.sessions.dumps.items place ≡ Some dump → EndsDump mid.sessions place dump new.sessions
     pub journal : new.journal ≡ mid.journal
     pub views : new.views ≡ mid.views
     pub halted : new.halted ≡ mid.halted
@@ -90,11 +89,18 @@ module _ {D N S : Type 0} {d : DiskGhosts D} {n : NamerGhosts N S} where
     step_of : (office : Office) (names : Names) (at : IsRunning old office names) → IsStep office names at
     step_of office names at =
         let m : IsMeant old place session office names at = meant old place session office names at there in
+        let at_place = place_is old name (Some place) found office names at in
         let is_at : dump_at office.dumps name ≡ Ok (record { index = place; value = m.dump }) =
-        at_found NoSession office.dumps (dump_index office.dumps name) place m.dump (place_is old name (Some place) found office names at)
-        m.there in
+        at_found NoSession office.dumps (dump_index office.dumps name) place m.dump at_place m.there in
+        let judged_by : CommitEvent.carried name now office
+        ≡ Ok (record { answer = Committed m.host.next; after = office_ended name office place m.dump m.host now }) = rw (is_at, m.here) refl in
         let judged : CommitEvent.carried name now office
-        ≡ Ok (record { answer = Committed m.host.next; after = office_after office place m.dump m.host now }) = rw (is_at, m.here) refl in
+        ≡ Ok (record { answer = Committed m.host.next; after = office_after office place m.dump m.host now }) =
+        judged_by ∙ ap (λ (s : SessionName). Ok (record {
+          answer = Committed m.host.next;
+          after = office_ended s office place m.dump m.host now;
+        }))
+        (sym (named office.dumps name place m.dump at_place m.there)) in
         let sound : AreSound (office_after office place m.dump m.host now) names =
         AreSound-carried office names (Commit name now)
         (record { answer = Committed m.host.next; after = office_after office place m.dump m.host now }) names at.sound judged refl in
@@ -182,18 +188,18 @@ module _ {D N S : Type 0} {d : DiskGhosts D} {n : NamerGhosts N S} where
               → claims_of_dump session id ≤ claims_of (relisted_after plan.index (slots mid) id)
           enough id same = omega (arith, same, at.claimed id, claims_in_dumps-remove old.sessions.dumps.items id place session there)
 
-      dumps_are : new.sessions.dumps.items ≡ remove old.sessions.dumps.items place
-      dumps_are = f.dumps ∙ ap (λ (s : Sessions S). remove s.dumps.items place) w.sessions_same
+      ends_is : EndsDump old.sessions place session new.sessions
+      ends_is = subst (λ (s : Sessions S). EndsDump s place session new.sessions) w.sessions_same
+          (f.ends session (ap (λ (s : Sessions S). slice_get s.dumps.items place) w.sessions_same ∙ there))
 
-      only_is : OnlyDumps old.sessions new.sessions
-      only_is = subst (λ (s : Sessions S). OnlyDumps s new.sessions) w.sessions_same f.only
-
-      sessions_after : (office : Office) (names : Names) (at : IsRunning old office names)
-          → AreSessions n.holds (given (slots old)) (contents_of at.all) (record office.volatile { dumps = remove office.dumps place })
-          new.sessions
-      sessions_after office names at =
-          AreSessions-dump_taken old.sessions new.sessions only_is.beside n.holds (given (slots old)) (contents_of at.all) office.volatile
-          at.sessions place dumps_are only_is.sequence
+      sessions_after : (office : Office) (names : Names) (at : IsRunning old office names) (m : IsMeant old place session office names at)
+          → AreSessions n.holds (given (slots old)) (contents_of at.all) (staging_of at.all names)
+          (office_after office place m.dump m.host now).volatile new.sessions
+      sessions_after office names at m =
+          subst (λ (s : SessionName). AreSessions n.holds (given (slots old)) (contents_of at.all) (staging_of at.all names)
+          (office_ended s office place m.dump m.host now).volatile new.sessions) m.is.name
+          (AreSessions-dump_ended old.sessions new.sessions place session ends_is n.holds (given (slots old)) (contents_of at.all)
+          (staging_of at.all names) office.volatile at.sessions)
 
       counts_after : (office : Office) (names : Names) (at : IsRunning old office names) (m : IsMeant old place session office names at)
           → new.counts ≡ slice_set old.counts m.dump.host planned.counts
@@ -207,9 +213,9 @@ module _ {D N S : Type 0} {d : DiskGhosts D} {n : NamerGhosts N S} where
           running_committed old mid new office (office_after office place s.m.dump s.m.host now) names at plan.changes done w
           (planned_changes old session now plan planned) (ids_in session.tree) (claims_of_dump session) s.stored.backups
           (record { go = go office names at }) f.form
-          (λ id. claims_in-dump_taken old.sessions new.sessions only_is.beside id place session there dumps_are)
+          (claims_in-dump_ended old.sessions new.sessions place session ends_is there)
           s.stored.stands s.stored.tells
-          (sessions_after office names at)
+          (sessions_after office names at s.m)
           (subst (λ (v : Views). IsKeptView v.kept (office_after office place s.m.dump s.m.host now).hosts s.stored.backups)
           (sym (f.views ∙ w.views_same)) s.stored.view)
           (subst (λ (c : List Items). AreCountsOf c s.stored.backups) (sym (counts_after office names at s.m)) s.stored.counted)

@@ -16,6 +16,7 @@ pub mod BuildLaws
 pub mod PlanLaws
 pub mod CommittedLaws
 pub mod LineLaws
+pub mod Ending
 pub mod Committing
 pub mod CountsLaws
 pub mod ReadyLaws

@@ -3,7 +3,7 @@
 use Rattle.std.specs.Prelude.{◌≡◌, ℕ, ◌+◌, ◌<◌, Bool, true, false, List, [], Option, Some, None, Ok, is_some, option_map}
 use Rattle.std.proofs.Common.{refl, sym, ap, ◌∙◌, subst, arith}
 use Rattle.disk_trait.specs.declared.ids.PoolId.{PoolId}
-use Rattle.disk_trait.specs.declared.ids.FileId.TheVariants.{Pool as PoolFile}
+use Rattle.disk_trait.specs.declared.ids.FileId.TheVariants.{Pool as PoolFile, Stage as StageFile}
 use Rattle.disk_trait.specs.declared.disk.Disk.{Ghosts as DiskGhosts}
 use Rattle.disk_trait.specs.Files.{Files}
 use Rattle.pool_name.specs.declared.namer.Namer.{Ghosts as NamerGhosts}
@@ -29,7 +29,7 @@ use Rattle.office_files.specs.Stands.{Stands}
 use Rattle.office_known.specs.KnownLaws.{known_of_office}
 use Rattle.store_parts.specs.declared.parts.StoreParts.{StoreParts}
 use Rattle.store_parts.specs.Held.{given, AreCountsOf, IsKeptView}
-use Rattle.store_parts.specs.States.{slots, IsRunning}
+use Rattle.store_parts.specs.States.{slots, IsRunning, staging_of}
 use Rattle.store_parts.specs.Writes.{Writes}
 use Rattle.store_parts.specs.StoredLaws.{contents_written}
 use Rattle.store_commits.specs.AcceptLaws.{with_added, IsAccepted, accepted_index, accepted_claims, accepted_given, accepted_used}
@@ -75,7 +75,7 @@ module _ {D N S : Type 0} {d : DiskGhosts D} {n : NamerGhosts N S} where
         → ((id : PoolId) → claims_in new.sessions id + count id ≡ claims_in old.sessions id)
         → Stands n.digest_of (index_of (with_added ids (slots old))) backups (applied changes at.all) after.durable
         → TellsIn false (index_of (with_added ids (slots old))) (applied changes at.all)
-        → AreSessions n.holds (given (slots old)) (contents_of at.all) after.volatile new.sessions
+        → AreSessions n.holds (given (slots old)) (contents_of at.all) (staging_of at.all names) after.volatile new.sessions
         → IsKeptView new.views.kept after.hosts backups → AreCountsOf new.counts backups → AreSound after names
         → new.journal ≡ mid.journal → new.catalog ≡ known_of_office after.durable → new.halted ≡ mid.halted → IsRunning new after names
     running_committed accepted form claims stands tells sessions view counted sound journal catalog halted = record {
@@ -103,7 +103,12 @@ module _ {D N S : Type 0} {d : DiskGhosts D} {n : NamerGhosts N S} where
         };
         counted = counted;
         sessions = AreSessions-claimed n.holds (given (slots old)) (contents_of at.all) (given (slots new)) (contents_of (applied changes at.all))
-            after.volatile new.sessions
+            (staging_of at.all names) (staging_of (applied changes at.all) names) after.volatile new.sessions
+            (record {
+              staged = λ i stage there. applied_contents changes at.all (StageFile stage.number) are refl;
+              next_stage = refl;
+              next_reader = refl;
+            })
             (λ id g some. (
               accepted_given ids count (slots old) (slots new) accepted id g (subst (λ (m : ℕ). 0 < m) (sym (claimed id)) some),
               sym (ap (λ (c : PoolId → List ℕ). c id) (contents_written changes at.all are)),

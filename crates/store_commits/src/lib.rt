@@ -5,8 +5,9 @@
 //! nothing: so want of memory leaves everything as it was. [`accept_commit`] makes in memory what was committed. [`commit_dump`] is
 //! the event that plans, writes and finishes: it promises `Runs` of store_parts, and, over whatever the disk tells, `HeedsTables` of
 //! `specs/Tables`: after Ok the former newest's table was there if it was called for, and one that isn't there is named. Its laws
-//! are those of what stands in the files afterwards (`specs/OfficeLaws`, `specs/HostLaws`, `specs/LineLaws`), of the parts that
-//! then hold the office (`specs/RunningLaws`), and of the steps to that (`specs/EventLaws`, `specs/HoldLaws`).
+//! are those of what stands in the files afterwards (`specs/OfficeLaws`, `specs/HostLaws`, `specs/LineLaws`), of what is open
+//! without the dump and its stages (`specs/Ending`), of the parts that then hold the office (`specs/RunningLaws`), and of the steps
+//! to that (`specs/EventLaws`, `specs/HoldLaws`).
 //!
 //! | Type | What it is |
 //! |---|---|

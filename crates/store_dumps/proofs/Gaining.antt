@@ -16,16 +16,16 @@ use Rattle.office_model.specs.UsedNames.{AreSound}
 use Rattle.office_files.specs.Pooled.{contents_of}
 use Rattle.store_parts.specs.declared.parts.StoreParts.{StoreParts}
 use Rattle.store_parts.specs.Held.{given}
-use Rattle.store_parts.specs.States.{slots, IsWorking, IsRunning}
+use Rattle.store_parts.specs.States.{slots, IsWorking, IsRunning, staging_of}
 use Rattle.store_dumps.specs.Claims.{Gains}
 use Rattle.store_dumps.specs.ClaimLaws.{lets_go_none}
-use Rattle.store_dumps.proofs.Running.{was_live, running_let_go}
+use Rattle.store_dumps.specs.RunningLaws.{was_live, running_let_go}
 use Rattle.store_parts.specs.StagingLaws.{HasStaged, working_staged}
 
 module _ {D N S : Type 0} {d : DiskGhosts D} {n : NamerGhosts N S} where
   -- the same files, and claims more on given names
   unfoldable pub staged_gains : (old mid : StoreParts D N S d n) (office : Office) (names : Names) (at : IsRunning old office names)
-      (count : PoolId → ℕ) → Gains count (slots old) (slots mid) → mid.journal ≡ old.journal → HasStaged old mid names at.all
+      (count : PoolId → ℕ) → Gains count (slots old) (slots mid) → mid.journal ≡ old.journal → HasStaged old mid names office.stages at.all
   staged_gains old mid office names at count gains journal = record {
     used' = names.used;
     all' = at.all;
@@ -35,6 +35,7 @@ module _ {D N S : Type 0} {d : DiskGhosts D} {n : NamerGhosts N S} where
       file = λ id g. refl;
       metadata = λ asked e. refl;
       live = λ id. (gains id).live;
+      stage = λ i stage there. refl;
     };
     fits = fits_less n.digest_of (slots old) (slots mid) (uncertain old.journal) (uncertain mid.journal) at.all at.all (record {
       given = λ id g. sym (gains id).given ∙ g;
@@ -56,8 +57,8 @@ module _ {D N S : Type 0} {d : DiskGhosts D} {n : NamerGhosts N S} where
       → new.counts ≡ old.counts → new.views ≡ old.views → new.halted ≡ old.halted
       → new.pool.in_one_file ≡ old.pool.in_one_file
       → ((id : PoolId) → claims_in new.sessions id ≡ claims_in old.sessions id + count id)
-      → (AreSessions n.holds (given (slots new)) (contents_of at.all) office.volatile old.sessions
-      → AreSessions n.holds (given (slots new)) (contents_of at.all) next.volatile new.sessions)
+      → (AreSessions n.holds (given (slots new)) (contents_of at.all) (staging_of at.all names) office.volatile old.sessions
+      → AreSessions n.holds (given (slots new)) (contents_of at.all) (staging_of at.all names) next.volatile new.sessions)
       → next.durable ≡ office.durable → next.hosts ≡ office.hosts → AreSound next names → IsRunning new next names
   unfolding working_staged staged_gains
   running_gains old new office next names count at gains journal catalog counts views halted form claims opens same hosts sound =

@@ -1,11 +1,6 @@
-pub mod Running
 pub mod Aborts
 pub mod Hosts
 pub mod Removes
-pub mod Counting
-pub mod Seen
-pub mod Staging
-pub mod Staged
 pub mod Undamaged
 pub mod Puts
 pub mod Gaining

@@ -19,7 +19,7 @@ use Rattle.stored_trees.specs.Occurrences.{occurrences}
 use Rattle.office_catalog.specs.Known.{Known, host_named, names_of}
 use Rattle.open_sessions.specs.declared.sessions.OpenDump.{OpenDump}
 use Rattle.open_sessions.specs.declared.sessions.Sessions.{Sessions}
-use Rattle.open_sessions.specs.Opened.{AreRowsOf, IsDump, AreSessions, claims_in}
+use Rattle.open_sessions.specs.Opened.{AreRowsOf, IsDump, Staging, AreSessions, claims_in}
 use Rattle.open_sessions.specs.CallLaws.{AreSessions-dump_opened, claims_in-dump_opened}
 use Rattle.open_sessions.specs.SessionLaws.{dump_index_of_host-sessions}
 use Rattle.office_model.specs.declared.answer.Answer.TheVariants.{Dump as DumpAnswer}
@@ -40,7 +40,7 @@ use Rattle.office_known.specs.CatalogLaws.{IsNamed, named_host}
 use Rattle.store_parts.specs.declared.parts.StoreParts.{StoreParts}
 use Rattle.store_parts.specs.Held.{given}
 use Rattle.store_parts.specs.Refusals.{IsReadFault}
-use Rattle.store_parts.specs.States.{slots, IsRunning}
+use Rattle.store_parts.specs.States.{slots, IsRunning, staging_of}
 use Rattle.store_parts.specs.Runs.{Runs, Reads}
 use Rattle.store_parts.specs.RunLaws.{runs_reads, runs_memory, runs_read_fault, counted_fine}
 use Rattle.store_dumps.specs.Base.{has_base, IsBase, BeginsWith, IsBaseFault}
@@ -49,7 +49,7 @@ use Rattle.store_dumps.specs.Opening.{opening_rule, session_of, IsFresh, IsOpene
 use Rattle.store_dumps.proofs.Bases.{rows_given, base_there, no_base, lines_are}
 use Rattle.store_dumps.proofs.Gaining.{running_gains}
 use Rattle.store_dumps.proofs.Hosts.{index_named}
-use Rattle.store_dumps.proofs.Running.{Makes, runs_kept, runs_read_then, runs_kept_memory}
+use Rattle.store_dumps.specs.RunningLaws.{Makes, runs_kept, runs_read_then, runs_kept_memory}
 
 -- ---- the model's rules
 
@@ -122,11 +122,12 @@ module _ (given : PoolId → Type 0) (contents : PoolId → List ℕ) (office : 
     tree_rows = subst (AreRowsOf given contents) (sym fresh.tree_is) of;
   }
 
-  pub sessions_opened : {S : Type 0} (holds : S → List ℕ → Type 0) (old new : Sessions S) (epoch : ℕ) (name : SessionName)
-      → epoch ≡ office.epoch → AreSessions holds given contents office.volatile old → IsOpened old epoch place kind now rows name new
-      → AreSessions holds given contents (with_fresh office place kind now (resolved contents rows)).volatile new
-  sessions_opened holds old new epoch name same are opened =
-      AreSessions-dump_opened old new opened.beside holds given contents office.volatile are
+  pub sessions_opened : {S : Type 0} (holds : S → List ℕ → Type 0) (staging : Staging) (old new : Sessions S) (epoch : ℕ)
+      (name : SessionName) → epoch ≡ office.epoch → AreSessions holds given contents staging office.volatile old
+      → IsOpened old epoch place kind now rows name new
+      → AreSessions holds given contents staging (with_fresh office place kind now (resolved contents rows)).volatile new
+  sessions_opened holds staging old new epoch name same are opened =
+      AreSessions-dump_opened old new opened.beside holds given contents staging office.volatile are
       (OpenDumpModel.new_dump (OpenDumpModel.next_session office) place kind now (resolved contents rows)) opened.dump
       (fresh_is (session_of epoch old.sequence) opened.dump (λ i. session_of (same i) (are.sequence i)) opened.fresh) opened.dumps
       opened.sequence
@@ -278,7 +279,7 @@ module _ {D N S : Type 0} {d : DiskGhosts D} {n : NamerGhosts N S} where
                     has.halted has.form
                     (λ id. claims_opened old.sessions new.sessions old.catalog.epoch place kind now rows session has.sessions id)
                     (λ are. sessions_opened (given (slots new)) (contents_of at.all) office place kind now rows rows_of n.holds
-                    old.sessions new.sessions old.catalog.epoch session epoch are has.sessions)
+                    (staging_of at.all names) old.sessions new.sessions old.catalog.epoch session epoch are has.sessions)
                     refl refl
                     (AreSound-carried office names Event' (record { answer = DumpAnswer session; after = next }) names at.sound judged refl)
 

@@ -28,11 +28,11 @@ use Rattle.office_model.specs.events.Remove as RemoveEvent
 use Rattle.office_files.specs.Pooled.{contents_of}
 use Rattle.store_parts.specs.declared.parts.StoreParts.{StoreParts}
 use Rattle.store_parts.specs.Held.{given}
-use Rattle.store_parts.specs.States.{slots, IsRunning}
+use Rattle.store_parts.specs.States.{slots, IsRunning, staging_of}
 use Rattle.store_parts.specs.Runs.{Runs}
 use Rattle.store_dumps.specs.Claims.{LetsGo}
-use Rattle.store_dumps.proofs.Aborts.{place_of, dump_found}
-use Rattle.store_dumps.proofs.Running.{running_let_go, runs_kept}
+use Rattle.store_dumps.specs.DumpLaws.{place_of, dump_found}
+use Rattle.store_dumps.specs.RunningLaws.{running_let_go, runs_kept}
 
 -- ---- rows without a path
 
@@ -144,8 +144,8 @@ module _ {D N S : Type 0} {d : DiskGhosts D} {n : NamerGhosts N S} where
                   claims_in-dump_edited old.sessions new.sessions only.beside id index dump (removed dump path) there dumps,
                   occurrences-without id dump.tree path,
                 ))
-                (AreSessions-dump_edited old.sessions new.sessions only.beside n.holds (given (slots old)) (contents_of at.all) office.volatile
-                at.sessions index (RemoveEvent.with_removed found.value path) (removed dump path)
+                (AreSessions-dump_edited old.sessions new.sessions only.beside n.holds (given (slots old)) (contents_of at.all)
+                (staging_of at.all names) office.volatile at.sessions index (RemoveEvent.with_removed found.value path) (removed dump path)
                 (dump_without (given (slots old)) (contents_of at.all) found.value dump path found.is) dumps only.sequence)
                 refl refl (AreSound-carried office names (Remove session path) (record { answer = Done; after = next }) names at.sound judged refl);
           })

@@ -4,3 +4,11 @@ pub mod Base
 pub mod Opening
 pub mod Comparing
 pub mod Putting
+pub mod DumpLaws
+pub mod RunningLaws
+pub mod CountingLaws
+pub mod SeenLaws
+pub mod TakingLaws
+pub mod StagedLaws
+pub mod NodeLaws
+pub mod PutLaws

@@ -12,8 +12,8 @@ use pool_name::Namer;
 use std::alloc::Global;
 use store_parts::StoreParts;
 
-/// Drops an open dump, and lets go what its rows and those of its base claim: a content that was staged for it and that
-/// nothing else claims is to be swept. After a refusal nothing has changed.
+/// Drops an open dump with its stages, and lets go what its rows and those of its base claim: a content that was staged for it
+/// and that nothing else claims is to be swept. After a refusal nothing has changed.
 pub fn abort<D: Disk, N: Namer>(
     parts: &mut StoreParts<D, N>,
     alloc: Global,
@@ -29,5 +29,6 @@ pub fn abort<D: Disk, N: Namer>(
         Err(_) => return Err(Refusal::Memory),
     }
     let _dump = parts.sessions.take_dump(at);
+    parts.sessions.stages.end_those_of(session);
     Ok(Answer::Done)
 }

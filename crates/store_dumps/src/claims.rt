@@ -42,7 +42,7 @@ fn release_id<N: Namer>(pool: &mut Pool<N>, id: PoolId)
 }
 
 /// Lets go a claim on a content, if one is named.
-pub(crate) fn release<N: Namer>(pool: &mut Pool<N>, content: Option<PoolId>)
+pub fn release<N: Namer>(pool: &mut Pool<N>, content: Option<PoolId>)
     ensures go { ((id : PoolId) → claims_of_content content id ≤ claims_of (slots_of pool.old.names id))
         → LetsGo (λ id. claims_of_content content id) (slots_of pool.old.names) (slots_of pool.new.names) }
     ensures form { pool.new.in_one_file ≡ pool.old.in_one_file }
@@ -96,7 +96,7 @@ pub(crate) fn release_dump<N: Namer>(
 }
 
 /// Claims a content, if its name is live or staged.
-fn claim_id<N: Namer>(pool: &mut Pool<N>, id: PoolId)
+pub fn claim_id<N: Namer>(pool: &mut Pool<N>, id: PoolId)
     requires { 0 < pool.old.spare }
     ensures gains { is_given (slots_of pool.old.names id) ≡ true
         → Gains (λ other. if is_same_id id other then 1 else 0) (slots_of pool.old.names) (slots_of pool.new.names) }

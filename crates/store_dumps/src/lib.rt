@@ -9,8 +9,12 @@
 //! | [`open_dump`] | opens a dump of a host: a full one, or an incremental, which begins with the tree of its newest backup |
 //! | [`put`] | puts a node at a path of its tree |
 //! | [`remove`] | takes a path and all below it out of its tree |
-//! | [`abort`] | drops an open dump, and lets go its claims |
+//! | [`abort`] | drops an open dump with its stages, and lets go its claims |
 //! | [`claim_rows`], [`release_rows`] | claims of rows are taken, and let go, one for each row that names a content |
+//! | [`claim_id`], [`release`] | one claim is taken, and let go |
+//! | [`content_of`], [`refused_put`] | for a put of a stage: the content of what is at a path, and what a fault of a tree is |
+//!
+//! `specs/PutLaws` says what a put leaves, whatever holds the bytes; `specs/StagedLaws` what the pool's answer to them is to the office.
 #![tactic(auto)]
 
 mod aborting;
@@ -22,7 +26,7 @@ mod putting;
 mod removing;
 
 pub use aborting::abort;
-pub use claims::{claim_rows, release_rows};
+pub use claims::{claim_id, claim_rows, release, release_rows};
 pub use opening::open_dump;
-pub use putting::put;
+pub use putting::{content_of, put, refused_put};
 pub use removing::remove;

@@ -18,6 +18,7 @@ ghost use Rattle.pool_store.specs.Chains.{SaysDamaged, SaysGiven};
 ghost use Rattle.pool_store.specs.Pools.{Misses, IsCertain, IsNotForeign};
 ghost use Rattle.open_sessions.specs.declared.sessions.OpenDump.{OpenDump};
 ghost use Rattle.office_model.specs.declared.event.Event.TheVariants.{Put};
+ghost use Rattle.office_model.specs.declared.event.PutItem.TheVariants.{Whole};
 ghost use Rattle.tree_frames.specs.Frames.{bytes_of};
 ghost use Rattle.office_model.specs.History.{IsUndamaged};
 ghost use Rattle.store_parts.specs.Runs.{Runs};
@@ -39,7 +40,7 @@ use std::alloc::{AllocError, Global};
 use store_parts::{StoreParts, refusal_of_pool};
 
 /// The refusal that a fault of a dump's tree is.
-fn refused_put(fault: PutFault) -> Refusal
+pub fn refused_put(fault: PutFault) -> Refusal
     ensures { result ≡ refused_put fault }
 {
     match fault {
@@ -146,7 +147,7 @@ fn record_of(alloc: Global, item: &Item, content: Option<PoolId>) -> Result<Reco
 }
 
 /// The name of the content of what was found, if it has one.
-fn content_of(found: Option<&Record>) -> Option<PoolId>
+pub fn content_of(found: Option<&Record>) -> Option<PoolId>
     ensures { result ≡ content_found (option_copied found.entry) }
 {
     match found {
@@ -192,7 +193,7 @@ pub fn put<D: Disk, N: Namer>(
 ) -> Result<Answer, Refusal>
     requires ready { parts.old.halted ≡ false }
     requires journal_ready { parts.old.journal.halted ≡ false }
-    ensures runs { Runs parts.old (Put session path.now item.now) result parts.new }
+    ensures runs { Runs parts.old (Put session path.now (Whole item.now)) result parts.new }
     ensures undamaged { IsUndamaged result }
 {
     let at = parts.dump(session)?;

@@ -20,7 +20,7 @@ use Rattle.pool_changes.specs.Listed.{index_of}
 use Rattle.pool_store.specs.Opened.{IsFresh, Opens}
 use Rattle.pool_store.specs.Opening.{AreFresh}
 use Rattle.pool_store.specs.Complete.{HaveFiles}
-use Rattle.office_model.specs.Office.{Durable}
+use Rattle.office_model.specs.Office.{Durable, Names}
 use Rattle.office_files.specs.KeptLaws.{tells_kept, listed_held}
 use Rattle.office_files.specs.OneLaws.{one_listing}
 use Rattle.office_files.specs.Stands.{Stands, StandsFor}
@@ -65,11 +65,15 @@ fresh_live (Some Doomed) fresh given = absurd (false≢true given)
 
 -- ---- what was read is one of the two offices
 
+-- the names that are in use; the numbers of the next stage and reader are not on the disk
+abbrev found_names : {N S : Type 0} {n : NamerGhosts N S} → Found N S n → Names
+found_names {n = n} found = record { digest_of = n.digest_of; used = used_of found.pool.names; next_stage = 0; next_reader = 0 }
+
 module _ {D N S : Type 0} {d : DiskGhosts D} {n : NamerGhosts N S} where
   read_one : (new : Journal D d) (found : Found N S n) (all raw : Files) (office : Durable) → new.halted ≡ false → told new ≡ Some all
       → seen raw ≡ all → ((file : FileId) → uncertain new file ≡ false) → Opens found.pool.in_one_file (slots_of found.pool.names) raw
       → AreFresh (slots_of found.pool.names) → HoldsCatalog all found.catalog → StandsFor n.digest_of all office
-      → IsStored new found.pool found.catalog office (record { digest_of = n.digest_of; used = used_of found.pool.names })
+      → IsStored new found.pool found.catalog office (found_names found)
   read_one new found all raw office ready told_is same certain opens fresh holds s = record {
     journal_ready = ready;
     all = all;
@@ -105,7 +109,7 @@ module _ {D N S : Type 0} {d : DiskGhosts D} {n : NamerGhosts N S} where
       → seen raw ≡ all → ((file : FileId) → uncertain new file ≡ false) → Opens found.pool.in_one_file (slots_of found.pool.names) raw
       → AreFresh (slots_of found.pool.names) → HoldsCatalog all found.catalog
       → AreTold all (length found.catalog.hosts) found.counts → StandsFor n.digest_of all office
-      → IsHeld new found.pool found.catalog found.counts office (record { digest_of = n.digest_of; used = used_of found.pool.names })
+      → IsHeld new found.pool found.catalog found.counts office (found_names found)
   unfolding read_one
   held_one new found all raw office ready told_is same certain opens fresh holds told s = record {
     stored = read_one new found all raw office ready told_is same certain opens fresh holds s;
@@ -123,7 +127,7 @@ module _ {D N S : Type 0} {d : DiskGhosts D} {n : NamerGhosts N S} where
       raw = told_raw (d.files old.disk) holds.all holds.told_is
 
       held : (office : Durable) → StandsFor n.digest_of holds.all office
-          → IsHeld new found.pool found.catalog found.counts office (record { digest_of = n.digest_of; used = used_of found.pool.names })
+          → IsHeld new found.pool found.catalog found.counts office (found_names found)
       held office s =
           held_one new found holds.all raw.0 office (quiet.halted_same ∙ ready) (quiet.told_same ∙ holds.told_is) raw.2
           (λ file. quiet.certain.each file (holds.certain.each file refl)) (opens raw.0 raw.1) fresh (catalog holds.all holds.told_is)
@@ -133,14 +137,14 @@ module _ {D N S : Type 0} {d : DiskGhosts D} {n : NamerGhosts N S} where
       step (inl s) = record {
         office = a;
         is_one = inl refl;
-        names = record { digest_of = n.digest_of; used = used_of found.pool.names };
+        names = found_names found;
         held = held a s;
         fresh = fresh;
       }
       step (inr s) = record {
         office = b;
         is_one = inr refl;
-        names = record { digest_of = n.digest_of; used = used_of found.pool.names };
+        names = found_names found;
         held = held b s;
         fresh = fresh;
       }

@@ -19,6 +19,7 @@ use Rattle.pool_store.specs.Opening.{AreFresh, AreThePoolFiles}
 use Rattle.backup_views.specs.declared.kept.KeptView.{KeptView}
 use Rattle.ref_counts.specs.Numbers.{Items}
 use Rattle.ref_counts.specs.Stored.{Backup as StoredBackup}
+use Rattle.open_sessions.specs.Opened.{AreNumbers}
 use Rattle.open_sessions.specs.SessionLaws.{AreSessions-none, claims_in-none}
 use Rattle.office_catalog.specs.Known.{Known}
 use Rattle.office_files.specs.Pooled.{contents_of}
@@ -36,8 +37,8 @@ use Rattle.office_model.specs.laws.ReopenLaws.{IsSound-reopened}
 use Rattle.office_model.specs.Step.{State, Running, Halted, IsPicked}
 use Rattle.office_model.specs.events.Reopen.{carried}
 use Rattle.store_parts.specs.declared.parts.StoreParts.{StoreParts}
-use Rattle.store_parts.specs.Held.{AreUsed, given, IsKeptView, MayBe}
-use Rattle.store_parts.specs.States.{slots, IsRunning, IsHalted, InState}
+use Rattle.store_parts.specs.Held.{AreUsed, given, IsKeptView, IsStored, MayBe}
+use Rattle.store_parts.specs.States.{slots, staging_of, IsRunning, IsHalted, InState}
 use Rattle.store_parts.specs.Runs.{Steps, Reads}
 use Rattle.store_parts.specs.RunLaws.{running_reads}
 use Rattle.store_opening.specs.declared.found.Found.{Found}
@@ -67,38 +68,68 @@ kept_none kept hosts backups e = subst (λ (k : Option KeptView). IsKeptView k h
 not_raised : (kept : Durable) → IsSoundDurable (raised kept) → IsSoundDurable kept
 not_raised kept sound = record { hosts = sound.hosts; pool_order = sound.pool_order; of_backups = sound.of_backups }
 
+abbrev numbered_from : ℕ → ℕ → Names → Names
+numbered_from next_stage next_reader names = record names { next_stage = next_stage; next_reader = next_reader }
+
 module _ {D N S : Type 0} {d : DiskGhosts D} {n : NamerGhosts N S} where
+  -- what is durable has no number of a stage or a reader
+  unfoldable stored_from : (journal : Journal D d) (pool : Pool N S n) (catalog : Known) (office : Durable) (names : Names)
+      (next_stage next_reader : ℕ) → IsStored journal pool catalog office names
+      → IsStored journal pool catalog office (numbered_from next_stage next_reader names)
+  stored_from journal pool catalog office names next_stage next_reader at = record {
+    journal_ready = at.journal_ready;
+    all = at.all;
+    backups = at.backups;
+    told_is = at.told_is;
+    stands = at.stands;
+    tells = at.tells;
+    fits = at.fits;
+    all_used = at.all_used;
+    used = at.used;
+    digest = at.digest;
+    catalog_is = at.catalog_is;
+  }
+
+  held_from : (journal : Journal D d) (pool : Pool N S n) (catalog : Known) (counts : List Items) (office : Durable) (names : Names)
+      (next_stage next_reader : ℕ) → IsHeld journal pool catalog counts office names
+      → IsHeld journal pool catalog counts office (numbered_from next_stage next_reader names)
+  unfolding stored_from
+  held_from journal pool catalog counts office names next_stage next_reader held = record {
+    stored = stored_from journal pool catalog office names next_stage next_reader held.stored;
+    counted = held.counted;
+  }
+
   -- a store of these parts is at work
-  fresh_running : (parts : StoreParts D N S d n) (found : Found N S n) (office : Durable) (names : Names) → IsOfFound parts found
-      → AreFresh (slots parts) → IsHeld parts.journal parts.pool parts.catalog parts.counts (raised office) names
-      → IsRunning parts (reopened office) names
+  fresh_running : (parts : StoreParts D N S d n) (found : Found N S n) (office : Durable) (names : Names)
+      → IsOfFound parts found names.next_stage names.next_reader → AreFresh (slots parts)
+      → IsHeld parts.journal parts.pool parts.catalog parts.counts (raised office) names → IsRunning parts (reopened office) names
   fresh_running parts found office names is fresh held = record {
     working = record {
       ready = is.ready;
       stored = held.stored;
       counted = held.counted;
-      sessions = AreSessions-none n.holds (given (slots parts)) (contents_of held.stored.all) parts.sessions is.none is.first;
+      sessions = AreSessions-none n.holds (given (slots parts)) (contents_of held.stored.all) (staging_of held.stored.all names)
+          parts.sessions is.none is.first is.numbers;
       view = kept_none parts.views.kept office.hosts held.stored.backups is.no_view;
       sound = record {
         office = IsSound-reopened office (not_raised office held.stored.stands.sound);
-        names = record { distinct = held.stored.used.distinct };
+        names = record {
+          distinct = held.stored.used.distinct;
+          given = record { stages = λ i s at. absurd cc; readers = λ i r at. absurd cc };
+        };
       };
     };
     claimed = λ id. fresh_claims (slots parts id) (fresh id) ∙ sym (claims_in-none parts.sessions is.none id);
   }
 
-  pub raised_running : (parts : StoreParts D N S d n) (journal : Journal D d) (found : Found N S n) (a b : Durable) (epoch : ℕ)
-      → Raised journal found a b → IsOfFound parts found → parts.journal ≡ journal → epoch ≡ found.catalog.epoch
-      → Reopened a b (ReopenedAnswer epoch) parts
-  raised_running parts journal found a b epoch rose is same epoch_is = record {
-    office = rose.office;
-    is_one = rose.is_one;
-    room = rose.room;
-    answer_is = ap ReopenedAnswer (epoch_is ∙ ap (λ (k : Known). k.epoch) rose.stored.catalog_is);
-    names = rose.names;
-    running = fresh_running parts found rose.office rose.names is
-        (subst (λ (p : Pool N S n). AreFresh (slots_of p.names)) (sym is.pool_is) rose.fresh) held;
-  }
+  -- what was found is at work, with these numbers
+  found_running : (parts : StoreParts D N S d n) (journal : Journal D d) (found : Found N S n) (a b : Durable) (next_stage next_reader : ℕ)
+      (rose : Raised journal found a b) → IsOfFound parts found next_stage next_reader → parts.journal ≡ journal
+      → IsRunning parts (reopened rose.office) (numbered_from next_stage next_reader rose.names)
+  found_running parts journal found a b next_stage next_reader rose is same =
+      fresh_running parts found rose.office (numbered_from next_stage next_reader rose.names) is
+      (subst (λ (p : Pool N S n). AreFresh (slots_of p.names)) (sym is.pool_is) rose.fresh)
+      (held_from parts.journal parts.pool parts.catalog parts.counts (raised rose.office) rose.names next_stage next_reader held)
     where
       held : IsHeld parts.journal parts.pool parts.catalog parts.counts (raised rose.office) rose.names
       held =
@@ -108,38 +139,58 @@ module _ {D N S : Type 0} {d : DiskGhosts D} {n : NamerGhosts N S} where
           (subst (λ (c : List Items). IsHeld journal found.pool found.catalog c (raised rose.office) rose.names) (sym is.counts_are)
           rose.held)))
 
-  opened_of : (parts : StoreParts D N S d n) (journal : Journal D d) (found : Found N S n) (a b : Durable) → Raised journal found a b
-      → IsOfFound parts found → parts.journal ≡ journal → Opened a b parts
-  opened_of parts journal found a b rose is same =
-      let r = raised_running parts journal found a b found.catalog.epoch rose is same refl in
-      record { office = r.office; is_one = r.is_one; room = r.room; names = r.names; running = r.running }
+  -- a store that reopened, whose numbers go on
+  pub raised_running : (old parts : StoreParts D N S d n) (journal : Journal D d) (found : Found N S n) (a b : Durable) (epoch : ℕ)
+      → Raised journal found a b → IsOfFound parts found old.sessions.stages.next old.sessions.readers.next → parts.journal ≡ journal
+      → epoch ≡ found.catalog.epoch → Reopened a b (ReopenedAnswer epoch) old parts
+  raised_running old parts journal found a b epoch rose is same epoch_is = record {
+    office = rose.office;
+    is_one = rose.is_one;
+    room = rose.room;
+    answer_is = ap ReopenedAnswer (epoch_is ∙ ap (λ (k : Known). k.epoch) rose.stored.catalog_is);
+    names = numbered_from old.sessions.stages.next old.sessions.readers.next rose.names;
+    numbers = record { stage = refl; reader = refl };
+    running = found_running parts journal found a b old.sessions.stages.next old.sessions.readers.next rose is same;
+  }
+
+  -- a store that opened, whose numbers begin
+  pub opened_of : (parts : StoreParts D N S d n) (journal : Journal D d) (found : Found N S n) (a b : Durable) → Raised journal found a b
+      → IsOfFound parts found 0 0 → parts.journal ≡ journal → Opened a b parts
+  opened_of parts journal found a b rose is same = record {
+    office = rose.office;
+    is_one = rose.is_one;
+    room = rose.room;
+    names = numbered_from 0 0 rose.names;
+    numbers = is.numbers;
+    running = found_running parts journal found a b 0 0 rose is same;
+  }
 
   pub started_of : (old : D) (parts : StoreParts D N S d n) (journal : Journal D d) (found : Found N S n) (a b : Durable)
-      → Ends a b (Ok found) old journal → IsOfFound parts found → parts.journal ≡ journal
+      → Ends a b (Ok found) old journal → IsOfFound parts found 0 0 → parts.journal ≡ journal
       → (o : Opened a b parts) × IsOfOne d n.digest_of old parts.journal.disk o.office
-  unfolding opened_of raised_running
+  unfolding opened_of
   started_of old parts journal found a b ends is same = (
     opened_of parts journal found a b ends.0 is same,
     subst (λ (j : Journal D d). IsOfOne d n.digest_of old j.disk ends.0.office) (sym same) ends.1,
   )
 
   goes_to_raised : (old new : StoreParts D N S d n) (journal : Journal D d) (found : Found N S n) (a b : Durable) (epoch : ℕ)
-      → Settles a b (Ok found) old.journal.disk journal → IsOfFound new found → new.journal ≡ journal → epoch ≡ found.catalog.epoch
-      → GoesTo a b (Ok (ReopenedAnswer epoch)) old new
+      → Settles a b (Ok found) old.journal.disk journal → IsOfFound new found old.sessions.stages.next old.sessions.readers.next
+      → new.journal ≡ journal → epoch ≡ found.catalog.epoch → GoesTo a b (Ok (ReopenedAnswer epoch)) old new
   unfolding raised_running
   goes_to_raised old new journal found a b epoch settles is same epoch_is = (
-    raised_running new journal found a b epoch settles.0 is same epoch_is,
+    raised_running old new journal found a b epoch settles.0 is same epoch_is,
     subst (λ (j : Journal D d). ComesToOne d n.digest_of old.journal.disk j.disk a b settles.0.office) (sym same) settles.1,
   )
 
   -- ---- how it goes
 
-  pub goes_refused : (new : StoreParts D N S d n) (a b : Durable) (refusal : OpenRefusal) → (halts refusal ≡ true → new.halted ≡ true)
-      → Begins {n = n} a b (Err refusal) new.journal → Goes a b (Err (reply_of refusal)) new
-  goes_refused new a b (O.Foreign file found) halted begins = begins
-  goes_refused new a b O.EpochsSpent halted begins = (refl, begins)
-  goes_refused new a b O.DiskFault halted begins = (halted refl, begins)
-  goes_refused new a b O.Memory halted begins = begins
+  pub goes_refused : (old new : StoreParts D N S d n) (a b : Durable) (refusal : OpenRefusal) → (halts refusal ≡ true → new.halted ≡ true)
+      → Begins {n = n} a b (Err refusal) new.journal → Goes a b (Err (reply_of refusal)) old new
+  goes_refused old new a b (O.Foreign file found) halted begins = begins
+  goes_refused old new a b O.EpochsSpent halted begins = (refl, begins)
+  goes_refused old new a b O.DiskFault halted begins = (halted refl, begins)
+  goes_refused old new a b O.Memory halted begins = begins
 
 plain_of : (refusal : OpenRefusal) → IsPlainReply (Err (reply_of refusal)) → IsPlain refusal
 plain_of (O.Foreign file found) plain = absurd plain
@@ -203,9 +254,10 @@ module _ {D N S : Type 0} {d : DiskGhosts D} {n : NamerGhosts N S} where
       → Counted (d.fault_count old.journal.disk) (d.fault_count journal.disk) (IsErrOf (Ok found) O.DiskFault)
       → ((a b : Durable) → MayBe n.digest_of old.journal a b → Settles a b (Ok found) old.journal.disk journal)
       → IsAllOf (told journal) found → AreThePoolFiles (d.files old.journal.disk) (slots_of found.pool.names)
-      → IsOfFound new found → new.journal ≡ journal → epoch ≡ found.catalog.epoch → Reopens old (Ok (ReopenedAnswer epoch)) new
+      → IsOfFound new found old.sessions.stages.next old.sessions.readers.next → new.journal ≡ journal → epoch ≡ found.catalog.epoch
+      → Reopens old (Ok (ReopenedAnswer epoch)) new
   reopens_raised old new journal found epoch begins crash counted settles whole listed is same epoch_is = record {
-    goes = λ a b may. raised_running new journal found a b epoch (begins a b may) is same epoch_is;
+    goes = λ a b may. raised_running old new journal found a b epoch (begins a b may) is same epoch_is;
     crash = λ a b may. subst (λ (j : Journal D d). FindsOnly old.journal j (MayLeave n.digest_of a b)) (sym same) (crash a b may);
     settles = λ a b may. goes_to_raised old new journal found a b epoch (settles a b may) is same epoch_is;
     stays = λ refusal e. absurd cc;
@@ -233,7 +285,7 @@ module _ {D N S : Type 0} {d : DiskGhosts D} {n : NamerGhosts N S} where
       → Reopens old (Err reply) new
   reopens_refused old new refusal reply reply_is stays halted begins crash quiet counted says spent settles =
       subst (λ (r : Refusal). Reopens old (Err r) new) (sym reply_is) (record {
-        goes = λ a b may. goes_refused new a b refusal (λ e. halted ∙ either_halts old.halted (halts refusal) e) (begins a b may);
+        goes = λ a b may. goes_refused old new a b refusal (λ e. halted ∙ either_halts old.halted (halts refusal) e) (begins a b may);
         crash = crash;
         settles = settles;
         stays = λ r e. stays;
@@ -263,9 +315,11 @@ carried_at office room = rw (room_is office.epoch room) refl
 spent_at : (office : Durable) → last_sequence ≤ office.epoch → carried office ≡ Err NumbersSpent
 spent_at office last = rw (last_is office.epoch last) refl
 
--- names of the same digest
-only_used : (names names' : Names) → names'.digest_of ≡ names.digest_of → OnlyUsed names names'
-only_used names names' same = λ i. record { digest_of = same i; used = names'.used }
+-- names of the same digest, and the same numbers
+only_used : (names names' : Names) → names'.digest_of ≡ names.digest_of → names'.next_stage ≡ names.next_stage
+    → names'.next_reader ≡ names.next_reader → OnlyUsed names names'
+only_used names names' same stage reader =
+    λ i. record { digest_of = same i; used = names'.used; next_stage = stage i; next_reader = reader i }
 
 one_of : (x office : Durable) → IsPicked x x office → office ≡ x
 one_of x office (inl e) = e
@@ -303,22 +357,24 @@ module _ {D N S : Type 0} {d : DiskGhosts D} {n : NamerGhosts N S} where
     may_be = may;
     used = subst (λ (p : StoreParts D N S d n). AreUsed (slots p) names.used) (sym stays) at.used;
     digest = at.digest;
+    numbers = subst (λ (p : StoreParts D N S d n). AreNumbers names.next_stage names.next_reader p.sessions) (sym stays) at.numbers;
   }
 
   -- a fault of the disk: the parts are halted
   halted_in : (old new : StoreParts D N S d n) (state : State) (names : Names) (a b : Durable) → InState old state
-      → AreUsed (slots old) names.used → names.digest_of ≡ n.digest_of → new ≡ with_journal old new.journal new.halted → new.halted ≡ true
-      → MayBe n.digest_of new.journal a b → IsHalted new a b names
-  halted_in old new state names a b at used digest stays stuck may = record {
+      → AreUsed (slots old) names.used → names.digest_of ≡ n.digest_of → AreNumbers names.next_stage names.next_reader old.sessions
+      → new ≡ with_journal old new.journal new.halted → new.halted ≡ true → MayBe n.digest_of new.journal a b → IsHalted new a b names
+  halted_in old new state names a b at used digest numbers stays stuck may = record {
     stuck = stuck;
     may_be = may;
     used = subst (λ (p : StoreParts D N S d n). AreUsed (slots p) names.used) (sym stays) used;
     digest = digest;
+    numbers = subst (λ (p : StoreParts D N S d n). AreNumbers names.next_stage names.next_reader p.sessions) (sym stays) numbers;
   }
 
   -- of a store at work
   steps_running : (old new : StoreParts D N S d n) (reply : Reply) (office : Office) (names : Names) → Reopens old reply new
-      → IsRunning old office names → Goes office.durable office.durable reply new → Steps (Running office names) Reopen reply new
+      → IsRunning old office names → Goes office.durable office.durable reply old new → Steps (Running office names) Reopen reply new
   steps_running old new (Ok answer) office names reopens at r =
       let one = one_of office.durable r.office r.is_one in
       let room : office.epoch < last_sequence = subst (λ (o : Durable). o.epoch < last_sequence) one r.room in
@@ -326,7 +382,11 @@ module _ {D N S : Type 0} {d : DiskGhosts D} {n : NamerGhosts N S} where
         next = Running (reopened r.office) r.names;
         step = (
           carried_at office.durable room ∙ (λ i. Ok (record { answer = answer_at i; after = reopened (one_back i) })),
-          (only_used names r.names (r.running.digest ∙ sym at.digest), r.running.used.distinct),
+          (
+            only_used names r.names (r.running.digest ∙ sym at.digest)
+                (sym r.numbers.stage ∙ at.sessions.numbers.stage) (sym r.numbers.reader ∙ at.sessions.numbers.reader),
+            r.running.used.distinct,
+          ),
         );
         undamaged = tt;
         in_state = r.running;
@@ -360,26 +420,30 @@ module _ {D N S : Type 0} {d : DiskGhosts D} {n : NamerGhosts N S} where
       next = Halted office.durable office.durable names;
       step = ((refl, inl refl), refl);
       undamaged = tt;
-      in_state = halted_in old new (Running office names) names office.durable office.durable at at.used at.digest
+      in_state = halted_in old new (Running office names) names office.durable office.durable at at.used at.digest at.sessions.numbers
           (reopens.stays DiskFault refl) goes.0 may;
     }
     | inr w ↦ record {
       next = Halted w.0 (raised w.0) names;
       step = ((one_of office.durable w.0 w.1, inr (ap raised (one_of office.durable w.0 w.1))), refl);
       undamaged = tt;
-      in_state = halted_in old new (Running office names) names w.0 (raised w.0) at at.used at.digest
+      in_state = halted_in old new (Running office names) names w.0 (raised w.0) at at.used at.digest at.sessions.numbers
           (reopens.stays DiskFault refl) goes.0 w.2;
     }
   ]
 
   -- of a halted store
   steps_halted : (old new : StoreParts D N S d n) (reply : Reply) (a b : Durable) (names : Names) → Reopens old reply new
-      → IsHalted old a b names → Goes a b reply new → Steps (Halted a b names) Reopen reply new
+      → IsHalted old a b names → Goes a b reply old new → Steps (Halted a b names) Reopen reply new
   steps_halted old new (Ok answer) a b names reopens at r = record {
     next = Running (reopened r.office) r.names;
     step = (
       (r.office, r.is_one, carried_at r.office r.room ∙ (λ i. Ok (record { answer = sym r.answer_is i; after = reopened r.office }))),
-      (only_used names r.names (r.running.digest ∙ sym at.digest), r.running.used.distinct),
+      (
+        only_used names r.names (r.running.digest ∙ sym at.digest)
+            (sym r.numbers.stage ∙ at.numbers.stage) (sym r.numbers.reader ∙ at.numbers.reader),
+        r.running.used.distinct,
+      ),
     );
     undamaged = tt;
     in_state = r.running;
@@ -407,13 +471,13 @@ module _ {D N S : Type 0} {d : DiskGhosts D} {n : NamerGhosts N S} where
       next = Halted a b names;
       step = (inl (refl, refl), refl);
       undamaged = tt;
-      in_state = halted_in old new (Halted a b names) names a b at at.used at.digest (reopens.stays DiskFault refl) goes.0 may;
+      in_state = halted_in old new (Halted a b names) names a b at at.used at.digest at.numbers (reopens.stays DiskFault refl) goes.0 may;
     }
     | inr w ↦ record {
       next = Halted w.0 (raised w.0) names;
       step = (inr (w.1, refl), refl);
       undamaged = tt;
-      in_state = halted_in old new (Halted a b names) names w.0 (raised w.0) at at.used at.digest
+      in_state = halted_in old new (Halted a b names) names w.0 (raised w.0) at at.used at.digest at.numbers
           (reopens.stays DiskFault refl) goes.0 w.2;
     }
   ]

@@ -155,8 +155,8 @@ last_whole in_one_file slots catalog counts all whole epoch read last = record {
 
 -- ---- the parts of a store
 
-module _ {D N S : Type 0} {d : DiskGhosts D} {n : NamerGhosts N S} (parts : StoreParts D N S d n) (found : Found N S n)
-    (is : IsOfFound parts found) where
+module _ {D N S : Type 0} {d : DiskGhosts D} {n : NamerGhosts N S} {next_stage next_reader : ℕ} (parts : StoreParts D N S d n)
+    (found : Found N S n) (is : IsOfFound parts found next_stage next_reader) where
   pub whole_parts : (journal : Journal D d) → parts.journal ≡ journal → IsAllOf (told journal) found → HasAllOf parts
   whole_parts journal same whole = λ all told_is.
       subst (λ (p : Pool N S n). IsWhole p.in_one_file (slots_of p.names) parts.catalog parts.counts all) (sym is.pool_is)

@@ -1,6 +1,7 @@
 -- What opening a disk comes to.
 --     IsOf      each image of the disk stands for one of two offices
---     Opened      one of them is at work, in its next epoch;  Left      what a disk was left with that wasn't opened
+--     Opened      one of them is at work, in its next epoch, and its first stage and reader are number 0
+--     Left      what a disk was left with that wasn't opened
 use Rattle.std.specs.Prelude.{◌≡◌, ◌⊎◌, ◌<◌, ◌≤◌, ℕ, true, List, Option, is_some}
 use Rattle.disk_trait.specs.declared.disk.Disk.{Ghosts as DiskGhosts}
 use Rattle.disk_trait.specs.Files.{Files}
@@ -9,6 +10,7 @@ use Rattle.pool_name.specs.declared.namer.Namer.{Ghosts as NamerGhosts}
 use Rattle.journal_view.specs.Found.{FindsAll}
 use Rattle.office_model.specs.Office.{Durable, Names, raised, reopened, last_sequence}
 use Rattle.office_model.specs.Step.{IsPicked}
+use Rattle.open_sessions.specs.Opened.{AreNumbers}
 use Rattle.store_parts.specs.declared.parts.StoreParts.{StoreParts}
 use Rattle.store_parts.specs.Held.{IsEither}
 use Rattle.store_parts.specs.States.{IsRunning}
@@ -36,10 +38,11 @@ Left digest_of told uncertain a b DiskFault =
 Left digest_of told uncertain a b Memory = IsOf digest_of told uncertain a b
 
 module _ {D N S : Type 0} {d : DiskGhosts D} {n : NamerGhosts N S} where
-  -- one of the two offices is at work in its next epoch
+  -- one of the two offices is at work in its next epoch, and no stage and no reader had a number yet
   pub record Opened (a b : Durable) (parts : StoreParts D N S d n) : Type 0 where
     pub office : Durable
     pub is_one : IsPicked a b office
     pub room : office.epoch < last_sequence
     pub names : Names
+    pub numbers : AreNumbers 0 0 parts.sessions
     pub running : IsRunning parts (reopened office) names

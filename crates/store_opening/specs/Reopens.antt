@@ -1,5 +1,5 @@
 -- What a reopening of a store does, whatever state it is in.
---     IsOfFound parts found      the parts are what was found, with nothing open
+--     IsOfFound parts found next_stage next_reader      the parts are what was found, with nothing open
 --     Goes      how it went, of a store that a crash would have left with one of two offices
 --     GoesTo      to which of the two the disk came
 --     Reopens      it went so, and a refusal changed nothing but what is said here
@@ -24,7 +24,7 @@ use Rattle.office_model.specs.Meaning.{Reply}
 use Rattle.office_model.specs.Office.{Durable, Names, reopened, last_sequence}
 use Rattle.office_model.specs.declared.event.Event.TheVariants.{Reopen}
 use Rattle.office_model.specs.Step.{State, Running, Halted, IsAnswerTo, IsPicked}
-use Rattle.open_sessions.specs.Opened.{AreNone}
+use Rattle.open_sessions.specs.Opened.{AreNone, AreNumbers}
 use Rattle.store_parts.specs.declared.parts.StoreParts.{StoreParts}
 use Rattle.store_parts.specs.Held.{MayBe}
 use Rattle.store_parts.specs.States.{IsRunning}
@@ -73,43 +73,45 @@ module _ {D N S : Type 0} {d : DiskGhosts D} {n : NamerGhosts N S} where
   abbrev pub with_journal : StoreParts D N S d n → Journal D d → Bool → StoreParts D N S d n
   with_journal parts journal halted = record parts { journal = journal; halted = halted }
 
-  -- the parts are at work on what was found, and nothing is open
-  pub record IsOfFound (parts : StoreParts D N S d n) (found : Found N S n) : Type 0 where
+  -- the parts are at work on what was found, and nothing is open; the next stage and the next reader have these numbers
+  pub record IsOfFound (parts : StoreParts D N S d n) (found : Found N S n) (next_stage next_reader : ℕ) : Type 0 where
     pub ready : parts.halted ≡ false
     pub pool_is : parts.pool ≡ found.pool
     pub catalog_is : parts.catalog ≡ found.catalog
     pub counts_are : parts.counts ≡ found.counts
     pub none : AreNone parts.sessions
     pub first : parts.sessions.sequence ≡ 0
+    pub numbers : AreNumbers next_stage next_reader parts.sessions
     pub no_view : parts.views.kept ≡ None
 
-  -- one of the two offices is at work in its next epoch
-  pub record Reopened (a b : Durable) (answer : Answer) (new : StoreParts D N S d n) : Type 0 where
+  -- one of the two offices is at work in its next epoch; the numbers of stages and readers go on
+  pub record Reopened (a b : Durable) (answer : Answer) (old new : StoreParts D N S d n) : Type 0 where
     pub office : Durable
     pub is_one : IsPicked a b office
     pub room : office.epoch < last_sequence
     pub answer_is : answer ≡ ReopenedAnswer (office.epoch + 1)
     pub names : Names
+    pub numbers : AreNumbers names.next_stage names.next_reader old.sessions
     pub running : IsRunning new (reopened office) names
 
-  abbrev pub Goes : Durable → Durable → Reply → StoreParts D N S d n → Type 0
-  Goes a b (Ok answer) new = Reopened a b answer new
-  Goes a b (Err (Broken rule)) new = (rule ≡ NumbersSpent) × IsSpent n.digest_of a b new.journal
-  Goes a b (Err HaltedReply) new = ⊥
-  Goes a b (Err DiskFault) new = (new.halted ≡ true) × IsBetween n.digest_of a b new.journal
-  Goes a b (Err (Damaged file found)) new = ⊥
-  Goes a b (Err Memory) new = MayBe n.digest_of new.journal a b
+  abbrev pub Goes : Durable → Durable → Reply → (old new : StoreParts D N S d n) → Type 0
+  Goes a b (Ok answer) old new = Reopened a b answer old new
+  Goes a b (Err (Broken rule)) old new = (rule ≡ NumbersSpent) × IsSpent n.digest_of a b new.journal
+  Goes a b (Err HaltedReply) old new = ⊥
+  Goes a b (Err DiskFault) old new = (new.halted ≡ true) × IsBetween n.digest_of a b new.journal
+  Goes a b (Err (Damaged file found)) old new = ⊥
+  Goes a b (Err Memory) old new = MayBe n.digest_of new.journal a b
 
   -- to which of the two the disk came
   abbrev pub GoesTo : Durable → Durable → Reply → (old new : StoreParts D N S d n) → Type 0
   GoesTo a b (Ok answer) old new =
-      (r : Reopened a b answer new) × ComesToOne d n.digest_of old.journal.disk new.journal.disk a b r.office
+      (r : Reopened a b answer old new) × ComesToOne d n.digest_of old.journal.disk new.journal.disk a b r.office
   GoesTo a b (Err refusal) old new = IsStopped d n.digest_of old.journal.disk new.journal.disk a b
 
   -- The store reopened. It had one of two offices; a plain refusal leaves it as it was, and any refusal leaves all but the
   -- journal and whether it is halted.
   pub record Reopens (old : StoreParts D N S d n) (reply : Reply) (new : StoreParts D N S d n) : Type 0 where
-    pub goes : (a b : Durable) → MayBe n.digest_of old.journal a b → Goes a b reply new
+    pub goes : (a b : Durable) → MayBe n.digest_of old.journal a b → Goes a b reply old new
     pub crash : (a b : Durable) → MayBe n.digest_of old.journal a b → FindsOnly old.journal new.journal (MayLeave n.digest_of a b)
     pub settles : (a b : Durable) → MayBe n.digest_of old.journal a b → GoesTo a b reply old new
     pub stays : (refusal : Refusal) → reply ≡ Err refusal → new ≡ with_journal old new.journal new.halted

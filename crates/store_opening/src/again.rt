@@ -21,6 +21,7 @@ ghost use Rattle.store_opening.specs.Recovers.{SaysWhy};
 ghost use Rattle.store_opening.specs.Begins.{MayLeave, IsPlain, Begins};
 ghost use Rattle.store_opening.specs.Settles.{IsSynced, MayBeSynced, Settles};
 ghost use Rattle.store_opening.specs.Whole.{KeepsData, IsAllOf, SaysSpent};
+ghost use Rattle.open_sessions.specs.Opened.{AreNone, AreNumbers};
 ghost use Rattle.store_opening.specs.Reopens.{Reopens, IsOfFound, reply_of, halts, first_of, second_of};
 
 use crate::begin::begin;
@@ -124,15 +125,28 @@ fn is_halted_after(was: bool, refusal: &OpenRefusal) -> bool
     was || halts(refusal)
 }
 
+/// Ends all that is open, for an epoch whose first session is number 0. The next stage and the next reader keep their numbers.
+fn end_all<S: Drop>(sessions: &mut Sessions<S>)
+    ensures none { AreNone sessions.new }
+    ensures first { sessions.new.sequence ≡ 0 }
+    ensures numbers { AreNumbers sessions.old.stages.next sessions.old.readers.next sessions.new }
+{
+    sessions.dumps.clear();
+    sessions.restores.clear();
+    sessions.stages.end_all();
+    sessions.readers.end_all();
+    sessions.sequence = 0;
+}
+
 /// Makes what was found the parts of a store, with nothing open; the journal stays.
-fn take_over<D: Disk, N: Namer>(parts: &mut StoreParts<D, N>, alloc: Global, found: Found<N>)
-    ensures is { IsOfFound parts.new found }
+fn take_over<D: Disk, N: Namer>(parts: &mut StoreParts<D, N>, found: Found<N>)
+    ensures is { IsOfFound parts.new found parts.old.sessions.stages.next parts.old.sessions.readers.next }
     ensures journal { parts.new.journal ≡ parts.old.journal }
 {
     parts.pool = found.pool;
     parts.catalog = found.catalog;
     parts.counts = found.counts;
-    parts.sessions = Sessions::new(alloc);
+    end_all(&mut parts.sessions);
     parts.views = Views::new();
     parts.halted = false;
 }
@@ -148,7 +162,7 @@ fn reopen_parts<D: Disk, N: Namer>(
     match begin_again(alloc, &mut parts.journal, namer) {
         Ok(found) => {
             let epoch = found.catalog.epoch();
-            take_over(parts, alloc, found);
+            take_over(parts, found);
             Ok(Answer::Reopened(epoch))
         }
         Err(refusal) => {
@@ -161,7 +175,8 @@ fn reopen_parts<D: Disk, N: Namer>(
 /// Opens a store again, whether it is at work or halted.
 ///
 /// After Ok it is at work in the next epoch, with the office that was durable, or of a halted one the one of its two that
-/// the disk has; open dumps and restores are gone. After `Broken` and `Memory` it is as it was. After `DiskFault` it is
+/// the disk has; open dumps, restores, stages and readers are gone, and the numbers of stages and readers go on. After `Broken`
+/// and `Memory` it is as it was. After `DiskFault` it is
 /// halted, and the disk has the office as it was or in its next epoch; so after `Damaged`, which says what was found of a
 /// file, and never comes on a disk that a store left.
 pub fn reopen<D: Disk, N: Namer>(

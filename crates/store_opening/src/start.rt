@@ -61,7 +61,7 @@ fn parts_of<D: Disk, N: Namer>(
     journal: Journal<D>,
     found: Found<N>,
 ) -> StoreParts<D, N>
-    ensures is { IsOfFound result found }
+    ensures is { IsOfFound result found 0 0 }
     ensures journal { result.journal ≡ journal }
 {
     StoreParts {

@@ -1,15 +1,16 @@
 -- Events that are refused before anything is written.
 --     runs_broken, runs_no_memory      a rule was broken, or memory was wanting, and nothing was done
 --     runs_no_host, runs_no_dump, runs_no_restore      there is no host, open dump or open restore of the name
+--     runs_no_stage, runs_no_reader      there is no open stage or open reader of the number
 --     runs_not_planned      what was read for the plan of a commit couldn't be read, or memory was wanting
-use Rattle.std.specs.Prelude.{◌≡◌, ◌⊎◌, ℕ, List, None, Ok, Err, IsErrOf}
+use Rattle.std.specs.Prelude.{◌≡◌, ◌⊎◌, ◌==◌, ℕ, List, None, Ok, Err, IsErrOf}
 use Rattle.std.specs.List.{position_from}
 use Rattle.std.specs.Result.{IsErrAnd}
 use Rattle.std.proofs.Common.{refl, sym, ap, ◌∙◌, subst, inl, inr}
 use Rattle.fault_counts.specs.Counts.{Counted}
 use Rattle.disk_trait.specs.declared.disk.Disk.{Ghosts as DiskGhosts}
 use Rattle.pool_name.specs.declared.namer.Namer.{Ghosts as NamerGhosts}
-use Rattle.open_sessions.specs.SessionLaws.{dump_index-sessions, restore_index-sessions}
+use Rattle.open_sessions.specs.SessionLaws.{dump_index-sessions, restore_index-sessions, stage_index-sessions, reader_index-sessions}
 use Rattle.office_model.specs.declared.event.Event.{Event}
 use Rattle.office_model.specs.declared.refusal.BrokenRule.{BrokenRule}
 use Rattle.office_model.specs.declared.refusal.BrokenRule.TheVariants.{NoHost, NoSession}
@@ -17,8 +18,8 @@ use Rattle.office_model.specs.declared.refusal.Refusal.{Refusal}
 use Rattle.office_model.specs.declared.refusal.Refusal.TheVariants.{Broken, DiskFault, Memory}
 use Rattle.office_model.specs.declared.session.SessionName.{SessionName}
 use Rattle.office_model.specs.Session.{is_same_session}
-use Rattle.office_model.specs.Office.{Office, Names, dump_index, restore_index}
-use Rattle.office_model.specs.Parts.{host_at, dump_at, restore_at}
+use Rattle.office_model.specs.Office.{Office, Names, dump_index, restore_index, stage_index, reader_index}
+use Rattle.office_model.specs.Parts.{host_at, dump_at, restore_at, stage_at, reader_at}
 use Rattle.office_model.specs.Meaning.{Reply, ReadsAndCommits}
 use Rattle.office_model.specs.Step.{Running, IsStep, meaning_of}
 use Rattle.office_model.specs.History.{IsUndamaged}
@@ -27,7 +28,7 @@ use Rattle.office_files.specs.Pooled.{contents_of}
 use Rattle.office_known.specs.CatalogLaws.{no_named}
 use Rattle.store_parts.specs.declared.parts.StoreParts.{StoreParts}
 use Rattle.store_parts.specs.Held.{given}
-use Rattle.store_parts.specs.States.{slots, IsRunning}
+use Rattle.store_parts.specs.States.{slots, staging_of, IsRunning}
 use Rattle.store_parts.specs.Runs.{Runs, Reads}
 use Rattle.store_parts.specs.StepLaws.{step_memory, step_plan_fault}
 use Rattle.store_parts.specs.RunLaws.{runs_reads, runs_refused, runs_memory, reads_still, counted_still}
@@ -71,6 +72,29 @@ module _ {D N S : Type 0} {d : DiskGhosts D} {n : NamerGhosts N S} where
       let is : restore_index office.restores name ≡ None =
       restore_index-sessions (given (slots old)) (contents_of at.all) n.holds office.restores old.sessions.restores.items at.sessions.restores
       name ∙ sym none in
+      broken office names (rw is refl))
+
+  pub runs_no_stage : (old : StoreParts D N S d n) (event : Event) (number : ℕ)
+      → None ≡ position_from (λ stage. stage.number == number) 0 old.sessions.stages.items.items
+      → ((office : Office) (names : Names) → stage_at office.stages number ≡ Err NoSession
+      → (meaning_of event).carried office names ≡ Err NoSession)
+      → Runs old event (Err (Broken NoSession)) old
+  runs_no_stage old event number none broken = runs_broken old event NoSession (λ office names at.
+      let is : stage_index office.stages number ≡ None =
+      stage_index-sessions n.holds (staging_of at.all names).staged office.stages old.sessions.stages.items.items at.sessions.stages
+      number ∙ sym none in
+      broken office names (rw is refl))
+
+  pub runs_no_reader : (old : StoreParts D N S d n) (event : Event) (number : ℕ)
+      → None ≡ position_from (λ reader. reader.number == number) 0 old.sessions.readers.items.items
+      → ((office : Office) (names : Names) → reader_at office.readers number ≡ Err NoSession
+      → (meaning_of event).carried office names ≡ Err NoSession)
+      → Runs old event (Err (Broken NoSession)) old
+  runs_no_reader old event number none broken = runs_broken old event NoSession (λ office names at.
+      let is : reader_index office.readers number ≡ None =
+      reader_index-sessions (given (slots old)) (contents_of at.all) n.holds office.readers old.sessions.readers.items.items
+      at.sessions.readers
+      number ∙ sym none in
       broken office names (rw is refl))
 
   -- ---- plans

@@ -34,8 +34,8 @@ use Rattle.store_parts.specs.States.{slots, IsRunning}
 use Rattle.store_parts.specs.Runs.{Reads, Runs}
 use Rattle.store_parts.specs.RunLaws.{counted_fine}
 use Rattle.store_reads.specs.Shown.{directory_told, list_told, entry_told, pushed, entries_in, entries_told, ShowsBackup, IsLoaded, IsRefusal}
+use Rattle.store_reads.specs.ShownLaws.{size_told}
 use Rattle.store_reads.proofs.Answering.{Failed, refused_later, runs_ok, runs_err}
-use Rattle.store_reads.proofs.Reading.{size_told}
 
 -- ---- rows
 

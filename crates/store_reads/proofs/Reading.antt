@@ -1,22 +1,17 @@
--- What is at a path of the rows that are kept is what is at that path of the backup's tree.
-use Rattle.std.specs.Prelude.{◌≡◌, ℕ, true, false, List, length, Option, Some, None, Ok, Err, option_map}
+-- A Lookup and a ReadFile answer what the rows that are kept say.
+use Rattle.std.specs.Prelude.{◌≡◌, ℕ, true, nat_lt, List, length, Option, Some, None, Ok, Err}
 use Rattle.std.proofs.Common.{refl, sym, ap, ◌∙◌, subst}
-use Rattle.std.proofs.lemmas.Bool.{true≢false}
 use Rattle.fault_counts.specs.Counts.{Counted}
 use Rattle.disk_trait.specs.declared.ids.PoolId.{PoolId}
 use Rattle.disk_trait.specs.declared.disk.Disk.{Ghosts as DiskGhosts}
 use Rattle.disk_trait.specs.Files.{Files}
 use Rattle.pool_name.specs.declared.namer.Namer.{Ghosts as NamerGhosts}
-use Rattle.attr_records.specs.Items.{Tree}
-use Rattle.attr_records.specs.Paths.{path_cmp}
 use Rattle.attr_records.specs.Trees.{node_at}
-use Rattle.attr_records.specs.declared.nodes.Item.{Item}
+use Rattle.attr_records.specs.declared.trees.PutRule.TheVariants.{FileTooLarge}
 use Rattle.attr_tables.specs.declared.records.Record.{Record}
-use Rattle.attr_tables.specs.declared.records.Record.TheVariants.{File, Dir, Link, Deleted}
 use Rattle.journal_view.specs.View.{told}
 use Rattle.journal_view.specs.ViewLaws.{Quiet-then}
-use Rattle.merge_view.specs.Views.{Rows, is_marked}
-use Rattle.merge_view.specs.ViewLaws.{unmarked}
+use Rattle.merge_view.specs.Views.{Rows}
 use Rattle.backup_views.specs.declared.kept.Views.{Views}
 use Rattle.pool_changes.specs.declared.slot.Slot.{Slot}
 use Rattle.pool_changes.specs.declared.slot.Slot.TheVariants.{Live, Staged, Doomed}
@@ -24,21 +19,17 @@ use Rattle.pool_changes.specs.Slots.{is_live, is_given}
 use Rattle.pool_changes.specs.Kept.{slots_of}
 use Rattle.pool_changes.specs.Listed.{index_of}
 use Rattle.pool_store.specs.declared.pool.Pool.{Pool}
-use Rattle.stored_trees.specs.Resolved.{bytes_of, resolved_item, IsTold, IsToldContent}
-use Rattle.stored_trees.specs.ResolvedLaws.{node_at-resolved}
-use Rattle.stored_trees.specs.Values.{IfFound}
-use Rattle.stored_trees.specs.ValueLaws.{AllValues-find}
+use Rattle.stored_trees.specs.Resolved.{bytes_of}
 use Rattle.office_model.specs.declared.answer.Answer.TheVariants.{Entry, Content}
 use Rattle.office_model.specs.declared.event.Event.TheVariants.{Lookup, ReadFile}
 use Rattle.tree_frames.specs.declared.nodes.Node.{Node}
-use Rattle.tree_frames.specs.declared.nodes.Node.TheVariants as N
 use Rattle.office_model.specs.declared.refusal.BrokenRule.{BrokenRule}
-use Rattle.office_model.specs.declared.refusal.BrokenRule.TheVariants.{NoPath}
+use Rattle.office_model.specs.declared.refusal.BrokenRule.TheVariants.{NoPath, Put as PutRule}
 use Rattle.office_model.specs.declared.refusal.Refusal.{Refusal}
 use Rattle.office_model.specs.declared.refusal.Refusal.TheVariants.{Broken, Halted, DiskFault, Damaged, Memory}
-use Rattle.office_model.specs.Office.{Office, Host, Backup, Names}
+use Rattle.office_model.specs.Office.{Office, Names, answer_limit}
 use Rattle.tree_frames.specs.Frames.{node_of}
-use Rattle.office_model.specs.Meaning.{Judged, ◌>>=◌, found}
+use Rattle.office_model.specs.Meaning.{◌>>=◌, ◌>>◌, found, breaks}
 use Rattle.office_model.specs.Parts.{backup_of}
 use Rattle.office_model.specs.events.Lookup as LookupEvent
 use Rattle.office_model.specs.events.ReadFile as ReadFileEvent
@@ -49,77 +40,9 @@ use Rattle.store_parts.specs.States.{slots, IsRunning}
 use Rattle.store_parts.specs.StoredLaws.{listed_live}
 use Rattle.store_parts.specs.Runs.{Reads, Runs}
 use Rattle.store_parts.specs.RunLaws.{running_reads, counted_fine, counted_then}
-use Rattle.store_reads.specs.Shown.{node_told, content_told, Answers, ShowsBackup, IsGivenContent, IsLoaded, IsRefusal, IsContentFault, Looks}
+use Rattle.store_reads.specs.Shown.{node_told, content_told, Answers, IsGivenContent, IsLoaded, IsRefusal, IsContentFault, Looks}
+use Rattle.store_reads.specs.ShownLaws.{node_shown, content_shown, given_shown}
 use Rattle.store_reads.proofs.Answering.{Failed, answers_fine, refused_later, refused_answer, runs_ok, runs_err}
-
--- ---- one record
-
-module _ (given : PoolId → Type 0) (contents : PoolId → List ℕ) where
-  pub size_told : (size : ℕ) (content : Option PoolId) → IsToldContent given contents size content
-      → length (bytes_of contents content) ≡ size
-  size_told size None told = sym told
-  size_told size (Some id) told = sym told.1
-
-  node_of_record : (record_at : Option Record) → is_marked record_at ≡ false → IfFound (IsTold given contents) record_at
-      → (found NoPath (option_map (resolved_item contents) record_at) >>= λ item. Ok (node_of item)) ≡ node_told record_at
-  node_of_record None clean told = refl
-  node_of_record (Some (File file)) clean told =
-      ap (λ (size : ℕ). Ok (N.File (record { attr = file.attr; group = file.group; size = size }))) (size_told file.size file.content told)
-  node_of_record (Some (Dir dir)) clean told = refl
-  node_of_record (Some (Link link)) clean told = refl
-  node_of_record (Some Deleted) clean told = absurd (true≢false clean)
-
-  bytes_of_record : (record_at : Option Record) → is_marked record_at ≡ false
-      → (found NoPath (option_map (resolved_item contents) record_at) >>= ReadFileEvent.file_bytes)
-      ≡ (content_told record_at >>= λ content. Ok (bytes_of contents content))
-  bytes_of_record None clean = refl
-  bytes_of_record (Some (File file)) clean = refl
-  bytes_of_record (Some (Dir dir)) clean = refl
-  bytes_of_record (Some (Link link)) clean = refl
-  bytes_of_record (Some Deleted) clean = absurd (true≢false clean)
-
-  -- the id of a record that is told is a given one
-  content_given : (record_at : Option Record) (content : Option PoolId) → IfFound (IsTold given contents) record_at
-      → content_told record_at ≡ Ok content → IsGivenContent given content
-  content_given None content told e = absurd cc
-  content_given (Some (Dir dir)) content told e = absurd cc
-  content_given (Some (Link link)) content told e = absurd cc
-  content_given (Some Deleted) content told e = absurd cc
-  content_given (Some (File file)) content told e =
-      let same : file.content ≡ content = cc in subst (IsGivenContent given) same (is_given_id file.size file.content told)
-    where
-      is_given_id : (size : ℕ) (content : Option PoolId) → IsToldContent given contents size content → IsGivenContent given content
-      is_given_id size None told = tt
-      is_given_id size (Some id) told = told.0
-
-  -- ---- a backup
-
-  module _ (hosts : List Host) (name : List ℕ) (number : ℕ) (rows : Rows) (shows : ShowsBackup given contents hosts name number rows)
-      (path : List ℕ) where
-    -- what is judged of the node at a path
-    judged_at : {A : Type 0} (judge : Item → Judged A)
-        → (backup_of hosts name number >>= λ backup. found NoPath (node_at backup.tree path) >>= judge)
-        ≡ (found NoPath (option_map (resolved_item contents) (node_at rows path)) >>= judge)
-    judged_at {A} judge =
-        ap (λ (j : Judged Backup). j >>= λ backup. found NoPath (node_at backup.tree path) >>= judge) shows.is
-        ∙ ap (λ (tree : Tree). found NoPath (node_at tree path) >>= judge) shows.tree
-        ∙ ap (λ (o : Option Item). found NoPath o >>= judge) (node_at-resolved contents rows path)
-
-    clean : is_marked (node_at rows path) ≡ false
-    clean = unmarked rows shows.whole.no_marks path
-
-    told_at : IfFound (IsTold given contents) (node_at rows path)
-    told_at = AllValues-find (IsTold given contents) path_cmp path rows shows.told
-
-    pub node_shown : LookupEvent.node_of_path hosts name number path ≡ node_told (node_at rows path)
-    node_shown = judged_at (λ item. Ok (node_of item)) ∙ node_of_record (node_at rows path) clean told_at
-
-    pub content_shown : ReadFileEvent.file_of hosts name number path ≡
-        (content_told (node_at rows path) >>= λ content. Ok (bytes_of contents content))
-    content_shown = judged_at ReadFileEvent.file_bytes ∙ bytes_of_record (node_at rows path) clean
-
-    pub given_shown : (content : Option PoolId) → content_told (node_at rows path) ≡ Ok content → IsGivenContent given content
-    given_shown content e = content_given (node_at rows path) content told_at e
 
 -- a live name is a given one
 live_given : (slot : Option Slot) → is_live slot ≡ true → is_given slot ≡ true
@@ -187,17 +110,19 @@ module _ {D N S : Type 0} {d : DiskGhosts D} {n : NamerGhosts N S} where
         → Counted (count_of old) (count_of mid) (Failed {T = Unit {0}} (Err refusal))
         → Runs old (ReadFile name number path) (Err refusal) mid
     file_refused refusal is counted =
-        runs_err old (ReadFile name number path) (λ office. ReadFileEvent.file_of office.hosts name number path) Content
+        runs_err old (ReadFile name number path) (λ office. ReadFileEvent.read_of office.hosts name number path) Content
         (λ office names. refl) (λ office names. refl) (λ office names answer. refl) (λ x. refl) mid refusal reads
+        (refused_later old (λ office. ReadFileEvent.file_of office.hosts name number path)
+        (λ bytes. breaks (PutRule FileTooLarge) (nat_lt answer_limit (length bytes)) >> Ok bytes) refusal
         (refused_later old (λ office. backup_of office.hosts name number)
-        (λ backup. found NoPath (node_at backup.tree path) >>= ReadFileEvent.file_bytes) refusal is) counted
+        (λ backup. found NoPath (node_at backup.tree path) >>= ReadFileEvent.file_bytes) refusal is)) counted
 
     module _ (rows : Rows) (loaded : IsLoaded old name number rows) (record_at : Option Record)
         (at_path : record_at ≡ node_at rows path) where
-      file_told : (office : Office) (names : Names) (at : IsRunning old office names)
-          → ReadFileEvent.file_of office.hosts name number path
+      read_told : (office : Office) (names : Names) (at : IsRunning old office names)
+          → ReadFileEvent.read_of office.hosts name number path
           ≡ (content_told record_at >>= λ content. Ok (bytes_of (contents_of at.all) content))
-      file_told office names at =
+      read_told office names at =
           content_shown (IsListed (index_of (slots old))) (contents_of at.all) office.hosts name number rows (loaded office names at) path
           ∙ ap (λ (o : Option Record). content_told o >>= λ content. Ok (bytes_of (contents_of at.all) content)) (sym at_path)
 
@@ -205,9 +130,9 @@ module _ {D N S : Type 0} {d : DiskGhosts D} {n : NamerGhosts N S} where
           → Counted (count_of old) (count_of mid) failed
           → (failed → ⊥) → Runs old (ReadFile name number path) (Err (Broken rule)) mid
       file_rule rule e counted fine =
-          runs_err old (ReadFile name number path) (λ office. ReadFileEvent.file_of office.hosts name number path) Content
+          runs_err old (ReadFile name number path) (λ office. ReadFileEvent.read_of office.hosts name number path) Content
           (λ office names. refl) (λ office names. refl) (λ office names answer. refl) (λ x. refl) {T = Node} mid (Broken rule) reads
-          (λ office names at. file_told office names at ∙ ap (λ j. j >>= λ content. Ok (bytes_of (contents_of at.all) content)) e)
+          (λ office names at. read_told office names at ∙ ap (λ j. j >>= λ content. Ok (bytes_of (contents_of at.all) content)) e)
           (counted_fine counted fine (λ e. cc))
 
       module _ (new : StoreParts D N S d n) (looks : Looks mid new) (content : Option PoolId) (is : content_told record_at ≡ Ok content)
@@ -229,15 +154,15 @@ module _ {D N S : Type 0} {d : DiskGhosts D} {n : NamerGhosts N S} where
             → ((all : Files) → told mid.journal ≡ Some all → bytes ≡ bytes_of (contents_of all) content)
             → Counted (count_of mid) (count_of new) also → (also → ⊥) → Runs old (ReadFile name number path) (Ok (Content bytes)) new
         file_ok bytes read more fine_too =
-            runs_ok old (ReadFile name number path) (λ office. ReadFileEvent.file_of office.hosts name number path) Content
+            runs_ok old (ReadFile name number path) (λ office. ReadFileEvent.read_of office.hosts name number path) Content
             (λ office names. refl) (λ office names. refl) (λ office names answer. refl) (λ x. refl) new bytes (reads_then old mid new reads looks)
-            (λ office names at. file_told office names at
+            (λ office names at. read_told office names at
             ∙ ap (λ j. j >>= λ content. Ok (bytes_of (contents_of at.all) content)) is
             ∙ ap (λ (b : List ℕ). Ok b) (sym (read at.all (reads.quiet.told_same ∙ at.told_is))))
             (counted_then counted fine more) fine_too
 
         file_fault : (refusal : Refusal) → IsContentFault mid content refusal
-            → IsRefusal old (λ office. ReadFileEvent.file_of office.hosts name number path) refusal
+            → IsRefusal old (λ office. ReadFileEvent.read_of office.hosts name number path) refusal
         file_fault (Damaged file found) fault = λ office names at.
             fault office names (running_reads old mid office names at reads) (content_live office names at)
         file_fault DiskFault fault = tt
@@ -249,6 +174,6 @@ module _ {D N S : Type 0} {d : DiskGhosts D} {n : NamerGhosts N S} where
             → Counted (count_of mid) (count_of new) (Failed {T = List ℕ} (Err refusal))
             → Runs old (ReadFile name number path) (Err refusal) new
         file_err refusal fault more =
-            runs_err old (ReadFile name number path) (λ office. ReadFileEvent.file_of office.hosts name number path) Content
+            runs_err old (ReadFile name number path) (λ office. ReadFileEvent.read_of office.hosts name number path) Content
             (λ office names. refl) (λ office names. refl) (λ office names answer. refl) (λ x. refl) new refusal (reads_then old mid new reads looks)
             (file_fault refusal fault) (counted_then counted fine more)

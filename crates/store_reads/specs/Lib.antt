@@ -1,6 +1,7 @@
 pub mod CatalogLaws
 pub mod TreeLaws
 pub mod Shown
+pub mod ShownLaws
 pub mod Pieces
 pub mod Told
 pub mod ToldLaws

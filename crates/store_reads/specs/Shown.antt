@@ -2,17 +2,19 @@
 --     ShowsBackup given contents hosts name number rows      the tree of the backup of this name and number is that of the rows
 --     IsLoaded parts name number rows      in each office that the parts are at work with
 --     IsTreeAt parts host line tree      the tree is that of the backup at this line of this host
---     node_told, content_told, list_told, entries_told      what rows say to Lookup, ReadFile and List
+--     node_told, file_told, content_told, list_told, entries_told      what rows say to Lookup, OpenFile, ReadFile and List
 --     IsRefusal parts judged refusal      a rule that is broken there, or a fault
 --     Looks old new      files were read, and the parts are as before
 --     Answers judged reply      what was judged, or want of memory
-use Rattle.std.specs.Prelude.{⊤, ◌≡◌, ℕ, List, [], ◌∷◌, Option, Some, None, Result, Ok, Err, option_map, slice_get}
+use Rattle.std.specs.Prelude.{⊤, ◌≡◌, ℕ, List, [], ◌∷◌, Option, Some, None, Result, Ok, Err, option_map, slice_get, nat_lt, if◌then◌else◌}
 use Rattle.disk_trait.specs.declared.ids.PoolId.{PoolId}
 use Rattle.disk_trait.specs.declared.disk.Disk.{Ghosts as DiskGhosts}
 use Rattle.pool_name.specs.declared.namer.Namer.{Ghosts as NamerGhosts}
 use Rattle.attr_records.specs.Trees.{node_at}
+use Rattle.attr_records.specs.declared.trees.PutRule.TheVariants.{FileTooLarge}
 use Rattle.attr_tables.specs.declared.records.Record.{Record}
 use Rattle.attr_tables.specs.declared.records.Record.TheVariants.{File, Dir, Link, Deleted}
+use Rattle.attr_tables.specs.declared.records.StoredFile.{StoredFile}
 use Rattle.journal_view.specs.View.{Quiet}
 use Rattle.merge_view.specs.Runs.{children}
 use Rattle.merge_view.specs.Views.{Rows, IsWhole}
@@ -23,11 +25,11 @@ use Rattle.office_model.specs.declared.answer.NamedNode.{NamedNode}
 use Rattle.tree_frames.specs.declared.nodes.Node.{Node}
 use Rattle.tree_frames.specs.declared.nodes.Node.TheVariants as N
 use Rattle.office_model.specs.declared.refusal.BrokenRule.{BrokenRule}
-use Rattle.office_model.specs.declared.refusal.BrokenRule.TheVariants.{NoPath, NotAFile, NotADirectory}
+use Rattle.office_model.specs.declared.refusal.BrokenRule.TheVariants.{NoPath, NotAFile, NotADirectory, Put as PutRule}
 use Rattle.office_model.specs.declared.refusal.Refusal.{Refusal}
 use Rattle.office_model.specs.declared.refusal.Refusal.TheVariants as R
-use Rattle.office_model.specs.Office.{Office, Host, Backup, Names}
-use Rattle.office_model.specs.Meaning.{Judged, found}
+use Rattle.office_model.specs.Office.{Office, Host, Backup, Names, answer_limit}
+use Rattle.office_model.specs.Meaning.{Judged, ◌>>=◌, found}
 use Rattle.office_model.specs.Parts.{backup_of}
 use Rattle.office_model.specs.events.List.{name_in}
 use Rattle.office_files.specs.Pooled.{contents_of, IsListed}
@@ -49,13 +51,16 @@ abbrev pub node_told : Option Record → Judged Node
 node_told None = Err NoPath
 node_told (Some stored) = found NoPath (node_in stored)
 
--- the content of a file, None if it has no bytes
+abbrev pub file_told : Option Record → Judged StoredFile
+file_told None = Err NoPath
+file_told (Some (File file)) = Ok file
+file_told (Some (Dir dir)) = Err NotAFile
+file_told (Some (Link link)) = Err NotAFile
+file_told (Some Deleted) = Err NoPath
+
+-- the content of a file that one answer can hold, None if it has no bytes
 abbrev pub content_told : Option Record → Judged (Option PoolId)
-content_told None = Err NoPath
-content_told (Some (File file)) = Ok file.content
-content_told (Some (Dir dir)) = Err NotAFile
-content_told (Some (Link link)) = Err NotAFile
-content_told (Some Deleted) = Err NoPath
+content_told stored = file_told stored >>= λ file. if nat_lt answer_limit file.size then Err (PutRule FileTooLarge) else Ok file.content
 
 -- the rule that listing a path breaks
 abbrev pub directory_told : Option Record → Option BrokenRule

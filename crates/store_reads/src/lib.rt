@@ -14,6 +14,7 @@
 //! | [`list`] | what lies directly in a directory |
 //! | [`read_file`] | the bytes of the file at a path |
 //! | [`read_backup`], [`read_content`], [`read_piece`], [`node_of`] | for other events: the tree of a backup, a content's bytes, whole or a piece, a record's node |
+//! | [`load_backup`], [`file_of`] | for other events: the view of a backup is kept, and the file that a record tells |
 #![tactic(auto)]
 
 mod content;
@@ -27,7 +28,8 @@ mod tree;
 
 pub use content::{read_content, read_piece};
 pub use list_event::list;
+pub use load::load_backup;
 pub use lookup_event::lookup;
 pub use nodes::node_of;
-pub use read_file_event::read_file;
+pub use read_file_event::{file_of, read_file};
 pub use tree::read_backup;

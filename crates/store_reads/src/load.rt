@@ -54,7 +54,7 @@ fn load<D: Disk, N: Namer>(
 
 /// Makes the view of the backup of this host and number the one that is kept. It refuses a host or a backup that isn't
 /// there; a refusal keeps the view from before.
-pub(crate) fn load_backup<D: Disk, N: Namer>(
+pub fn load_backup<D: Disk, N: Namer>(
     parts: &mut StoreParts<D, N>,
     alloc: Global,
     name: &HostName,

@@ -5,33 +5,49 @@ ghost use Rattle.std.specs.Option.{option_copied};
 ghost use Rattle.journal_view.specs.View.{told};
 ghost use Rattle.office_model.specs.declared.event.Event.TheVariants.{ReadFile};
 ghost use Rattle.store_parts.specs.Runs.{Runs};
-ghost use Rattle.store_reads.specs.Shown.{content_told};
+ghost use Rattle.store_reads.specs.Shown.{file_told, content_told};
 ghost use Rattle.store_reads.specs.Told.{ReadsTree, HasDamagedTable, IsReadReply, GivesFile};
 
 use crate::content::read_content;
 use crate::load::load_backup;
-use attr_records::{HostName, PathName};
-use attr_tables::Record;
+use attr_records::{HostName, PathName, PutRule};
+use attr_tables::{Record, StoredFile};
 use disk_trait::{Disk, PoolId};
-use office_model::{Answer, BrokenRule, Refusal};
+use office_model::{ANSWER_LIMIT, Answer, BrokenRule, Refusal};
 use pool_name::Namer;
 use std::alloc::Global;
 use store_parts::StoreParts;
 
-/// The content of the file that a record tells, None if it has no bytes.
-fn content_of(found: Option<&Record>) -> Result<Option<PoolId>, BrokenRule>
-    ensures { result ≡ content_told (option_copied found.entry) }
+/// The file that a record tells.
+pub fn file_of(found: Option<&Record>) -> Result<StoredFile, BrokenRule>
+    ensures { result ≡ file_told (option_copied found.entry) }
 {
     match found {
-        Some(Record::File(file)) => Ok(file.content),
+        Some(Record::File(file)) => Ok(*file),
         Some(Record::Dir(_) | Record::Link(_)) => Err(BrokenRule::NotAFile),
         Some(Record::Deleted) | None => Err(BrokenRule::NoPath),
     }
 }
 
+/// The content of the file that a record tells, None if it has no bytes. It refuses a file that no answer can hold.
+fn content_of(found: Option<&Record>) -> Result<Option<PoolId>, BrokenRule>
+    ensures { result ≡ content_told (option_copied found.entry) }
+{
+    match file_of(found) {
+        Ok(file) => {
+            if file.size > ANSWER_LIMIT {
+                Err(BrokenRule::Put(PutRule::FileTooLarge))
+            } else {
+                Ok(file.content)
+            }
+        }
+        Err(rule) => Err(rule),
+    }
+}
+
 /// The bytes of the file at a path of a backup. It changes nothing but which view is kept, whether it answers or refuses:
-/// a host, a backup or a path that isn't there, a path of no file, a table or a content that is damaged, a fault of the disk
-/// or want of memory.
+/// a host, a backup or a path that isn't there, a path of no file, a file of more bytes than one answer holds, of which nothing is
+/// read, a table or a content that is damaged, a fault of the disk or want of memory.
 pub fn read_file<D: Disk, N: Namer>(
     parts: &mut StoreParts<D, N>,
     alloc: Global,

@@ -25,12 +25,12 @@ use Rattle.office_model.specs.events.CloseRead as CloseReadEvent
 use Rattle.office_files.specs.Pooled.{contents_of}
 use Rattle.store_parts.specs.declared.parts.StoreParts.{StoreParts}
 use Rattle.store_parts.specs.Held.{given}
-use Rattle.store_parts.specs.States.{slots, IsRunning}
+use Rattle.store_parts.specs.States.{slots, IsRunning, staging_of}
 use Rattle.store_parts.specs.Runs.{Runs}
 use Rattle.store_dumps.specs.Claims.{LetsGo}
 use Rattle.store_restores.specs.Finding.{place_of}
 use Rattle.store_restores.proofs.Found.{restore_found}
-use Rattle.store_restores.proofs.Running.{count_of, near_lost, running_stays, runs_ok}
+use Rattle.store_restores.proofs.Running.{same_staging, count_of, near_lost, running_stays, runs_ok}
 
 -- there is no such restore
 pub no_restore_close : (session : SessionName) (office : Office) (names : Names) → restore_at office.restores session ≡ Err NoSession
@@ -72,12 +72,12 @@ module _ {D N S : Type 0} {d : DiskGhosts D} {n : NamerGhosts N S} (old : StoreP
           form = form;
           names = near_lost (slots old) (slots new) (λ id. occurrences id restore.rows) (gone office names at);
         })
-        (AreSessions-claimed n.holds (given (slots old)) (contents_of at.all) (given (slots new)) (contents_of at.all) (without office).volatile
-        new.sessions
+        (AreSessions-claimed n.holds (given (slots old)) (contents_of at.all) (given (slots new)) (contents_of at.all)
+        (staging_of at.all names) (staging_of at.all names) (without office).volatile new.sessions
+        (same_staging office.stages (staging_of at.all names))
         (λ id g some. ((gone office names at id).given g (let same = claimed id in omega (arith, same, some)), refl))
-        (AreSessions-restore_taken old.sessions new.sessions only.beside n.holds (given (slots old)) (contents_of at.all) office.volatile
-        at.sessions index
-        restores only.sequence))
+        (AreSessions-restore_taken old.sessions new.sessions only.beside n.holds (given (slots old)) (contents_of at.all)
+        (staging_of at.all names) office.volatile at.sessions index restores only.sequence))
         claimed refl refl
         (AreSound-carried office names (CloseRead session) (record { answer = Done; after = without office }) names at.sound judged refl)
       where

@@ -47,7 +47,7 @@ use Rattle.open_sessions.specs.EditLaws.{IsRestore-moved}
 use Rattle.open_sessions.specs.CallLaws.{AreSessions-restore_moved, claims_in-restore_moved}
 use Rattle.store_parts.specs.declared.parts.StoreParts.{StoreParts}
 use Rattle.store_parts.specs.Held.{given}
-use Rattle.store_parts.specs.States.{slots, IsRunning}
+use Rattle.store_parts.specs.States.{slots, IsRunning, staging_of}
 use Rattle.store_parts.specs.Runs.{Runs}
 use Rattle.store_parts.specs.RunLaws.{counted_fine, runs_reads, runs_memory, runs_read_fault}
 use Rattle.store_reads.specs.Shown.{Looks}
@@ -245,8 +245,8 @@ module _ {D N S : Type 0} {d : DiskGhosts D} {n : NamerGhosts N S} where
       running_moved new office names at position place stays same moves is sound =
           running_stays old new office next names at stays
           (sessions_given old new office names at next.volatile (λ id g. ap is_given (same id) ∙ g)
-          (AreSessions-restore_moved old.sessions new.sessions moves.only.beside n.holds (given (slots old)) (contents_of at.all) office.volatile
-          at.sessions index
+          (AreSessions-restore_moved old.sessions new.sessions moves.only.beside n.holds (given (slots old)) (contents_of at.all)
+          (staging_of at.all names) office.volatile at.sessions index
           (record (found office names at).value { position = position }) (record restore { place = place })
           (IsRestore-moved n.holds (given (slots old)) (contents_of at.all) (found office names at).value restore position place is
           (found office names at).is) moves.restores moves.only.sequence))

@@ -44,7 +44,7 @@ use Rattle.open_sessions.specs.PlaceLaws.{IsAt-start}
 use Rattle.open_sessions.specs.CallLaws.{AreSessions-restore_opened, claims_in-restore_opened}
 use Rattle.store_parts.specs.declared.parts.StoreParts.{StoreParts}
 use Rattle.store_parts.specs.Held.{given, IsKeptView}
-use Rattle.store_parts.specs.States.{slots, IsRunning}
+use Rattle.store_parts.specs.States.{slots, IsRunning, staging_of}
 use Rattle.store_parts.specs.StoredLaws.{listed_live}
 use Rattle.store_parts.specs.Runs.{Reads, Runs}
 use Rattle.store_parts.specs.RunLaws.{counted_fine, runs_reads, runs_refused, runs_memory, runs_read_fault}
@@ -261,8 +261,8 @@ module _ {D N S : Type 0} {d : DiskGhosts D} {n : NamerGhosts N S} where
               names = near_gained (slots old) (slots new) (λ id. occurrences id rows) gains;
             })
             (sessions_given old new office names at next.volatile (λ id g. (gains id).given ∙ g)
-            (AreSessions-restore_opened old.sessions new.sessions has.sessions.beside n.holds (given (slots old)) (contents_of at.all) office.volatile
-            at.sessions (OpenReadEvent.new_restore (next_session office) shows.backup.tree) (fresh session rows)
+            (AreSessions-restore_opened old.sessions new.sessions has.sessions.beside n.holds (given (slots old)) (contents_of at.all)
+            (staging_of at.all names) office.volatile at.sessions (OpenReadEvent.new_restore (next_session office) shows.backup.tree) (fresh session rows)
             is_restore has.sessions.restores has.sessions.sequence))
             claimed refl refl
             (AreSound-carried office names (OpenRead name number) (record { answer = RestoreAnswer session; after = next }) names at.sound judged

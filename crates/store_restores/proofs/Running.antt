@@ -26,17 +26,17 @@ use Rattle.office_model.specs.declared.answer.Answer.{Answer}
 use Rattle.office_model.specs.declared.event.Event.{Event}
 use Rattle.office_model.specs.declared.refusal.Refusal.TheVariants.{Memory}
 use Rattle.office_model.specs.Meaning.{Carried, Judged}
-use Rattle.office_model.specs.Office.{Office, Durable, Volatile, Host, Names}
+use Rattle.office_model.specs.Office.{Office, Durable, Volatile, Host, Names, Stage}
 use Rattle.office_model.specs.Step.{Running, IsAnswerTo, meaning_of}
 use Rattle.office_model.specs.UsedNames.{AreSound, AreNamesAfter}
 use Rattle.office_files.specs.Pooled.{contents_of}
 use Rattle.office_files.specs.Stands.{Stands}
 use Rattle.office_known.specs.KnownLaws.{known_of_office}
-use Rattle.open_sessions.specs.Opened.{AreSessions, claims_in}
+use Rattle.open_sessions.specs.Opened.{Staging, SameStaging, AreSessions, claims_in}
 use Rattle.open_sessions.specs.SessionLaws.{AreSessions-kept, AreSessions-alike, claims_in-alike}
 use Rattle.store_parts.specs.declared.parts.StoreParts.{StoreParts}
 use Rattle.store_parts.specs.Held.{given, AreCountsOf, IsKeptView}
-use Rattle.store_parts.specs.States.{slots, IsRunning}
+use Rattle.store_parts.specs.States.{slots, IsRunning, staging_of}
 use Rattle.store_parts.specs.Runs.{MayRecover, Runs}
 use Rattle.store_parts.specs.StoredLaws.{stored_found}
 use Rattle.store_parts.specs.StepLaws.{step_memory, recover_before}
@@ -81,6 +81,10 @@ module _ (old new : Slots) where
     used = (gains id).used;
   }
 
+-- stages stay where their files do
+pub same_staging : (stages : List Stage) (staging : Staging) → SameStaging stages staging staging
+same_staging stages staging = record { staged = λ i stage there. refl; next_stage = refl; next_reader = refl }
+
 live_is : (id : PoolId) (slot : Option Slot) → is_live slot ≡ is_some (item_of id slot)
 live_is id None = refl
 live_is id (Some (Live size mark claims)) = refl
@@ -106,7 +110,7 @@ module _ {D N S : Type 0} {d : DiskGhosts D} {n : NamerGhosts N S} where
     pub names : AreNear (slots old) (slots new)
 
   pub running_stays : (old new : StoreParts D N S d n) (office next : Office) (names : Names) (at : IsRunning old office names)
-      → Stays old new → AreSessions n.holds (given (slots new)) (contents_of at.all) next.volatile new.sessions
+      → Stays old new → AreSessions n.holds (given (slots new)) (contents_of at.all) (staging_of at.all names) next.volatile new.sessions
       → ((id : PoolId) → claims_of (slots new id) ≡ claims_in new.sessions id)
       → next.durable ≡ office.durable → next.hosts ≡ office.hosts → AreSound next names → IsRunning new next names
   running_stays old new office next names at stays sessions claimed same hosts sound = record {
@@ -169,17 +173,18 @@ module _ {D N S : Type 0} {d : DiskGhosts D} {n : NamerGhosts N S} where
   module _ (old new : StoreParts D N S d n) (office : Office) (names : Names) (at : IsRunning old office names) where
     -- names that stay given name the same contents
     pub sessions_given : (next : Volatile) → ((id : PoolId) → given (slots old) id → given (slots new) id)
-        → AreSessions n.holds (given (slots old)) (contents_of at.all) next new.sessions
-        → AreSessions n.holds (given (slots new)) (contents_of at.all) next new.sessions
+        → AreSessions n.holds (given (slots old)) (contents_of at.all) (staging_of at.all names) next new.sessions
+        → AreSessions n.holds (given (slots new)) (contents_of at.all) (staging_of at.all names) next new.sessions
     sessions_given next still = AreSessions-kept n.holds (given (slots old)) (contents_of at.all) (given (slots new))
-        (contents_of at.all) next new.sessions (λ id g. (still id g, refl))
+        (contents_of at.all) (staging_of at.all names) (staging_of at.all names) next new.sessions
+        (same_staging next.stages (staging_of at.all names)) (λ id g. (still id g, refl))
 
     pub running_kept : HasKept old new → IsRunning new office names
     running_kept kept =
         running_stays old new office office names at (stays_kept old new kept)
         (sessions_given office.volatile (λ id g. ap is_given (kept.names id) ∙ g)
-        (AreSessions-alike n.holds (given (slots old)) (contents_of at.all) office.volatile old.sessions new.sessions at.sessions
-        kept.sessions))
+        (AreSessions-alike n.holds (given (slots old)) (contents_of at.all) (staging_of at.all names) office.volatile old.sessions
+        new.sessions at.sessions kept.sessions))
         (λ id. ap claims_of (kept.names id) ∙ at.claimed id ∙ sym (claims_in-alike old.sessions new.sessions kept.sessions id))
         refl refl at.sound
 

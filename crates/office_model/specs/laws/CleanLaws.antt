@@ -4,10 +4,12 @@ use Rattle.std.specs.declared.cmp.Ordering.TheVariants.{Less}
 use Rattle.std.specs.Ordering.{eq_by_cmp}
 use Rattle.std.specs.List.{cons_option}
 use Rattle.std.proofs.Common.{refl, sym, ap, ◌∙◌, subst}
+use Rattle.std.proofs.lemmas.Slice.Eq.{bytes_eq-Decides}
+use Rattle.attr_records.specs.Items.{some_bytes}
 use Rattle.ordered_lists.specs.Order.{IsInOrder, IsBelowAll}
-use Rattle.office_model.specs.Pool.{Pool, byte_cmp, mark_of, is_pooled, holds, fate, kept_as, cleaned}
+use Rattle.office_model.specs.Pool.{Pool, byte_cmp, mark_of, is_pooled, is_same_content, holds, fate, kept_as, cleaned}
 use Rattle.pool_fate.specs.Fates.{fate_of, mark_after}
-use Rattle.office_model.specs.Office.{Office, Host, Backup, Dump, Restore, with_pool, IsSound, host_holds, in_hosts, in_dumps, in_bases}
+use Rattle.office_model.specs.Office.{Office, Host, Backup, Dump, Restore, Reader, with_pool, IsSound, host_holds, in_hosts, in_dumps, in_bases, in_restores}
 use Rattle.office_model.specs.Meaning.{Same}
 use Rattle.office_model.specs.events.Clean.{is_protected, in_bucket, meaning}
 use Rattle.office_model.specs.laws.Judging.{passed}
@@ -68,7 +70,7 @@ module _ (inside protected : List ℕ → Bool) where
           (subst (λ b. (m : Bool) × (mark_after (fate_of (inside entry.0) b entry.1) entry.1 ≡ Some m)) (sym safe_entry) (keeps_mark (inside entry.0) entry.1)) same
       step false other g rest = past (mark_after (fate inside protected entry) entry.1) (rest g) other
 
--- ---- what a tree of the office holds is protected
+-- ---- what a tree of the office holds is protected, and what a reader gives
 
 left : (a b : Bool) → a ≡ true → (a || b) ≡ true
 left true b h = refl
@@ -78,45 +80,57 @@ right : (a b : Bool) → b ≡ true → (a || b) ≡ true
 right true b h = refl
 right false b h = h
 
+its_content : (content : List ℕ) (held : Option (List ℕ)) → held ≡ Some content → is_same_content content held ≡ true
+its_content content held h = ap (is_same_content content) h ∙ (bytes_eq-Decides content content).1 refl
+
 module _ (office : Office) (content : List ℕ) where
   pub backup_safe : (i n : ℕ) (host : Host) (backup : Backup) → slice_get office.hosts i ≡ Some host
       → slice_get host.backups n ≡ Some backup → holds backup.tree content ≡ true
-      → is_protected office.hosts office.dumps office.restores content ≡ true
+      → is_protected office.hosts office.dumps office.restores office.readers content ≡ true
   backup_safe i n host backup at at_backup h =
       left (in_hosts office.hosts content) _ (any_at (λ (host : Host). host_holds host content) office.hosts i host at (any_at (λ (b : Backup). holds b.tree content) host.backups n backup at_backup h))
 
   pub base_safe : (i : ℕ) (dump : Dump) → slice_get office.dumps i ≡ Some dump → holds dump.base content ≡ true
-      → is_protected office.hosts office.dumps office.restores content ≡ true
+      → is_protected office.hosts office.dumps office.restores office.readers content ≡ true
   base_safe i dump at h =
       right (in_hosts office.hosts content) _ (right (in_dumps office.dumps content) _
       (left (in_bases office.dumps content) _ (any_at (λ (d : Dump). holds d.base content) office.dumps i dump at h)))
 
   pub restore_safe : (i : ℕ) (restore : Restore) → slice_get office.restores i ≡ Some restore → holds restore.tree content ≡ true
-      → is_protected office.hosts office.dumps office.restores content ≡ true
+      → is_protected office.hosts office.dumps office.restores office.readers content ≡ true
   restore_safe i restore at h =
       right (in_hosts office.hosts content) _ (right (in_dumps office.dumps content) _
-      (right (in_bases office.dumps content) _ (any_at (λ (r : Restore). holds r.tree content) office.restores i restore at h)))
+      (right (in_bases office.dumps content) _
+      (left (in_restores office.restores content) _ (any_at (λ (r : Restore). holds r.tree content) office.restores i restore at h))))
+
+  pub reader_safe : (i : ℕ) (reader : Reader) → slice_get office.readers i ≡ Some reader → some_bytes reader.content ≡ Some content
+      → is_protected office.hosts office.dumps office.restores office.readers content ≡ true
+  reader_safe i reader at h =
+      right (in_hosts office.hosts content) _ (right (in_dumps office.dumps content) _
+      (right (in_bases office.dumps content) _ (right (in_restores office.restores content) _
+      (any_at (λ (r : Reader). is_same_content content (some_bytes r.content)) office.readers i reader at (its_content content (some_bytes reader.content) h)))))
 
 pub IsSound-cleaned : (office : Office) (inside : List ℕ → Bool) → IsSound office
-    → IsSound (with_pool office (cleaned inside (is_protected office.hosts office.dumps office.restores) office.pool))
+    → IsSound (with_pool office (cleaned inside (is_protected office.hosts office.dumps office.restores office.readers) office.pool))
 IsSound-cleaned office inside sound = record {
   kept = record {
     hosts = sound.hosts;
-    pool_order = cleaned_order inside (is_protected office.hosts office.dumps office.restores) office.pool sound.pool_order;
+    pool_order = cleaned_order inside (is_protected office.hosts office.dumps office.restores office.readers) office.pool sound.pool_order;
     of_backups = λ i host at n backup at_backup content h. has content (backup_safe office content i n host backup at at_backup h) (sound.of_backups i host at n backup at_backup content h);
   };
   now = sound.now;
   tied = record {
     hosted = sound.hosted;
-    pooled = pooled_more office.pool office.volatile sound.pooled (cleaned inside (is_protected office.hosts office.dumps office.restores) office.pool)
+    pooled = pooled_more office.pool office.volatile sound.pooled (cleaned inside (is_protected office.hosts office.dumps office.restores office.readers) office.pool)
         (λ i dump at was content h. has content (base_safe office content i dump at h) (was content h))
-        (λ i restore at was content h. has content (restore_safe office content i restore at h) (was content h));
+        (λ i restore at was content h. has content (restore_safe office content i restore at h) (was content h))
+        (λ i reader at was content h. has content (reader_safe office content i reader at h) (was content h));
   };
 }
   where
-    has : (content : List ℕ) → is_protected office.hosts office.dumps office.restores content ≡ true → is_pooled office.pool content ≡ true
-        → is_pooled (cleaned inside (is_protected office.hosts office.dumps office.restores) office.pool) content ≡ true
-    has content = cleaned_has inside (is_protected office.hosts office.dumps office.restores) byte_exact office.pool content
+    has : (content : List ℕ) → is_protected office.hosts office.dumps office.restores office.readers content ≡ true → is_pooled office.pool content ≡ true
+        → is_pooled (cleaned inside (is_protected office.hosts office.dumps office.restores office.readers) office.pool) content ≡ true
+    has content = cleaned_has inside (is_protected office.hosts office.dumps office.restores office.readers) byte_exact office.pool content
 
 pub lawful : (bucket : ℕ) → IsLawful (meaning bucket)
 lawful bucket office names c sound e =
@@ -124,7 +138,8 @@ lawful bucket office names c sound e =
     does _ office names sound _ c a.1 (record {
       in_kind = refl;
       sound = IsSound-cleaned office (in_bucket names.digest_of bucket) sound.office;
+      numbers = sound.names.given;
       held = λ content h. held_by content office Same _ office.dumps
-          (λ g. was_pooled content office Same (pooled-cleaned content (in_bucket names.digest_of bucket) (is_protected office.hosts office.dumps office.restores) office.pool g))
+          (λ g. was_pooled content office Same (pooled-cleaned content (in_bucket names.digest_of bucket) (is_protected office.hosts office.dumps office.restores office.readers) office.pool g))
           (was_in_dumps content office Same) h;
     })

@@ -1,5 +1,5 @@
 -- A commit, as the parts of an office in memory make it, and that it keeps an office sound.
-use Rattle.std.specs.Prelude.{◌≡◌, ◌≢◌, ◌<◌, ℕ, true, List, Some, Ok, slice_get, slice_set, ◌⊎◌}
+use Rattle.std.specs.Prelude.{◌≡◌, ◌≢◌, ◌<◌, ℕ, true, not, List, Some, Ok, slice_get, slice_set, ◌⊎◌}
 use Rattle.std.specs.List.{remove}
 use Rattle.std.proofs.Common.{refl, sym, ap, ◌∙◌, subst, inl, inr, arith}
 use Rattle.attr_records.specs.Items.{Tree}
@@ -8,7 +8,8 @@ use Rattle.office_model.specs.declared.session.SessionName.{SessionName}
 use Rattle.office_model.specs.declared.refusal.BrokenRule.TheVariants.{NoSession}
 use Rattle.office_model.specs.Places.{AtEach, AtEach-set, AtEach-longer, slice_get-set_other, slice_get-remove, place_before, place_before-other}
 use Rattle.office_model.specs.Pool.{Pool, is_pooled, holds, with_tree}
-use Rattle.office_model.specs.Office.{Office, Host, Backup, Dump, number_limit, IsSound, IsTree, IsSoundHost, HasHost, AreDumps, IsPooledTree, is_held}
+use Rattle.office_model.specs.Office.{Office, Host, Backup, Dump, Stage, stages_left, number_limit, IsSound, IsTree, IsSoundHost, HasHost, AreDumps, IsPooledTree, is_held}
+use Rattle.office_model.specs.Session.{is_same_session}
 use Rattle.office_model.specs.Meaning.{Same, found}
 use Rattle.office_model.specs.Parts.{dump_at, with_last, with_newest, filled_as}
 use Rattle.backup_rules.specs.Fill.{stays_filled}
@@ -16,6 +17,8 @@ use Rattle.office_model.specs.events.Commit.{Committing, committed, after, new_b
 use Rattle.office_model.specs.laws.Judging.{bound, at_is, found_is}
 use Rattle.office_model.specs.laws.DurableLaws.{AreHosts-set}
 use Rattle.office_model.specs.laws.VolatileLaws.{dump_removed, pooled_dump_removed, pooled_more}
+use Rattle.office_model.specs.laws.StageLaws.{AtEach-filter}
+use Rattle.office_model.specs.laws.Lookups.{named}
 use Rattle.office_model.specs.laws.HeldLaws.{Reason, pooled-with_tree, removed_held, one_holds, held_by, was_pooled, was_in_dumps}
 use Rattle.office_model.specs.laws.Lawful.{IsLawful, does}
 use Rattle.office_model.specs.laws.PoolLaws.{tree_keeps, tree_has, tree_order}
@@ -57,7 +60,7 @@ pooled_newest pool pool' rules backups new more each pooled = AtEach-longer (λ 
 
 pub IsSound-committed : (office : Office) (session : SessionName) (now : ℕ) (parts : Committing) → IsSound office
     → committed session now office.hosts office.pool office.dumps ≡ Ok parts
-    → IsSound (after office parts)
+    → IsSound (after session office parts)
 IsSound-committed office session now parts sound e =
     let a = bound (dump_at office.dumps session) _ parts e in
     let dump : Dump = a.0.value in
@@ -76,7 +79,7 @@ IsSound-committed office session now parts sound e =
       dumps = remove office.dumps a.0.index;
     } in
     let same : made ≡ parts = let f = b.2 in cc in
-    subst (λ (p : Committing). IsSound (after office p)) same (record {
+    subst (λ (p : Committing). IsSound (after session office p)) same (record {
       kept = record {
         hosts = AreHosts-set office.hosts dump.host host (with_commit host dump now) is_host refl
             (IsSoundHost-commit host dump now (sound.hosts.each dump.host host is_host) room (sound.dumps.trees a.0.index dump is_dump)) sound.hosts;
@@ -85,11 +88,12 @@ IsSound-committed office session now parts sound e =
             (λ i h at n backup at_backup. more backup.tree (sound.of_backups i h at n backup at_backup))
             (pooled_newest office.pool (with_tree office.pool dump.tree) host.rules host.backups (new_backup host dump now) more (sound.of_backups dump.host host is_host) (tree_has office.pool dump.tree));
       };
-      now = dump_removed office.epoch office.volatile sound.now a.0.index;
+      now = dump_removed office.epoch office.volatile sound.now a.0.index dump session is_dump (named office.dumps session a.0.index dump (at_is _ office.dumps _ a.0 a.1).0 is_dump);
       tied = record {
         hosted = hosted-commit office.hosts office.dumps a.0.index dump (with_commit host dump now) sound.dumps sound.hosted is_dump;
         pooled = pooled_dump_removed (with_tree office.pool dump.tree) office.volatile
-            (pooled_more office.pool office.volatile sound.pooled (with_tree office.pool dump.tree) (λ i d at. more d.base) (λ i r at. more r.tree)) a.0.index;
+            (pooled_more office.pool office.volatile sound.pooled (with_tree office.pool dump.tree) (λ i d at. more d.base) (λ i r at. more r.tree)
+            (λ i r at was content h. tree_keeps office.pool dump.tree content (was content h))) a.0.index (stages_left session office.stages);
       };
     })
 
@@ -122,5 +126,9 @@ lawful session now office names c sound e =
     does _ office names sound _ c a.2 (record {
       in_kind = refl;
       sound = IsSound-committed office session now a.0 sound.office a.1;
+      numbers = record {
+        stages = AtEach-filter (λ (s : Stage). s.number < names.next_stage) (λ (s : Stage). not (is_same_session s.dump session)) office.stages sound.names.given.stages;
+        readers = sound.names.given.readers;
+      };
       held = λ content h. held-committed content office session now a.0 a.1 h;
     })

@@ -14,7 +14,7 @@ AreHosts-set hosts p old new was name sound are = record {
 }
 
 -- what was at a place is there after a write, or was written over
-set_finds : {A : Type 0} (xs : List A) (p i : ℕ) (new x : A) → slice_get xs i ≡ Some x
+pub set_finds : {A : Type 0} (xs : List A) (p i : ℕ) (new x : A) → slice_get xs i ≡ Some x
     → (slice_get (slice_set xs p new) i ≡ Some x) ⊎ ((i ≡ p) × (slice_get (slice_set xs p new) i ≡ Some new))
 set_finds [] p i new x e = absurd (cc)
 set_finds (y ∷ ys) zero zero new x e = inr (refl, refl)

@@ -1,27 +1,34 @@
 -- An open dump's tree with a node more, or without a path, keeps an office sound.
-use Rattle.std.specs.Prelude.{◌≡◌, ℕ, Bool, true, false, not, List, Option, Some, None, Ok, is_some, slice_get, slice_set, ◌⊎◌}
-use Rattle.std.specs.Option.{option_map}
-use Rattle.std.proofs.Common.{refl, ap, ◌∙◌, subst, inl, inr, arith}
+use Rattle.std.specs.Prelude.{◌≡◌, ◌<◌, ℕ, Bool, true, false, not, List, Option, Some, None, Ok, is_some, slice_get, slice_set, ◌⊎◌}
+use Rattle.std.specs.List.{remove as remove_at}
+use Rattle.std.specs.Option.{option_map, option_and_then}
+use Rattle.std.proofs.Common.{refl, sym, ap, ◌∙◌, subst, inl, inr, arith}
 use Rattle.attr_records.specs.declared.nodes.Item.{Item}
 use Rattle.attr_records.specs.declared.trees.PutRule.{PutRule}
-use Rattle.attr_records.specs.Items.{Tree, content_of, is_dir, is_large}
+use Rattle.attr_records.specs.Items.{Tree, content_of, is_dir, is_large, some_bytes}
 use Rattle.attr_records.specs.Paths.{is_within}
 use Rattle.attr_records.specs.Trees as Trees
 use Rattle.attr_records.specs.TreeLaws as TreeLaws
 use Rattle.office_model.specs.declared.session.SessionName.{SessionName}
+use Rattle.office_model.specs.declared.event.StagedFile.{StagedFile}
+use Rattle.office_model.specs.declared.event.PutItem.{PutItem}
+use Rattle.office_model.specs.declared.event.PutItem.TheVariants.{Whole, Staged}
 use Rattle.office_model.specs.declared.answer.Answer.TheVariants.{Done}
-use Rattle.office_model.specs.declared.refusal.BrokenRule.TheVariants.{Put}
-use Rattle.office_model.specs.Places.{AtEach-set}
+use Rattle.office_model.specs.declared.refusal.BrokenRule.TheVariants.{Put, NoSession}
+use Rattle.office_model.specs.Places.{AtEach, AtEach-set, AtEach-remove}
 use Rattle.office_model.specs.Pool.{is_content}
-use Rattle.office_model.specs.Office.{Office, Dump, with_dumps, IsSound, IsTree, HasHost, in_dumps}
-use Rattle.office_model.specs.Meaning.{Same, Adds}
-use Rattle.office_model.specs.Parts.{dump_at}
+use Rattle.office_model.specs.Office.{Office, Dump, Stage, stage_index, stage_content, with_dumps, with_stages, IsSound, IsTree, HasHost, in_dumps}
+use Rattle.office_model.specs.Meaning.{Same, AddsStage}
+use Rattle.office_model.specs.Session.{is_same_session}
+use Rattle.office_model.specs.Parts.{At, dump_at, stage_at}
+use Rattle.office_model.specs.UsedNames.{named_content}
 use Rattle.office_model.specs.events.Put as PutEvent
 use Rattle.office_model.specs.events.Put.{with_item, with_put, is_chain_full, name_change}
 use Rattle.office_model.specs.events.Remove as Remove
 use Rattle.office_model.specs.laws.Judging.{bound, passed, kept, at_is}
 use Rattle.office_model.specs.laws.VolatileLaws.{dump_set, pooled_dump_set}
-use Rattle.office_model.specs.laws.HeldLaws.{Reason, holds-filter, holds-put, is_its_content, set_held, was_in_dumps}
+use Rattle.office_model.specs.laws.StageLaws.{IsSound-stage_removed}
+use Rattle.office_model.specs.laws.HeldLaws.{Reason, holds-filter, holds-put, is_its_content, set_held, held_by, was_pooled, was_in_dumps}
 use Rattle.office_model.specs.laws.Lawful.{IsLawful, does, does_dumps}
 
 -- a dump at its place with another tree
@@ -44,66 +51,164 @@ IsSound-retreed office p old new sound was same tree = record {
 
 -- ---- a node more
 
-IsTree-put : (tree : Tree) (path : List ℕ) (item : Item) → IsTree tree → Trees.broken_put is_dir is_large tree path item ≡ None
-    → IsTree (Trees.with_node tree path item)
-IsTree-put tree path item was rule = record {
-  paths = TreeLaws.IsTree-with_node is_dir is_large tree path item was.paths rule;
-  few = TreeLaws.few-with_node is_dir is_large tree path item was.paths.in_order was.few rule;
-}
+module _ (large : Item → Bool) where
+  IsTree-put : (tree : Tree) (path : List ℕ) (item : Item) → IsTree tree → Trees.broken_put is_dir large tree path item ≡ None
+      → IsTree (Trees.with_node tree path item)
+  IsTree-put tree path item was rule = record {
+    paths = TreeLaws.IsTree-with_node is_dir large tree path item was.paths rule;
+    few = TreeLaws.few-with_node is_dir large tree path item was.paths.in_order was.few rule;
+  }
 
-no_rule : (rule : Option PutRule) → option_map Put rule ≡ None → rule ≡ None
-no_rule None e = refl
-no_rule (Some rule) e = absurd (cc)
+  unbroken : (rule : Option PutRule) → option_map Put rule ≡ None → rule ≡ None
+  unbroken None e = refl
+  unbroken (Some rule) e = absurd (cc)
 
-pub IsSound-with_put : (office : Office) (session : SessionName) (path : List ℕ) (item : Item) (full : Bool) (dumps : List Dump)
-    → IsSound office
-    → with_put session path item full office.dumps ≡ Ok dumps → IsSound (with_dumps office dumps)
-IsSound-with_put office session path item full dumps sound e =
-    let a = bound (dump_at office.dumps session) _ dumps e in
-    let was : slice_get office.dumps a.0.index ≡ Some a.0.value = (at_is _ office.dumps _ a.0 a.1).1 in
-    let b = kept (option_map Put (Trees.broken_put is_dir is_large a.0.value.tree path item)) _ dumps a.2 in
-    let c : (full ≡ false) × (Ok (slice_set office.dumps a.0.index (with_item a.0.value path item)) ≡ Ok dumps) = passed _ _ _ _ b.1 in
-    let same : slice_set office.dumps a.0.index (with_item a.0.value path item) ≡ dumps = let g = c.1 in cc in
-    let tree : IsTree (with_item a.0.value path item).tree = IsTree-put a.0.value.tree path item (sound.dumps.trees a.0.index a.0.value was) (no_rule _ b.0) in
-    subst (λ ds. IsSound (with_dumps office ds)) same
-    (IsSound-retreed office a.0.index a.0.value (with_item a.0.value path item) sound was (record { name = refl; host = refl; base = refl }) tree)
+  -- what it says that an item may be put
+  pub record MayPut (session : SessionName) (path : List ℕ) (item : Item) (full : Bool) (dumps new : List Dump) : Type 0 where
+    pub index : ℕ
+    pub dump : Dump
+    pub is_dump : slice_get dumps index ≡ Some dump
+    pub no_rule : Trees.broken_put is_dir large dump.tree path item ≡ None
+    pub not_full : full ≡ false
+    pub new_is : slice_set dumps index (with_item dump path item) ≡ new
 
-held-with_put : (content : List ℕ) (office : Office) (session : SessionName) (path : List ℕ) (item : Item) (full : Bool) (dumps : List Dump)
-    → with_put session path item full office.dumps ≡ Ok dumps → in_dumps dumps content ≡ true
-    → (in_dumps office.dumps content ≡ true) ⊎ (content_of item ≡ Some content)
-held-with_put content office session path item full dumps e h =
-    let a = bound (dump_at office.dumps session) _ dumps e in
-    let was : slice_get office.dumps a.0.index ≡ Some a.0.value = (at_is _ office.dumps _ a.0 a.1).1 in
-    let b = kept (option_map Put (Trees.broken_put is_dir is_large a.0.value.tree path item)) _ dumps a.2 in
-    let c : (full ≡ false) × (Ok (slice_set office.dumps a.0.index (with_item a.0.value path item)) ≡ Ok dumps) = passed _ _ _ _ b.1 in
-    let same : slice_set office.dumps a.0.index (with_item a.0.value path item) ≡ dumps = let g = c.1 in cc in
-    set_held content (content_of item ≡ Some content) office.dumps a.0.index a.0.value (with_item a.0.value path item) was
-    (λ g. step (holds-put content path item a.0.value.tree g)) (ap (λ ds. in_dumps ds content) same ∙ h)
-  where
-    step : {A : Type 0} → A ⊎ (is_content item content ≡ true) → A ⊎ (content_of item ≡ Some content)
-    step (inl f) = inl f
-    step (inr f) = inr (is_its_content content (content_of item) f)
+  pub may_put : (session : SessionName) (path : List ℕ) (item : Item) (full : Bool) (dumps new : List Dump)
+      → with_put large session path item full dumps ≡ Ok new → MayPut session path item full dumps new
+  may_put session path item full dumps new e =
+      let a = bound (dump_at dumps session) _ new e in
+      let b = kept (option_map Put (Trees.broken_put is_dir large a.0.value.tree path item)) _ new a.2 in
+      let c : (full ≡ false) × (Ok (slice_set dumps a.0.index (with_item a.0.value path item)) ≡ Ok new) = passed _ _ _ _ b.1 in
+      record {
+        index = a.0.index;
+        dump = a.0.value;
+        is_dump = (at_is _ dumps _ a.0 a.1).1;
+        no_rule = unbroken _ b.0;
+        not_full = c.0;
+        new_is = let g = c.1 in cc;
+      }
+
+  pub IsSound-with_put : (office : Office) (session : SessionName) (path : List ℕ) (item : Item) (full : Bool) (dumps : List Dump)
+      → IsSound office
+      → with_put large session path item full office.dumps ≡ Ok dumps → IsSound (with_dumps office dumps)
+  IsSound-with_put office session path item full dumps sound e =
+      let may : MayPut session path item full office.dumps dumps = may_put session path item full office.dumps dumps e in
+      let tree : IsTree (with_item may.dump path item).tree = IsTree-put may.dump.tree path item (sound.dumps.trees may.index may.dump may.is_dump) may.no_rule in
+      subst (λ ds. IsSound (with_dumps office ds)) may.new_is
+      (IsSound-retreed office may.index may.dump (with_item may.dump path item) sound may.is_dump (record { name = refl; host = refl; base = refl }) tree)
+
+  pub held-with_put : (content : List ℕ) (office : Office) (session : SessionName) (path : List ℕ) (item : Item) (full : Bool) (dumps : List Dump)
+      → with_put large session path item full office.dumps ≡ Ok dumps → in_dumps dumps content ≡ true
+      → (in_dumps office.dumps content ≡ true) ⊎ (content_of item ≡ Some content)
+  held-with_put content office session path item full dumps e h =
+      let may : MayPut session path item full office.dumps dumps = may_put session path item full office.dumps dumps e in
+      set_held content (content_of item ≡ Some content) office.dumps may.index may.dump (with_item may.dump path item) may.is_dump
+      (λ g. step (holds-put content path item may.dump.tree g)) (ap (λ ds. in_dumps ds content) may.new_is ∙ h)
+    where
+      step : {A : Type 0} → A ⊎ (is_content item content ≡ true) → A ⊎ (content_of item ≡ Some content)
+      step (inl f) = inl f
+      step (inr f) = inr (is_its_content content (content_of item) f)
 
 -- the content of which a put may add the name
-adds : (content : List ℕ) (held : Option (List ℕ)) → held ≡ Some content → name_change held ≡ Adds content
-adds content held e = ap name_change e
-
-pub added : (content : List ℕ) (held : Option (List ℕ)) → name_change held ≡ Adds content → held ≡ Some content
-added content None e = absurd (cc)
-added content (Some bytes) e = cc
+pub added : (content : List ℕ) (office : Office) (held : Option (List ℕ)) → named_content (name_change held) office ≡ Some content
+    → held ≡ Some content
+added content office None e = absurd (cc)
+added content office (Some bytes) e = e
 
 was_put : (content : List ℕ) (office : Office) (held : Option (List ℕ)) → (in_dumps office.dumps content ≡ true) ⊎ (held ≡ Some content)
     → Reason content office (name_change held)
 was_put content office held (inl f) = was_in_dumps content office (name_change held) f
-was_put content office held (inr f) = inr (adds content held f)
+was_put content office held (inr f) = inr (ap (λ h. named_content (name_change h) office) f)
 
-pub put : (session : SessionName) (path : List ℕ) (item : Item) → IsLawful (PutEvent.meaning session path item)
-put session path item office names c sound e =
+put_whole : (session : SessionName) (path : List ℕ) (item : Item) → IsLawful (PutEvent.meaning session path (Whole item))
+put_whole session path item office names c sound e =
     let full : Bool = is_chain_full office.pool office.dumps names (content_of item) in
-    let a = bound (with_put session path item (is_chain_full office.pool office.dumps names (content_of item)) office.dumps) _ c e in
+    let a = bound (with_put is_large session path item (is_chain_full office.pool office.dumps names (content_of item)) office.dumps) _ c e in
     does _ office names sound _ c a.2 (does_dumps _ office names sound a.0 office.sequence Done refl
-    (λ content g. was_put content office (content_of item) (held-with_put content office session path item full a.0 a.1 g))
-    (IsSound-with_put office session path item full a.0 sound.office a.1))
+    (λ content g. was_put content office (content_of item) (held-with_put is_large content office session path item full a.0 a.1 g))
+    (IsSound-with_put is_large office session path item full a.0 sound.office a.1))
+
+-- ---- of a stage
+
+-- what it says that a stage's bytes may be put
+pub record MayPutStage (session : SessionName) (path : List ℕ) (file : StagedFile) (full : Bool) (dumps : List Dump) (stages : List Stage)
+    (made : PutEvent.Putting) : Type 0 where
+  pub index : ℕ
+  pub stage : Stage
+  pub found : stage_index stages file.stage ≡ Some index
+  pub is_stage : slice_get stages index ≡ Some stage
+  pub of_dump : is_same_session stage.dump session ≡ true
+  pub put : with_put PutEvent.is_over session path (PutEvent.staged_item file stage.bytes) full dumps ≡ Ok made.dumps
+  pub stages_are : remove_at stages index ≡ made.stages
+
+is_true : (b : Bool) → not b ≡ false → b ≡ true
+is_true true e = refl
+is_true false e = absurd (cc)
+
+pub may_put_stage : (session : SessionName) (path : List ℕ) (file : StagedFile) (full : Bool) (dumps : List Dump) (stages : List Stage)
+    (made : PutEvent.Putting) → PutEvent.with_staged session path file full dumps stages ≡ Ok made
+    → MayPutStage session path file full dumps stages made
+may_put_stage session path file full dumps stages made e =
+    let a = bound (PutEvent.stage_of stages session file.stage) _ made e in
+    let b = bound (stage_at stages file.stage) _ a.0 a.1 in
+    let c : (not (is_same_session b.0.value.dump session) ≡ false) × (Ok b.0 ≡ Ok a.0) = passed NoSession (not (is_same_session b.0.value.dump session)) _ a.0 b.2 in
+    let one : b.0 ≡ a.0 = let f = c.1 in cc in
+    let is = at_is _ stages _ b.0 b.1 in
+    let d = bound (with_put PutEvent.is_over session path (PutEvent.staged_item file a.0.value.bytes) full dumps) _ made a.2 in
+    let new : PutEvent.Putting = record { dumps = d.0; stages = remove_at stages a.0.index } in
+    let same : new ≡ made = let f = d.2 in cc in
+    record {
+      index = a.0.index;
+      stage = a.0.value;
+      found = is.0 ∙ ap (λ (x : At Stage). Some x.index) one;
+      is_stage = ap (λ (x : At Stage). slice_get stages x.index) (sym one) ∙ is.1 ∙ ap (λ (x : At Stage). Some x.value) one;
+      of_dump = ap (λ (x : At Stage). is_same_session x.value.dump session) (sym one) ∙ is_true (is_same_session b.0.value.dump session) c.0;
+      put = d.1 ∙ ap (λ (x : PutEvent.Putting). Ok x.dumps) same;
+      stages_are = ap (λ (x : PutEvent.Putting). x.stages) same;
+    }
+
+-- the content of the stage that was found
+pub stage_content_is : (stages : List Stage) (number index : ℕ) (stage : Stage) → stage_index stages number ≡ Some index
+    → slice_get stages index ≡ Some stage → stage_content stages number ≡ some_bytes stage.bytes
+stage_content_is stages number index stage found is =
+    ap (λ place. option_and_then (λ (s : Stage). some_bytes s.bytes) (option_and_then (slice_get stages) place)) found
+    ∙ ap (option_and_then (λ (s : Stage). some_bytes s.bytes)) is
+
+pub IsSound-with_staged : (office : Office) (session : SessionName) (path : List ℕ) (file : StagedFile) (full : Bool) (made : PutEvent.Putting)
+    → IsSound office → PutEvent.with_staged session path file full office.dumps office.stages ≡ Ok made
+    → IsSound (with_stages (with_dumps office made.dumps) made.stages)
+IsSound-with_staged office session path file full made sound e =
+    let may : MayPutStage session path file full office.dumps office.stages made = may_put_stage session path file full office.dumps office.stages made e in
+    subst (λ ss. IsSound (with_stages (with_dumps office made.dumps) ss)) may.stages_are
+    (IsSound-stage_removed (with_dumps office made.dumps) may.index
+    (IsSound-with_put PutEvent.is_over office session path (PutEvent.staged_item file may.stage.bytes) full made.dumps sound may.put))
+
+stage_was_put : (content : List ℕ) (office : Office) (number : ℕ) (bytes : List ℕ) → stage_content office.stages number ≡ some_bytes bytes
+    → (in_dumps office.dumps content ≡ true) ⊎ (some_bytes bytes ≡ Some content) → Reason content office (AddsStage number)
+stage_was_put content office number bytes is (inl f) = was_in_dumps content office (AddsStage number) f
+stage_was_put content office number bytes is (inr f) = inr (is ∙ f)
+
+put_staged : (session : SessionName) (path : List ℕ) (file : StagedFile) → IsLawful (PutEvent.meaning session path (Staged file))
+put_staged session path file office names c sound e =
+    let full : Bool = is_chain_full office.pool office.dumps names (stage_content office.stages file.stage) in
+    let a = bound (PutEvent.with_staged session path file (is_chain_full office.pool office.dumps names (stage_content office.stages file.stage)) office.dumps office.stages) _ c e in
+    let may : MayPutStage session path file full office.dumps office.stages a.0 = may_put_stage session path file full office.dumps office.stages a.0 a.1 in
+    let is : stage_content office.stages file.stage ≡ some_bytes may.stage.bytes = stage_content_is office.stages file.stage may.index may.stage may.found may.is_stage in
+    does _ office names sound _ c a.2 (record {
+      in_kind = refl;
+      sound = IsSound-with_staged office session path file full a.0 sound.office a.1;
+      numbers = record {
+        stages = subst (AtEach (λ (s : Stage). s.number < names.next_stage)) may.stages_are
+            (AtEach-remove (λ (s : Stage). s.number < names.next_stage) office.stages may.index sound.names.given.stages);
+        readers = sound.names.given.readers;
+      };
+      held = λ content h. held_by content office (AddsStage file.stage) office.pool a.0.dumps (was_pooled content office (AddsStage file.stage))
+          (λ g. stage_was_put content office file.stage may.stage.bytes is
+          (held-with_put PutEvent.is_over content office session path (PutEvent.staged_item file may.stage.bytes) full a.0.dumps may.put g)) h;
+    })
+
+pub put : (session : SessionName) (path : List ℕ) (item : PutItem) → IsLawful (PutEvent.meaning session path item)
+put session path (Whole item) = put_whole session path item
+put session path (Staged file) = put_staged session path file
 
 -- ---- without a path
 

@@ -41,5 +41,6 @@ lawful office names c sound e =
     does _ office names sound _ c a.1 (record {
       in_kind = refl;
       sound = IsSound-reopened office.durable sound.office.kept;
+      numbers = record { stages = λ i s at. absurd (cc); readers = λ i r at. absurd (cc) };
       held = λ content h. held_by content office Renews office.pool [] (was_pooled content office Renews) (λ (g : false ≡ true). absurd (cc)) h;
     })

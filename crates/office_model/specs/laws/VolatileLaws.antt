@@ -1,14 +1,15 @@
 -- What is open stays sound where a dump or a restore is opened, changed at its place, or dropped. A further list of what is open has
 -- its law here, once for each of these six changes.
-use Rattle.std.specs.Prelude.{◌≡◌, ℕ, ◌+◌, [], ◌∷◌, ◌++◌, length, None, Some, slice_get, slice_set, ◌⊎◌}
+use Rattle.std.specs.Prelude.{◌≡◌, ℕ, ◌+◌, List, [], ◌∷◌, ◌++◌, length, None, Some, slice_get, slice_set, ◌⊎◌}
 use Rattle.std.specs.List.{remove}
 use Rattle.std.proofs.Common.{refl, sym, ap, ◌∙◌, subst, inl, inr, arith}
 use Rattle.office_model.specs.declared.session.SessionName.{SessionName}
 use Rattle.office_model.specs.Places.{AtEach-longer, AtEach-set, AtEach-remove, Differ-longer, Differ-set, Differ-remove, in_longer, slice_get-remove, place_before}
 use Rattle.office_model.specs.Pool.{Pool}
-use Rattle.office_model.specs.Office.{Dump, Restore, Volatile, dump_index_of_host, nothing_open, IsTree, IsGiven, IsSoundVolatile, IsPooledTree, IsPooledOpen}
+use Rattle.office_model.specs.Office.{Dump, Restore, Reader, Stage, Volatile, dump_index_of_host, nothing_open, stages_left, IsTree, IsGiven, IsSoundVolatile, IsPooledTree, IsPooledReader, IsPooledOpen}
 use Rattle.office_model.specs.laws.Lookups.{dump_index_of_host-none}
 use Rattle.office_model.specs.laws.DurableLaws.{kept_key}
+use Rattle.office_model.specs.laws.StageLaws.{stages_longer, stages_set, stages_removed}
 
 later : (epoch sequence : ℕ) (name : SessionName) → IsGiven epoch sequence name → IsGiven epoch (sequence + 1) name
 later epoch sequence name given = record { this_epoch = given.this_epoch; given_out = let g = given.given_out in omega arith }
@@ -45,6 +46,8 @@ module _ (epoch : ℕ) (now : Volatile) (are : IsSoundVolatile epoch now) where
       trees = AtEach-longer (λ (d : Dump). IsTree d.tree) now.dumps dump are.dumps.trees tree;
     };
     restores = are.restores;
+    stages = stages_longer now.dumps now.stages are.stages dump;
+    readers = are.readers;
   }
     where
       step : (i j : ℕ) (d : Dump) (r : Restore) → slice_get now.restores j ≡ Some r → d.name ≡ r.name
@@ -71,10 +74,13 @@ module _ (epoch : ℕ) (now : Volatile) (are : IsSoundVolatile epoch now) where
       trees = AtEach-set (λ (d : Dump). IsTree d.tree) now.dumps p new are.dumps.trees tree;
     };
     restores = are.restores;
+    stages = stages_set now.dumps now.stages are.stages p old new was name;
+    readers = are.readers;
   }
 
-  pub dump_removed : (p : ℕ) → IsSoundVolatile epoch (record now { dumps = remove now.dumps p })
-  dump_removed p = record {
+  pub dump_removed : (p : ℕ) (dump : Dump) (session : SessionName) → slice_get now.dumps p ≡ Some dump → dump.name ≡ session
+      → IsSoundVolatile epoch (record now { dumps = remove now.dumps p; stages = stages_left session now.stages })
+  dump_removed p dump session was name = record {
     sessions = record {
       dumps_given = AtEach-remove (λ (d : Dump). IsGiven epoch now.sequence d.name) now.dumps p are.sessions.dumps_given;
       restores_given = are.sessions.restores_given;
@@ -88,6 +94,8 @@ module _ (epoch : ℕ) (now : Volatile) (are : IsSoundVolatile epoch now) where
       trees = AtEach-remove (λ (d : Dump). IsTree d.tree) now.dumps p are.dumps.trees;
     };
     restores = are.restores;
+    stages = stages_removed now.dumps now.stages are.stages p dump session was name;
+    readers = are.readers;
   }
 
   -- ---- restores
@@ -105,6 +113,8 @@ module _ (epoch : ℕ) (now : Volatile) (are : IsSoundVolatile epoch now) where
     };
     dumps = are.dumps;
     restores = AtEach-longer (λ (r : Restore). IsTree r.tree) now.restores restore are.restores tree;
+    stages = are.stages;
+    readers = are.readers;
   }
     where
       step : (i j : ℕ) (d : Dump) (r : Restore) → slice_get now.dumps i ≡ Some d → d.name ≡ r.name
@@ -126,6 +136,8 @@ module _ (epoch : ℕ) (now : Volatile) (are : IsSoundVolatile epoch now) where
     };
     dumps = are.dumps;
     restores = AtEach-set (λ (r : Restore). IsTree r.tree) now.restores p new are.restores (subst IsTree (sym tree) (are.restores p old was));
+    stages = are.stages;
+    readers = are.readers;
   }
 
   pub restore_removed : (p : ℕ) → IsSoundVolatile epoch (record now { restores = remove now.restores p })
@@ -139,6 +151,8 @@ module _ (epoch : ℕ) (now : Volatile) (are : IsSoundVolatile epoch now) where
     };
     dumps = are.dumps;
     restores = AtEach-remove (λ (r : Restore). IsTree r.tree) now.restores p are.restores;
+    stages = are.stages;
+    readers = are.readers;
   }
 
 -- ---- what is open is in the pool
@@ -149,6 +163,7 @@ module _ (pool : Pool) (now : Volatile) (are : IsPooledOpen pool now) where
   pooled_dump_added dump sequence base = record {
     of_bases = AtEach-longer (λ (d : Dump). IsPooledTree pool d.base) now.dumps dump are.of_bases base;
     of_restores = are.of_restores;
+    of_readers = are.of_readers;
   }
 
   pub pooled_dump_set : (p : ℕ) (old new : Dump) → slice_get now.dumps p ≡ Some old → new.base ≡ old.base
@@ -156,12 +171,14 @@ module _ (pool : Pool) (now : Volatile) (are : IsPooledOpen pool now) where
   pooled_dump_set p old new was base = record {
     of_bases = AtEach-set (λ (d : Dump). IsPooledTree pool d.base) now.dumps p new are.of_bases (subst (IsPooledTree pool) (sym base) (are.of_bases p old was));
     of_restores = are.of_restores;
+    of_readers = are.of_readers;
   }
 
-  pub pooled_dump_removed : (p : ℕ) → IsPooledOpen pool (record now { dumps = remove now.dumps p })
-  pooled_dump_removed p = record {
+  pub pooled_dump_removed : (p : ℕ) (stages : List Stage) → IsPooledOpen pool (record now { dumps = remove now.dumps p; stages = stages })
+  pooled_dump_removed p stages = record {
     of_bases = AtEach-remove (λ (d : Dump). IsPooledTree pool d.base) now.dumps p are.of_bases;
     of_restores = are.of_restores;
+    of_readers = are.of_readers;
   }
 
   pub pooled_restore_added : (restore : Restore) (sequence : ℕ) → IsPooledTree pool restore.tree
@@ -169,6 +186,7 @@ module _ (pool : Pool) (now : Volatile) (are : IsPooledOpen pool now) where
   pooled_restore_added restore sequence tree = record {
     of_bases = are.of_bases;
     of_restores = AtEach-longer (λ (r : Restore). IsPooledTree pool r.tree) now.restores restore are.of_restores tree;
+    of_readers = are.of_readers;
   }
 
   pub pooled_restore_set : (p : ℕ) (old new : Restore) → slice_get now.restores p ≡ Some old → new.tree ≡ old.tree
@@ -176,27 +194,31 @@ module _ (pool : Pool) (now : Volatile) (are : IsPooledOpen pool now) where
   pooled_restore_set p old new was tree = record {
     of_bases = are.of_bases;
     of_restores = AtEach-set (λ (r : Restore). IsPooledTree pool r.tree) now.restores p new are.of_restores (subst (IsPooledTree pool) (sym tree) (are.of_restores p old was));
+    of_readers = are.of_readers;
   }
 
   pub pooled_restore_removed : (p : ℕ) → IsPooledOpen pool (record now { restores = remove now.restores p })
   pooled_restore_removed p = record {
     of_bases = are.of_bases;
     of_restores = AtEach-remove (λ (r : Restore). IsPooledTree pool r.tree) now.restores p are.of_restores;
+    of_readers = are.of_readers;
   }
 
   -- in a pool that has what must stay
   pub pooled_more : (pool' : Pool)
       → ((i : ℕ) (dump : Dump) → slice_get now.dumps i ≡ Some dump → IsPooledTree pool dump.base → IsPooledTree pool' dump.base)
       → ((i : ℕ) (restore : Restore) → slice_get now.restores i ≡ Some restore → IsPooledTree pool restore.tree → IsPooledTree pool' restore.tree)
+      → ((i : ℕ) (reader : Reader) → slice_get now.readers i ≡ Some reader → IsPooledReader pool reader → IsPooledReader pool' reader)
       → IsPooledOpen pool' now
-  pooled_more pool' bases restores = record {
+  pooled_more pool' bases restores readers = record {
     of_bases = λ i dump at. bases i dump at (are.of_bases i dump at);
     of_restores = λ i restore at. restores i restore at (are.of_restores i restore at);
+    of_readers = λ i reader at. readers i reader at (are.of_readers i reader at);
   }
 
 -- with nothing open
 pub pooled_nothing : (pool : Pool) → IsPooledOpen pool nothing_open
-pooled_nothing pool = record { of_bases = λ i d at. absurd (cc); of_restores = λ i r at. absurd (cc) }
+pooled_nothing pool = record { of_bases = λ i d at. absurd (cc); of_restores = λ i r at. absurd (cc); of_readers = λ i r at. absurd (cc) }
 
 pub IsSoundVolatile-nothing : (epoch : ℕ) → IsSoundVolatile epoch nothing_open
 IsSoundVolatile-nothing epoch = record {
@@ -209,4 +231,6 @@ IsSoundVolatile-nothing epoch = record {
   };
   dumps = record { one_a_host = λ i j a b at. absurd (cc); bases = λ i d at. absurd (cc); trees = λ i d at. absurd (cc) };
   restores = λ i r at. absurd (cc);
+  stages = record { of_dumps = λ i s at. absurd (cc); numbers_differ = λ i j a b at. absurd (cc); fit = λ i s at. absurd (cc) };
+  readers = record { numbers_differ = λ i j a b at. absurd (cc); places = λ i r at. absurd (cc) };
 }

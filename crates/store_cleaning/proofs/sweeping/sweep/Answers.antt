@@ -1,12 +1,19 @@
-use Rattle.std.proofs.Common.{refl, ap}
-use Rattle.std.specs.Prelude.{Err}
-use Rattle.store_cleaning.proofs.Sweeps.{runs_swept, runs_unswept}
+use Rattle.store_cleaning.proofs.StageFiles.{on_ok, only_open_still, runs_behind_stages, runs_stages_left, undamaged_left}
 use Rattle.store_cleaning.proofs.sweeping.sweep.Goals as goal
 
-pub returns-clause-runs : goal.returns-clause-runs
-returns-clause-runs g c = runs_swept _ _ refl refl refl refl refl c.in-Ok.ensures.form c.in-Ok.ensures.stays c.in-Ok.ensures.pruned
-    c.in-Ok.ensures.sweeps c.in-Ok.ensures.certain c.in-Ok.ensures.any_moment c.in-Ok.ensures.done c.in-Ok.ensures.counted (λ e. absurd cc)
-
 pub returns-in-Err-clause-runs : goal.returns-in-Err-clause-runs
-returns-in-Err-clause-runs g c = runs_unswept _ _ refl refl refl refl refl c.in-Err.ensures.form c.in-Err.ensures.stays c.in-Err.ensures.pruned
-    c.in-Err.ensures.sweeps c.in-Err.ensures.certain c.in-Err.ensures.any_moment c.in-Err.ensures.counted (ap Err c.in-Err.ensures.fault)
+returns-in-Err-clause-runs g c =
+    runs_stages_left c.args.parts.now c.sweep_stages.new.parts c.in-Err.ensures.others c.in-Err.ensures.drops c.in-Err.refusal
+    c.in-Err.ensures.kind c.in-Err.ensures.counted
+
+pub returns-in-Err-clause-undamaged : goal.returns-in-Err-clause-undamaged
+returns-in-Err-clause-undamaged g c = undamaged_left c.in-Err.refusal c.in-Err.ensures.kind
+
+pub returns-clause-runs : goal.returns-clause-runs
+returns-clause-runs g c =
+    runs_behind_stages c.args.parts.now c.sweep_stages.new.parts c.in-Ok.ensures.others c.in-Ok.ensures.drops c.sweep_pool.new.parts
+    c.sweep_pool.result (c.in-Ok.ensures.counted.stays (λ e. absurd cc)) c.sweep_pool.ensures.runs
+
+pub returns-clause-stages : goal.returns-clause-stages
+returns-clause-stages g c = on_ok c.sweep_pool.result _ (λ all is.
+    only_open_still c.args.parts.now.sessions.stages.items.items all _ _ (c.in-Ok.ensures.done all is) c.sweep_pool.ensures.stages)

@@ -6,7 +6,8 @@ use Rattle.pool_store.specs.Pools.{Misses}
 use Rattle.store_dumps.specs.Putting.{TakesIn, content_found}
 use Rattle.store_parts.specs.RefusalLaws.{runs_broken_by}
 use Rattle.store_parts.specs.RefusedLaws.{runs_broken, runs_no_dump}
-use Rattle.store_dumps.proofs.Puts.{runs_same, no_dump_put, put_broken, runs_put, runs_put_back, runs_missed, go_content}
+use Rattle.store_dumps.specs.PutLaws.{runs_same, go_content}
+use Rattle.store_dumps.proofs.Puts.{no_dump_put, put_broken, runs_put, runs_put_back, runs_missed}
 use Rattle.store_parts.specs.UndamagedLaws.{undamaged_broken}
 use Rattle.store_dumps.proofs.Undamaged.{undamaged_pool, undamaged_put}
 use Rattle.store_dumps.proofs.putting.put.Goals as goal
@@ -30,7 +31,7 @@ returns-in-Err-clause-runs g c = runs_same _ _ _ _ _ c.refusal_of_pool.ensures.v
     (subst (λ (b : List ℕ). Misses g.N.Namer.digest_of (slots_of c.args.parts.now.pool.names) (slots_of c.stage.new.pool.names)
     (g.D.Disk.files c.args.parts.now.journal.disk)
     (g.D.Disk.files c.stage.new.journal.disk) b c.in-Err.fault) c.bytes_of-bytes.ensures c.in-Err.ensures.misses)
-    c.in-Err.ensures.damaged c.in-Err.ensures.given c.in-Err.ensures.kind c.in-Err.ensures.counted)
+    c.in-Err.ensures.undamaged c.in-Err.ensures.kind c.in-Err.ensures.counted)
 
 pub returns-in-Ok-put_item-clause-runs : goal.returns-in-Ok-put_item-clause-runs
 returns-in-Ok-put_item-clause-runs g c =

@@ -4,7 +4,7 @@ use Rattle.pool_changes.specs.Kept.{slots_of}
 use Rattle.store_parts.specs.RefusalLaws.{runs_broken_by}
 use Rattle.store_parts.specs.RefusedLaws.{runs_no_dump}
 use Rattle.store_parts.specs.RunLaws.{runs_memory, reads_still, counted_still}
-use Rattle.store_dumps.proofs.Running.{runs_alike_memory, runs_alike_refused}
+use Rattle.store_dumps.specs.RunningLaws.{runs_alike_memory, runs_alike_refused}
 use Rattle.store_dumps.proofs.Removes.{no_dump_remove, no_path, runs_removed, go_alike}
 use Rattle.store_parts.specs.UndamagedLaws.{undamaged_broken}
 use Rattle.store_dumps.proofs.removing.remove.Goals as goal

@@ -1,0 +1,275 @@
+use attr_records::{Attr, Dir, File, HostName, Item, Link, LinkTarget, PathName};
+use backup_rules::{Kind, Period, Periods, RuleChange, Rules, Setting};
+use disk_trait::Bytes;
+use office_model::{Event, PIECE_LIMIT, PutItem, SessionName, StagedFile};
+use std::alloc::Global;
+use std::test::Fail;
+use stream_traits::Moment;
+use wake_schedule::Local;
+
+/// What is asked. Hosts are named, sessions go by their number in the first epoch.
+#[derive(Clone, Copy)]
+pub enum Ask {
+    Host(&'static str),
+    Fill(&'static str, u32),
+    Quiet(&'static str),
+    Full(&'static str),
+    Incr(&'static str),
+    File(u64, &'static str, &'static str),
+    Dir(u64, &'static str),
+    Link(u64, &'static str),
+    Remove(u64, &'static str),
+    Stage(u64),
+    Piece(u64, &'static str),
+    LongPiece(u64),
+    StageDrop(u64),
+    PutStage(u64, &'static str, u64),
+    Open(&'static str, u32, &'static str),
+    Part(u64),
+    CloseFile(u64),
+    Commit(u64),
+    Abort(u64),
+    List(&'static str, u32, &'static str),
+    Lookup(&'static str, u32, &'static str),
+    Read(&'static str, u32, &'static str),
+    Restore(&'static str, u32),
+    Next(u64),
+    Close(u64),
+    Keep(&'static str, u32),
+    Delete(&'static str, u32),
+    Expire(&'static str),
+    Contact(&'static str, bool),
+    Due(&'static str, u64, u8, u16),
+    Clean(u8),
+    Sweep,
+    Stats,
+    Hosts,
+    Backups(&'static str),
+    Reopen,
+}
+
+const DAY: u64 = 86_400;
+
+/// When each dump is opened and committed.
+const START: u64 = 1_700_000_000;
+
+fn moment(seconds: u64) -> Moment {
+    Moment::new(seconds).unwrap_or(Moment::first())
+}
+
+fn session(sequence: u64) -> SessionName {
+    SessionName { epoch: 1, sequence }
+}
+
+fn host(alloc: Global, name: &str) -> Result<HostName, Fail> {
+    Ok(HostName::read(alloc, name.as_bytes())?)
+}
+
+fn path(alloc: Global, name: &str) -> Result<PathName, Fail> {
+    Ok(PathName::read(alloc, name.as_bytes())?)
+}
+
+fn put(alloc: Global, sequence: u64, name: &str, item: Item) -> Result<Event, Fail> {
+    Ok(Event::Put {
+        dump: session(sequence),
+        path: path(alloc, name)?,
+        item: PutItem::Whole(item),
+    })
+}
+
+/// A put of a stage.
+fn put_stage(alloc: Global, sequence: u64, name: &str, stage: u64) -> Result<Event, Fail> {
+    Ok(Event::Put {
+        dump: session(sequence),
+        path: path(alloc, name)?,
+        item: PutItem::Staged(StagedFile {
+            attr: Attr::file_default(),
+            group: 0,
+            stage,
+        }),
+    })
+}
+
+/// So many bytes.
+fn long_piece(alloc: Global, count: usize) -> Result<Bytes, Fail> {
+    Ok(Bytes::from_vec(vec![in alloc; 0; count]?))
+}
+
+fn file(alloc: Global, text: &str) -> Result<Item, Fail> {
+    Ok(Item::File(File {
+        attr: Attr::file_default(),
+        group: 0,
+        bytes: Bytes::from_slice(alloc, text.as_bytes())?,
+    }))
+}
+
+fn link(alloc: Global) -> Result<Item, Fail> {
+    Ok(Item::Link(Link {
+        attr: Attr::link_default(),
+        target: LinkTarget::read(alloc, b"target")?,
+    }))
+}
+
+/// Blacked out from 22:00 on Friday to 6:00 on Saturday.
+fn quiet(alloc: Global) -> Result<RuleChange, Fail> {
+    let mut periods = Periods::none(alloc);
+    if let Some(period) = Period::new(1320, 360, 0b10_0000) {
+        periods.push(period)?;
+    }
+    let mut change = RuleChange::none();
+    change.set_blackout_periods(periods);
+    Ok(change)
+}
+
+fn fill(cycle: u32) -> Result<RuleChange, Fail> {
+    let mut change = RuleChange::none();
+    change.set(Setting::FillCycle, cycle)?;
+    Ok(change)
+}
+
+/// An event of a dump or a restore, or of none.
+fn session_event(alloc: Global, ask: Ask) -> Result<Event, Fail> {
+    let now = moment(START);
+    match ask {
+        Ask::File(sequence, name, text) => put(alloc, sequence, name, file(alloc, text)?),
+        Ask::Dir(sequence, name) => put(
+            alloc,
+            sequence,
+            name,
+            Item::Dir(Dir {
+                attr: Attr::dir_default(),
+            }),
+        ),
+        Ask::Link(sequence, name) => put(alloc, sequence, name, link(alloc)?),
+        Ask::Remove(sequence, name) => Ok(Event::Remove {
+            dump: session(sequence),
+            path: path(alloc, name)?,
+        }),
+        Ask::Stage(sequence) => Ok(Event::StageOpen {
+            dump: session(sequence),
+        }),
+        Ask::Piece(stage, text) => Ok(Event::StagePiece {
+            stage,
+            bytes: Bytes::from_slice(alloc, text.as_bytes())?,
+        }),
+        Ask::LongPiece(stage) => Ok(Event::StagePiece {
+            stage,
+            bytes: long_piece(alloc, PIECE_LIMIT + 1)?,
+        }),
+        Ask::StageDrop(stage) => Ok(Event::StageDrop { stage }),
+        Ask::PutStage(sequence, name, stage) => put_stage(alloc, sequence, name, stage),
+        Ask::Part(reader) => Ok(Event::ReadPart { reader }),
+        Ask::CloseFile(reader) => Ok(Event::CloseFile { reader }),
+        Ask::Commit(sequence) => Ok(Event::Commit {
+            dump: session(sequence),
+            now,
+        }),
+        Ask::Abort(sequence) => Ok(Event::Abort {
+            dump: session(sequence),
+        }),
+        Ask::Next(sequence) => Ok(Event::ReadNext {
+            restore: session(sequence),
+        }),
+        Ask::Close(sequence) => Ok(Event::CloseRead {
+            restore: session(sequence),
+        }),
+        Ask::Clean(bucket) => Ok(Event::Clean { bucket }),
+        Ask::Sweep => Ok(Event::Sweep),
+        Ask::Stats => Ok(Event::Stats),
+        Ask::Hosts => Ok(Event::Hosts),
+        _ => Ok(Event::Reopen),
+    }
+}
+
+/// An event of a backup, or of a session.
+fn backup_event(alloc: Global, ask: Ask) -> Result<Event, Fail> {
+    match ask {
+        Ask::List(name, number, place) => Ok(Event::List {
+            host: host(alloc, name)?,
+            number,
+            directory: if place.is_empty() {
+                None
+            } else {
+                Some(path(alloc, place)?)
+            },
+        }),
+        Ask::Lookup(name, number, place) => Ok(Event::Lookup {
+            host: host(alloc, name)?,
+            number,
+            path: path(alloc, place)?,
+        }),
+        Ask::Read(name, number, place) => Ok(Event::ReadFile {
+            host: host(alloc, name)?,
+            number,
+            path: path(alloc, place)?,
+        }),
+        Ask::Open(name, number, place) => Ok(Event::OpenFile {
+            host: host(alloc, name)?,
+            number,
+            path: path(alloc, place)?,
+        }),
+        Ask::Restore(name, number) => Ok(Event::OpenRead {
+            host: host(alloc, name)?,
+            number,
+        }),
+        Ask::Keep(name, number) => Ok(Event::Keep {
+            host: host(alloc, name)?,
+            number,
+            on: true,
+        }),
+        Ask::Delete(name, number) => Ok(Event::Delete {
+            host: host(alloc, name)?,
+            number,
+        }),
+        _ => session_event(alloc, ask),
+    }
+}
+
+/// The event that an ask stands for.
+pub fn event_of(alloc: Global, ask: Ask) -> Result<Event, Fail> {
+    match ask {
+        Ask::Host(name) => Ok(Event::AddHost {
+            host: host(alloc, name)?,
+            rules: Rules::defaults(alloc)?,
+        }),
+        Ask::Fill(name, cycle) => Ok(Event::SetRules {
+            host: host(alloc, name)?,
+            change: fill(cycle)?,
+        }),
+        Ask::Quiet(name) => Ok(Event::SetRules {
+            host: host(alloc, name)?,
+            change: quiet(alloc)?,
+        }),
+        Ask::Full(name) => Ok(Event::OpenDump {
+            host: host(alloc, name)?,
+            kind: Kind::Full,
+            now: moment(START),
+        }),
+        Ask::Incr(name) => Ok(Event::OpenDump {
+            host: host(alloc, name)?,
+            kind: Kind::Incr,
+            now: moment(START),
+        }),
+        Ask::Expire(name) => Ok(Event::Expire {
+            host: host(alloc, name)?,
+            now: moment(START + 400 * DAY),
+        }),
+        Ask::Contact(name, good) => Ok(Event::Contact {
+            host: host(alloc, name)?,
+            good,
+        }),
+        Ask::Due(name, later, weekday, minute) => Ok(Event::Due {
+            host: host(alloc, name)?,
+            now: moment(START.saturating_add(later)),
+            local: Local {
+                day: 0,
+                minute,
+                weekday,
+            },
+        }),
+        Ask::Backups(name) => Ok(Event::Backups {
+            host: host(alloc, name)?,
+        }),
+        _ => backup_event(alloc, ask),
+    }
+}

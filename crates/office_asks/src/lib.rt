@@ -1,0 +1,13 @@
+//! What tests ask of an office: rows of an event and its reply in words, and how both are made. One set of rows serves the office in
+//! memory and the store.
+//!
+//! A call: `expect_steps(alloc, &mut TreeOffice::new(alloc, Md5Namer), &[(Ask::Host("pc1"), "done")])?` adds a host.
+#![tactic(auto)]
+
+mod asks;
+mod rows;
+mod texts;
+
+pub use asks::{Ask, event_of};
+pub use rows::EXAMPLES;
+pub use texts::{expect_step, expect_steps, text_of};

@@ -1,0 +1,3 @@
+pub mod CleanLaws
+pub mod PutLaws
+pub mod ReaderLaws
