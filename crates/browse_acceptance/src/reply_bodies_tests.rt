@@ -197,23 +197,36 @@ fn dir_node() -> Node {
     })
 }
 
-#[test]
-fn nodes_have_their_bodies(rt: HostRuntime) -> Result<(), Fail> {
-    let alloc = rt.alloc();
-    let event = Event::Hosts;
-    let text =
-        "{\"gid\":0,\"group\":7,\"kind\":\"file\",\"mode\":\"0644\",\"mtime\":0,\"nanos\":5,\"size\":5,\"uid\":0}";
-    expect_json(alloc, &event, Answer::Entry(file_node()), text)?;
-    let text =
-        "{\"gid\":2,\"kind\":\"dir\",\"mode\":\"7755\",\"mtime\":-3,\"nanos\":999999999,\"uid\":1}";
-    expect_json(alloc, &event, Answer::Entry(dir_node()), text)?;
-    let link = Node::Link(Link {
+fn link_node(alloc: Global) -> Result<Node, Fail> {
+    Ok(Node::Link(Link {
         attr: Attr::link_default(),
         target: LinkTarget::read(alloc, b"..\\\"x\x1f")?,
-    });
-    let text =
-        "{\"gid\":0,\"kind\":\"link\",\"mode\":\"0777\",\"mtime\":0,\"nanos\":0,\"target\":\"..\\\\\\\"x\\u001f\",\"uid\":0}";
-    expect_json(alloc, &event, Answer::Entry(link), text)
+    }))
+}
+
+/// Expects the body of what is at a path.
+fn expect_node(alloc: Global, node: Node, expected: &str) -> Result<(), Fail> {
+    expect_json(alloc, &Event::Hosts, Answer::Entry(node), expected)
+}
+
+const FILE_BODY: &str =
+    "{\"gid\":0,\"group\":7,\"kind\":\"file\",\"mode\":\"0644\",\"mtime\":0,\"nanos\":5,\"size\":5,\"uid\":0}";
+
+const DIR_BODY: &str =
+    "{\"gid\":2,\"kind\":\"dir\",\"mode\":\"7755\",\"mtime\":-3,\"nanos\":999999999,\"uid\":1}";
+
+const LINK_BODY: &str =
+    "{\"gid\":0,\"kind\":\"link\",\"mode\":\"0777\",\"mtime\":0,\"nanos\":0,\"target\":\"..\\\\\\\"x\\u001f\",\"uid\":0}";
+
+#[test]
+fn files_and_directories_have_their_bodies(rt: HostRuntime) -> Result<(), Fail> {
+    expect_node(rt.alloc(), file_node(), FILE_BODY)?;
+    expect_node(rt.alloc(), dir_node(), DIR_BODY)
+}
+
+#[test]
+fn links_have_their_bodies(rt: HostRuntime) -> Result<(), Fail> {
+    expect_node(rt.alloc(), link_node(rt.alloc())?, LINK_BODY)
 }
 
 #[test]
