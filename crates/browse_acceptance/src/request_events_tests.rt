@@ -180,6 +180,19 @@ fn parts_of(item: &Item) -> (Attr, u32, &[u8]) {
     }
 }
 
+/// Whether what is put is an item with this mode, these nanoseconds and this group, and with the bytes or target `hello`.
+fn is_put(item: &PutItem, wanted: (u16, u32, u32)) -> bool {
+    match item {
+        PutItem::Whole(item) => is_item(item, wanted),
+        PutItem::Staged(_) => false,
+    }
+}
+
+fn is_item(item: &Item, wanted: (u16, u32, u32)) -> bool {
+    let (attr, group, bytes) = parts_of(item);
+    (attr.mode(), attr.nanos(), group) == wanted && bytes == b"hello".as_slice()
+}
+
 fn expect_put(alloc: Global, query: &str, wanted: (u16, u32, u32)) -> Result<(), Fail> {
     let defaults = defaults(alloc)?;
     let head = format!(in alloc;
@@ -189,17 +202,13 @@ fn expect_put(alloc: Global, query: &str, wanted: (u16, u32, u32)) -> Result<(),
         Event::Put {
             dump,
             path: _,
-            item: PutItem::Whole(item),
+            item,
         },
     ) = asked(alloc, head.as_str(), b"hello", &defaults)
     else {
         return Err(Fail::new("no put"));
     };
-    let (attr, group, bytes) = parts_of(&item);
-    if (attr.mode(), attr.nanos(), group) == wanted
-        && bytes == b"hello".as_slice()
-        && dump.epoch == 1
-    {
+    if is_put(&item, wanted) && dump.epoch == 1 {
         return Ok(());
     }
     Err(Fail::new("another item"))
