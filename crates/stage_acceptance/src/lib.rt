@@ -1,0 +1,14 @@
+//! Tests of large contents in the store: stages, puts of stages, readers; with stops and faults at each call. They use only what the
+//! crates show, and stand apart from them, so that each crate is proved once.
+#![tactic(auto)]
+
+#[cfg(test)]
+mod altered;
+#[cfg(test)]
+mod contents;
+#[cfg(test)]
+mod faults;
+#[cfg(test)]
+mod ports;
+#[cfg(test)]
+mod stops;
