@@ -23,10 +23,15 @@ const STEPS: Steps = &[
     (Ask::Commit(0), "0"),
 ];
 
+/// The reply to an ask, in words.
+fn reply_to<P: Port>(alloc: Global, port: &mut P, ask: Ask) -> Result<String, Fail> {
+    let event = event_of(alloc, ask)?;
+    text_of(alloc, port.call(alloc, &event))
+}
+
 /// Whether a fault befalls an ask; else it has this reply.
 fn fails<P: Port>(alloc: Global, port: &mut P, ask: Ask, reply: &str) -> Result<bool, Fail> {
-    let event = event_of(alloc, ask)?;
-    let said = text_of(alloc, port.call(alloc, &event))?;
+    let said = reply_to(alloc, port, ask)?;
     if said.as_str() == "DiskFault" {
         return Ok(true);
     }
