@@ -100,9 +100,10 @@ impl<D: Disk, N: Namer> Store<D, N> {
     /// which halts the store: it then answers `Halted` until a `Reopen` finds which of two offices the disk has.
     ///
     /// A `Reopen` opens the store again, whether it is at work or halted. After Ok it is at work in the next epoch, with the
-    /// office that was durable, or of a halted one the one of its two that the disk has; open dumps and restores are gone.
-    /// After `Broken` and `Memory` it is as it was. After `DiskFault` it is halted, and the disk has the office as it was or in
-    /// its next epoch; so after `Damaged`, which never comes on a disk that a store left.
+    /// office that was durable, or of a halted one the one of its two that the disk has; open dumps, restores, stages and readers
+    /// are gone, and the numbers of stages and readers go on. After `Broken` and `Memory` it is as it was. After `DiskFault` it is
+    /// halted, and the disk has the office as it was or in its next epoch; so after `Damaged`, which never comes on a disk that a
+    /// store left.
     pub fn apply(&mut self, alloc: Global, event: &Event) -> Result<Answer, Refusal>
         ensures serves { Serves self.old event.now result self.new }
         ensures reopens { event.now ≡ Reopen → Reopens self.old.parts result self.new.parts }

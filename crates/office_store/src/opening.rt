@@ -55,7 +55,7 @@ impl<D: Disk, N: Namer> Store<D, N> {
         self.parts.journal.faults()
     }
 
-    /// The disk, as it stands, halted or not. Open dumps and restores are given up.
+    /// The disk, as it stands, halted or not. What is open is given up.
     pub fn close(self) -> D
         ensures { result ≡ self.parts.journal.disk }
     {

@@ -83,8 +83,8 @@ fn put_file<S: Drop>(
 /// the name of the file in the pool that holds them, or are copied to a new one, and the stage ends. After a refusal the stage
 /// is open, and nothing has changed but that a file of the pool may have been staged, which is then to be swept.
 ///
-/// `Damaged` names the file of the stage, which somebody else has changed, with what was found of it. (A stage has no more bytes
-/// than a content may have, so none is too large.)
+/// `Damaged` names the file of the stage, which somebody else has cut or removed. (A stage has no more bytes than a content may have,
+/// so none is too large.)
 pub fn put_staged<D: Disk, N: Namer>(
     parts: &mut StoreParts<D, N>,
     alloc: Global,
