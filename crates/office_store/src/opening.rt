@@ -18,7 +18,7 @@ impl<D: Disk, N: Namer> Store<D, N> {
     ghost use Rattle.store_opening.specs.Recovers.{SaysWhy};
     ghost use Rattle.store_opening.specs.Opens.{IsOf, Opened, Left};
     ghost use Rattle.store_opening.specs.Settles.{ComesToOne, IsStopped};
-    ghost use Rattle.store_opening.specs.Whole.{HasAllOf, SaysSpent};
+    ghost use Rattle.store_opening.specs.Whole.{HasAllOf, HasBuckets, SaysSpent};
 
     /// Opens the store of a disk. A disk without files is that of a store without hosts.
     ///
@@ -27,7 +27,7 @@ impl<D: Disk, N: Namer> Store<D, N> {
     /// it was or in its next epoch. `Foreign` says what was found of the file; it never comes on a disk that a store left.
     ///
     /// Over any disk that tells its files: after Ok they are those of a store, of which memory has what they hold, and the names in
-    /// use are those of the Pool files; `EpochsSpent` comes only over those of a store in its last epoch.
+    /// use are those of the Pool files; the index of the pool is in buckets there; `EpochsSpent` comes only over those of a store in its last epoch.
     pub fn open(alloc: Global, disk: D, namer: N) -> Result<Store<D, N>, (D, OpenRefusal)>
         ensures opened { IfOk result (λ store. (a b : Durable) → IsOf N.digest_of (D.files disk) (D.uncertain disk) a b
             → (o : Opened a b store.parts) × ComesToOne ⟦<D as Disk>⟧ N.digest_of disk store.parts.journal.disk a b o.office) }
@@ -36,6 +36,7 @@ impl<D: Disk, N: Namer> Store<D, N> {
         ensures stops { IfErr result (λ refused. (a b : Durable) → IsOf N.digest_of (D.files disk) (D.uncertain disk) a b
             → IsStopped ⟦<D as Disk>⟧ N.digest_of disk refused.0 a b) }
         ensures whole { IfOk result (λ store. HasAllOf store.parts) }
+        ensures buckets { IfOk result (λ store. HasBuckets store.parts) }
         ensures listed { IfOk result (λ store. AreThePoolFiles (D.files disk) (slots_of store.parts.pool.names)) }
         ensures spent { IfErr result (λ refused. SaysSpent (option_map seen (D.files refused.0)) refused.1) }
         ensures foreign { IfErr result (λ refused. SaysWhy (D.files disk) (D.files refused.0) refused.1) }

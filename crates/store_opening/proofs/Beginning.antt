@@ -11,7 +11,8 @@ use Rattle.intent_journal.specs.declared.journal.Journal.{Journal}
 use Rattle.journal_view.specs.Found.{IsAlikeBut}
 use Rattle.journal_view.specs.View.{uncertain, Quiet, FindsOnly}
 use Rattle.journal_view.specs.ViewLaws.{FindsOnly-each, FindsOnly-then, FindsNow-each, working_finds, Quiet-then}
-use Rattle.pool_changes.specs.Kept.{slots_of}
+use Rattle.pool_changes.specs.Kept.{slots_of, IsSame}
+use Rattle.pool_store.specs.Opened.{IsFresh}
 use Rattle.pool_store.specs.Opening.{AreFresh}
 use Rattle.office_model.specs.Office.{Durable, Names, raised, last_sequence}
 use Rattle.office_model.specs.Step.{IsPicked}
@@ -84,7 +85,7 @@ module _ {D N S : Type 0} {d : DiskGhosts D} (n : NamerGhosts N S) (old : Journa
     }
 
     unfoldable pub begins_raised : (new : Journal D d) (next : Found N S n) (epoch : ℕ) → epoch ≡ found.catalog.epoch → epoch < last_sequence
-        → next.pool ≡ found.pool
+        → IsSame (slots_of found.pool.names) (slots_of next.pool.names)
         → ((office : Durable) (names : Names) → IsHeld mid found.pool found.catalog found.counts office names
         → IsHeld new next.pool next.catalog next.counts (raised office) names)
         → Raised new next a b
@@ -94,7 +95,7 @@ module _ {D N S : Type 0} {d : DiskGhosts D} (n : NamerGhosts N S) (old : Journa
       room = subst (λ (e : ℕ). e < last_sequence) (read ∙ epoch_is) room;
       names = recovers.names;
       held = held recovers.office recovers.names recovers.held;
-      fresh = subst (λ p. AreFresh (slots_of p.names)) (sym same) recovers.fresh;
+      fresh = λ id. subst IsFresh (sym (same id)) (recovers.fresh id);
     }
 
     module _ (new : Journal D d) (looks : (office : Durable) (names : Names) → IsStored mid found.pool found.catalog office names

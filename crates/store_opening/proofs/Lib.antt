@@ -1,6 +1,7 @@
 pub mod Strays
 pub mod UsedNames
 pub mod Recovering
+pub mod Proposing
 pub mod Raising
 pub mod Beginning
 pub mod Reopening
@@ -10,3 +11,5 @@ pub mod Whole
 pub mod Settling
 pub mod Blank
 pub mod HostTotals
+pub mod Unlisting
+pub mod MissingTables

@@ -48,10 +48,10 @@ use Rattle.store_opening.specs.Recovers.{IsHeld, SaysWhy}
 use Rattle.store_opening.specs.Begins.{MayLeave, IsPlain, Raised, Begins}
 use Rattle.store_opening.specs.Reopens.{reply_of, halts, IsPlainReply, first_of, second_of, with_journal, IsOfFound, Reopened, Goes, GoesTo, Reopens}
 use Rattle.store_opening.specs.Opens.{Opened}
-use Rattle.store_opening.specs.Whole.{IsLast, SaysSpent, IsAllOf}
+use Rattle.store_opening.specs.Whole.{IsLast, SaysSpent, IsAllOf, HasBucketsOf}
 use Rattle.store_opening.specs.Settles.{ComesToOne, IsOfOne, Ends, Settles}
 use Rattle.store_opening.proofs.Raising.{stored_may}
-use Rattle.store_opening.proofs.Whole.{whole_parts, listed_parts}
+use Rattle.store_opening.proofs.Whole.{whole_parts, buckets_parts, listed_parts}
 
 -- ---- nothing is open
 
@@ -253,10 +253,10 @@ module _ {D N S : Type 0} {d : DiskGhosts D} {n : NamerGhosts N S} where
       → ((a b : Durable) → MayBe n.digest_of old.journal a b → FindsOnly old.journal journal (MayLeave n.digest_of a b))
       → Counted (d.fault_count old.journal.disk) (d.fault_count journal.disk) (IsErrOf (Ok found) O.DiskFault)
       → ((a b : Durable) → MayBe n.digest_of old.journal a b → Settles a b (Ok found) old.journal.disk journal)
-      → IsAllOf (told journal) found → AreThePoolFiles (d.files old.journal.disk) (slots_of found.pool.names)
+      → IsAllOf (told journal) found → HasBucketsOf (told journal) found → AreThePoolFiles (d.files old.journal.disk) (slots_of found.pool.names)
       → IsOfFound new found old.sessions.stages.next old.sessions.readers.next → new.journal ≡ journal → epoch ≡ found.catalog.epoch
       → Reopens old (Ok (ReopenedAnswer epoch)) new
-  reopens_raised old new journal found epoch begins crash counted settles whole listed is same epoch_is = record {
+  reopens_raised old new journal found epoch begins crash counted settles whole buckets listed is same epoch_is = record {
     goes = λ a b may. raised_running old new journal found a b epoch (begins a b may) is same epoch_is;
     crash = λ a b may. subst (λ (j : Journal D d). FindsOnly old.journal j (MayLeave n.digest_of a b)) (sym same) (crash a b may);
     settles = λ a b may. goes_to_raised old new journal found a b epoch (settles a b may) is same epoch_is;
@@ -265,6 +265,7 @@ module _ {D N S : Type 0} {d : DiskGhosts D} {n : NamerGhosts N S} where
     quiet = λ plain. absurd plain;
     damaged = λ file found e. absurd cc;
     whole = whole_parts new found is journal same whole;
+    buckets = buckets_parts new found is journal same buckets;
     listed = listed_parts new found is (d.files old.journal.disk) listed;
     spent = λ rule e. absurd cc;
     in_kind = refl;
@@ -293,6 +294,7 @@ module _ {D N S : Type 0} {d : DiskGhosts D} {n : NamerGhosts N S} where
         quiet = λ plain. quiet (plain_of refusal plain);
         damaged = λ file found e. says file found (damaged_of refusal file found e);
         whole = tt;
+        buckets = tt;
         listed = tt;
         spent = λ rule e. spent_as (told new.journal) refusal rule spent e;
         in_kind = tt;

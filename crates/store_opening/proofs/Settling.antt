@@ -18,7 +18,7 @@ use Rattle.journal_view.specs.Found.{seen, Finds, FindsAll, CanFind, IsOpenable,
 use Rattle.journal_view.specs.FoundLaws.{itself, rest_told, finds_each, finds_whole, finds_wider}
 use Rattle.journal_view.specs.View.{told, uncertain, Quiet}
 use Rattle.journal_view.specs.ViewLaws.{FindsOnly-each}
-use Rattle.pool_changes.specs.Kept.{slots_of}
+use Rattle.pool_changes.specs.Kept.{slots_of, IsSame}
 use Rattle.pool_changes.specs.Listed.{index_of}
 use Rattle.office_model.specs.Office.{Durable, Names, raised, last_sequence}
 use Rattle.office_model.specs.Step.{IsPicked}
@@ -120,7 +120,7 @@ module _ {D N S : Type 0} {d : DiskGhosts D} (n : NamerGhosts N S) (old : Journa
       ends_between refusal = (recovers.office, recovers.is_one, one_looks)
 
       pub ends_raised : (ready : old.halted ≡ false) (next : Found N S n) (epoch : ℕ) (read : epoch ≡ found.catalog.epoch)
-          (room : epoch < last_sequence) (same : next.pool ≡ found.pool)
+          (room : epoch < last_sequence) (same : IsSame (slots_of found.pool.names) (slots_of next.pool.names))
           → ((office : Durable) (names : Names) → IsHeld mid found.pool found.catalog found.counts office names
           → IsHeld new next.pool next.catalog next.counts (raised office) names)
           → Ends a b (Ok next) old.disk new

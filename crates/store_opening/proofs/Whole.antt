@@ -1,11 +1,12 @@
 -- What is whole stays so.
 --     whole_of      what was read of files is whole
 --     whole_raised      so it is in its next epoch
+--     buckets_of      and its index is in buckets
 --     whole_parts, listed_parts      and in the parts of a store
 --     keeps_data      an opening of a journal leaves contents and stages
-use Rattle.std.specs.Prelude.{◌⊎◌, ◌&&◌, ◌||◌, not, is_some, option_map, length}
+use Rattle.std.specs.Prelude.{◌⊎◌, ◌&&◌, ◌||◌, ◌++◌, not, is_some, option_map, length}
 use Rattle.std.proofs.Common.{◌≡◌, ℕ, ◌+◌, ◌≤◌, Bool, true, false, List, [], ◌∷◌, Option, None, Some, refl, sym, ap, ◌∙◌, subst, inl, inr}
-use Rattle.std.proofs.lemmas.Bool.{true≢false}
+use Rattle.std.proofs.lemmas.Bool.{true≢false, false≢true}
 use Rattle.disk_trait.specs.declared.ids.PoolId.{PoolId}
 use Rattle.disk_trait.specs.declared.ids.FileId.{FileId}
 use Rattle.disk_trait.specs.declared.ids.FileId.TheVariants as F
@@ -21,17 +22,21 @@ use Rattle.intent_journal.specs.ChangesLaws.{either}
 use Rattle.journal_view.specs.Found.{seen}
 use Rattle.journal_view.specs.FoundLaws.{told_raw}
 use Rattle.journal_view.specs.View.{told}
+use Rattle.backup_index.specs.Index.{Index}
+use Rattle.pool_index.specs.declared.item.IndexItem.{IndexItem}
+use Rattle.pool_index.specs.Items.{byte_of, item_at}
+use Rattle.pool_index.specs.Layout.{bucket_of}
+use Rattle.pool_index.specs.Index.{Index as PoolListing, TellsIn, TellsBuckets}
 use Rattle.pool_changes.specs.Slots.{Slots}
-use Rattle.pool_changes.specs.Kept.{slots_of}
+use Rattle.pool_changes.specs.Kept.{slots_of, IsSame}
 use Rattle.pool_changes.specs.Listed.{index_of}
 use Rattle.pool_store.specs.declared.pool.Pool.{Pool}
 use Rattle.pool_store.specs.Opened.{Opens}
 use Rattle.pool_store.specs.Opening.{AreThePoolFiles}
 use Rattle.ref_counts.specs.Numbers.{Items}
 use Rattle.host_counts.specs.Held.{TellsCounts, AreTold}
-use Rattle.office_catalog.specs.declared.edits.CatalogChange.{CatalogChange}
 use Rattle.office_catalog.specs.Known.{Known, with_epoch}
-use Rattle.office_catalog.specs.Changed.{after, Leads, Proposes}
+use Rattle.office_catalog.specs.Changed.{after}
 use Rattle.office_catalog.specs.Held.{HoldsCatalog}
 use Rattle.office_changes.specs.ChangeLaws.{is_of_index}
 use Rattle.office_files.specs.Owners.{owner_of}
@@ -44,10 +49,14 @@ use Rattle.store_parts.specs.WriteLaws.{tells_in_kept}
 use Rattle.store_opening.specs.declared.found.Found.{Found}
 use Rattle.store_opening.specs.declared.fault.OpenRefusal.{OpenRefusal}
 use Rattle.store_opening.specs.declared.fault.OpenRefusal.TheVariants.{EpochsSpent, DiskFault, Memory}
+use Rattle.store_opening.specs.declared.next.NextEpoch.{NextEpoch}
+use Rattle.store_opening.specs.Next.{IsNext}
+use Rattle.store_opening.specs.Unlisted.{AreAllListed}
+use Rattle.store_opening.specs.Tables.{HasTables}
 use Rattle.store_opening.specs.Reopens.{IsOfFound}
 use Rattle.store_opening.specs.Strays.{is_known, is_stray, HasNoStray}
-use Rattle.store_opening.specs.Whole.{IsWhole, IsLast, SaysSpent, KeepsData, IsAllOf, HasAllOf}
-use Rattle.store_opening.proofs.Raising.{head_only, content_apart, index_apart, bucket_apart, head_there}
+use Rattle.store_opening.specs.Whole.{IsWhole, IsInBuckets, IsLast, SaysSpent, KeepsData, IsAllOf, HasBucketsOf, HasAllOf, HasBuckets}
+use Rattle.store_opening.proofs.Raising.{content_apart, head_there, at_neither, both_tells, both_holds}
 
 -- ---- what was read
 
@@ -62,16 +71,23 @@ opens_seen in_one_file slots raw all same opens = record {
     at : (file : FileId) → seen raw file ≡ all file
     at file = ap (λ (f : Files). f file) same
 
+pub opened_told : (files : Option Files) (in_one_file : Bool) (slots : Slots) (all : Files) → option_map seen files ≡ Some all
+    → ((raw : Files) → files ≡ Some raw → Opens in_one_file slots raw) → Opens in_one_file slots all
+opened_told files in_one_file slots all is opens =
+    let raw = told_raw files all is in opens_seen in_one_file slots raw.0 all raw.2 (opens raw.0 raw.1)
+
 pub whole_of : (files : Option Files) (in_one_file : Bool) (slots : Slots) (catalog : Known) (counts : List Items) (all : Files)
     → option_map seen files ≡ Some all → ((raw : Files) → files ≡ Some raw → Opens in_one_file slots raw) → HoldsCatalog all catalog
-    → AreTold all (length catalog.hosts) counts → HasNoStray catalog all → IsWhole in_one_file slots catalog counts all
-whole_of files in_one_file slots catalog counts all is opens holds counted no_stray =
-    let raw = told_raw files all is in record {
-      pool = opens_seen in_one_file slots raw.0 all raw.2 (opens raw.0 raw.1);
-      holds = holds;
-      counted = counted;
-      no_stray = no_stray;
-    }
+    → AreTold all (length catalog.hosts) counts → HasNoStray catalog all → AreAllListed (index_of slots) counts
+    → HasTables catalog all → IsWhole in_one_file slots catalog counts all
+whole_of files in_one_file slots catalog counts all is opens holds counted no_stray listed tables = record {
+  pool = opened_told files in_one_file slots all is opens;
+  holds = holds;
+  counted = counted;
+  no_stray = no_stray;
+  listed = listed;
+  tables = tables;
+}
 
 -- ---- the next epoch
 
@@ -79,45 +95,82 @@ counts_apart : (host : ℕ) → is_same_file (F.Counts host) F.Head ≡ false
 unfolding is_same_file
 counts_apart host = refl
 
+table_apart : (host number : ℕ) → is_same_file (F.Table host number) F.Head ≡ false
+unfolding is_same_file
+table_apart host number = refl
+
 -- where Head is there, no fewer files are called for
 headed_calm : (known index headed : Bool) → (not known || (index && not headed)) ≡ false → (not known || (index && not true)) ≡ false
 headed_calm true true headed e = refl
 headed_calm true false headed e = refl
 headed_calm false index headed e = absurd (true≢false e)
 
-module _ (catalog : Known) (changes : List Change) (all : Files)
-    (leads : Leads catalog (with_epoch catalog (catalog.epoch + 1)) (F.Head ∷ []) changes) (holds : HoldsCatalog all catalog) where
-  other_same : (file : FileId) → is_same_file file F.Head ≡ false → applied changes all file ≡ all file
-  other_same file other = head_only changes all file leads.named other
+-- a file of the index is no stray beside a head
+index_calm : (hosts : List Index) (file : FileId) → is_of_index file ≡ true → is_stray hosts true file ≡ false
+index_calm hosts F.Head e = absurd (false≢true e)
+index_calm hosts F.Intent e = absurd (false≢true e)
+index_calm hosts F.Gate e = absurd (false≢true e)
+index_calm hosts (F.Host host) e = absurd (false≢true e)
+index_calm hosts (F.Table host number) e = absurd (false≢true e)
+index_calm hosts (F.Counts host) e = absurd (false≢true e)
+index_calm hosts F.PoolIndex e = refl
+index_calm hosts (F.PoolBucket byte) e = refl
+index_calm hosts (F.Partial host) e = absurd (false≢true e)
+index_calm hosts (F.Pool id) e = absurd (false≢true e)
+index_calm hosts (F.Stage number) e = absurd (false≢true e)
 
-  head_is_there : is_some (applied changes all F.Head) ≡ true
-  head_is_there =
-      head_there catalog.epoch _ (applied changes all F.Head)
-      (head_of_catalog (applied changes all) (with_epoch catalog (catalog.epoch + 1)) (leads.leads all holds))
+module _ {N S : Type 0} {n : NamerGhosts N S} (pool : Pool N S n) (catalog : Known) (next : NextEpoch) (is : IsNext pool catalog next)
+    (all : Files) (holds : HoldsCatalog all catalog) where
+  abbrev changes : List Change
+  changes = is.pooled ++ next.catalog.changes
 
-  calm_raised : HasNoStray catalog all → HasNoStray (with_epoch catalog (catalog.epoch + 1)) (applied changes all)
+  abbrev listing : PoolListing
+  listing = index_of (slots_of pool.names)
+
+  abbrev image : Files
+  image = applied changes all
+
+  other_same : (file : FileId) → is_of_index file ≡ false → is_same_file file F.Head ≡ false → image file ≡ all file
+  other_same file out other =
+      at_neither pool.in_one_file listing is.pooled next.catalog.changes is.leads is.proposes.leads.named all file out other
+
+  next_holds : HoldsCatalog image (with_epoch catalog (catalog.epoch + 1))
+  next_holds =
+      both_holds pool.in_one_file listing is.pooled next.catalog.changes is.leads is.proposes.leads.named all
+      (with_epoch catalog (catalog.epoch + 1)) (is.proposes.leads.leads all holds)
+
+  head_is_there : is_some (image F.Head) ≡ true
+  head_is_there = head_there catalog.epoch _ (image F.Head) (head_of_catalog image (with_epoch catalog (catalog.epoch + 1)) next_holds)
+
+  calm_raised : HasNoStray catalog all → HasNoStray (with_epoch catalog (catalog.epoch + 1)) image
   calm_raised no_stray = λ file there.
-      subst (λ (b : Bool). is_stray catalog.hosts b file ≡ false) (sym head_is_there) (elim (either (is_same_file file F.Head)) [
-        | inl one ↦ subst (λ (f : FileId). is_stray catalog.hosts true f ≡ false) (sym (same_file file F.Head one)) refl
-        | inr other ↦ headed_calm (is_known catalog.hosts (owner_of file)) (is_of_index file) (is_some (all F.Head))
-            (no_stray file (ap is_some (sym (other_same file other)) ∙ there))
+      subst (λ (b : Bool). is_stray catalog.hosts b file ≡ false) (sym head_is_there) (elim (either (is_of_index file)) [
+        | inl index ↦ index_calm catalog.hosts file index
+        | inr out ↦ elim (either (is_same_file file F.Head)) [
+          | inl one ↦ subst (λ (f : FileId). is_stray catalog.hosts true f ≡ false) (sym (same_file file F.Head one)) refl
+          | inr other ↦ headed_calm (is_known catalog.hosts (owner_of file)) (is_of_index file) (is_some (all F.Head))
+              (no_stray file (ap is_some (sym (other_same file out other)) ∙ there))
+        ]
       ])
 
-  next_whole : (in_one_file : Bool) (slots : Slots) (counts : List Items) → IsWhole in_one_file slots catalog counts all
-      → IsWhole in_one_file slots (with_epoch catalog (catalog.epoch + 1)) counts (applied changes all)
-  next_whole in_one_file slots counts whole = record {
+  next_whole : (counts : List Items) → IsWhole pool.in_one_file (slots_of pool.names) catalog counts all
+      → IsWhole false (slots_of pool.names) (with_epoch catalog (catalog.epoch + 1)) counts image
+  next_whole counts whole = record {
     pool = record {
-      tells = tells_in_kept in_one_file (index_of slots) all (applied changes all) (other_same F.PoolIndex index_apart)
-          (λ byte. other_same (F.PoolBucket byte) (bucket_apart byte)) whole.pool.tells;
-      used = λ id. whole.pool.used id ∙ ap is_some (sym (other_same (F.Pool id) (content_apart id)));
+      tells = both_tells pool.in_one_file listing is.pooled next.catalog.changes is.leads is.proposes.leads.named all whole.pool.tells;
+      used = λ id. whole.pool.used id ∙ ap is_some (sym (other_same (F.Pool id) refl (content_apart id)));
     };
-    holds = leads.leads all holds;
+    holds = next_holds;
     counted = record {
       count = whole.counted.count;
       each = λ host items e.
-          subst (TellsCounts host items) (sym (other_same (F.Counts host) (counts_apart host))) (whole.counted.each host items e);
+          subst (TellsCounts host items) (sym (other_same (F.Counts host) refl (counts_apart host))) (whole.counted.each host items e);
     };
     no_stray = calm_raised whole.no_stray;
+    listed = whole.listed;
+    tables = λ host index at i line is_line.
+        ap is_some (other_same (F.Table index.host line.number) refl (table_apart index.host line.number))
+        ∙ whole.tables host index at i line is_line;
   }
 
 mapped_some : (f : Files → Files) (files : Option Files) (all : Files) → option_map f files ≡ Some all
@@ -125,20 +178,46 @@ mapped_some : (f : Files → Files) (files : Option Files) (all : Files) → opt
 mapped_some f None all e = absurd cc
 mapped_some f (Some before) all e = (before, refl, cc)
 
-pub whole_raised : {D N S : Type 0} {d : DiskGhosts D} {n : NamerGhosts N S} (old new : Journal D d) (pool : Pool N S n) (catalog : Known)
-    (counts : List Items) (change : CatalogChange) (changes : List Change)
-    → Proposes catalog (with_epoch catalog (catalog.epoch + 1)) (F.Head ∷ []) change → changes ≡ change.changes → (known : Known)
-    → known ≡ after change catalog → told new ≡ option_map (applied changes) (told old)
+pub whole_raised : {D N S : Type 0} {d : DiskGhosts D} {n : NamerGhosts N S} (old new : Journal D d) (pool after_pool : Pool N S n)
+    (catalog : Known) (counts after_counts : List Items) (next : NextEpoch) → IsNext pool catalog next → (known : Known)
+    → known ≡ after next.catalog catalog → after_counts ≡ counts → IsSame (slots_of pool.names) (slots_of after_pool.names) → after_pool.in_one_file ≡ false
+    → told new ≡ option_map (applied next.changes) (told old)
     → ((all : Files) → told old ≡ Some all → IsWhole pool.in_one_file (slots_of pool.names) catalog counts all)
-    → (all : Files) → told new ≡ Some all → IsWhole pool.in_one_file (slots_of pool.names) known counts all
-whole_raised old new pool catalog counts change changes proposes are known known_is done whole = λ all is.
-    let before = mapped_some (applied changes) (told old) all (sym done ∙ is) in
-    let leads = subst (Leads catalog (with_epoch catalog (catalog.epoch + 1)) (F.Head ∷ [])) (sym are) proposes.leads in
+    → (all : Files) → told new ≡ Some all → IsWhole after_pool.in_one_file (slots_of after_pool.names) known after_counts all
+whole_raised old new pool after_pool catalog counts after_counts next is known known_is counts_same same form done whole = λ all told_is.
+    let slots_same : slots_of pool.names ≡ slots_of after_pool.names = λ i id. sym (same id) i in
+    let made : told new ≡ option_map (applied (is.pooled ++ next.catalog.changes)) (told old) =
+    done ∙ ap (λ (cs : List Change). option_map (applied cs) (told old)) is.changes_are in
+    let before = mapped_some (applied (is.pooled ++ next.catalog.changes)) (told old) all (sym made ∙ told_is) in
     let at = whole before.0 before.1 in
-    subst (λ (files : Files). IsWhole pool.in_one_file (slots_of pool.names) known counts files) before.2
-    (subst (λ (k : Known). IsWhole pool.in_one_file (slots_of pool.names) k counts (applied changes before.0))
-    (sym (known_is ∙ proposes.after_is))
-    (next_whole catalog changes before.0 leads at.holds pool.in_one_file (slots_of pool.names) counts at))
+    subst (λ (cs : List Items). IsWhole after_pool.in_one_file (slots_of after_pool.names) known cs all) (sym counts_same)
+    (subst (λ (files : Files). IsWhole after_pool.in_one_file (slots_of after_pool.names) known counts files) before.2
+    (subst (λ (b : Bool). IsWhole b (slots_of after_pool.names) known counts (applied (is.pooled ++ next.catalog.changes) before.0))
+    (sym form)
+    (subst (λ (s : Slots). IsWhole false s known counts (applied (is.pooled ++ next.catalog.changes) before.0)) slots_same
+    (subst (λ (k : Known). IsWhole false (slots_of pool.names) k counts (applied (is.pooled ++ next.catalog.changes) before.0))
+    (sym (known_is ∙ is.proposes.after_is))
+    (next_whole pool catalog next is before.0 at.holds counts at)))))
+
+-- ---- buckets
+
+bucket_there : (byte : ℕ) (items : List IndexItem) (id : PoolId) → is_some (item_at items id) ≡ true → is_some (bucket_of byte items) ≡ true
+bucket_there byte [] id listed = absurd (false≢true listed)
+bucket_there byte (item ∷ items) id listed = refl
+
+pub in_buckets : (slots : Slots) (all : Files) → TellsBuckets (index_of slots) all → IsInBuckets slots all
+in_buckets slots all tells = record {
+  none = tells.none;
+  each = λ id listed.
+      let byte = tells.each (byte_of id) (tells.within id listed) in
+      ap is_some byte.is ∙ bucket_there (byte_of id) byte.items id (ap is_some (sym (byte.each id refl)) ∙ listed);
+}
+
+pub buckets_of : {N S : Type 0} {n : NamerGhosts N S} (files : Option Files) (found : Found N S n) → found.pool.in_one_file ≡ false
+    → IsAllOf files found → HasBucketsOf files found
+buckets_of files found form whole = λ all is.
+    in_buckets (slots_of found.pool.names) all
+    (subst (λ (b : Bool). TellsIn b (index_of (slots_of found.pool.names)) all) form (whole all is).pool.tells)
 
 -- ---- the last epoch
 
@@ -163,6 +242,11 @@ module _ {D N S : Type 0} {d : DiskGhosts D} {n : NamerGhosts N S} {next_stage n
       (subst (λ (k : Known). IsWhole found.pool.in_one_file (slots_of found.pool.names) k parts.counts all) (sym is.catalog_is)
       (subst (λ (c : List Items). IsWhole found.pool.in_one_file (slots_of found.pool.names) found.catalog c all) (sym is.counts_are)
       (whole all (ap (λ (j : Journal D d). told j) (sym same) ∙ told_is))))
+
+  pub buckets_parts : (journal : Journal D d) → parts.journal ≡ journal → HasBucketsOf (told journal) found → HasBuckets parts
+  buckets_parts journal same has = λ all told_is.
+      subst (λ (p : Pool N S n). IsInBuckets (slots_of p.names) all) (sym is.pool_is)
+      (has all (ap (λ (j : Journal D d). told j) (sym same) ∙ told_is))
 
   pub listed_parts : (files : Option Files) → AreThePoolFiles files (slots_of found.pool.names)
       → AreThePoolFiles files (slots_of parts.pool.names)

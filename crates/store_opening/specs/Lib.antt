@@ -6,3 +6,6 @@ pub mod Recovers
 pub mod Begins
 pub mod Reopens
 pub mod Opens
+pub mod Next
+pub mod Unlisted
+pub mod Tables

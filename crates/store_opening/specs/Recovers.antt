@@ -30,6 +30,8 @@ use Rattle.store_opening.specs.declared.found.Found.{Found}
 use Rattle.store_opening.specs.declared.fault.OpenRefusal.{OpenRefusal}
 use Rattle.store_opening.specs.declared.fault.OpenRefusal.TheVariants.{Foreign}
 use Rattle.store_opening.specs.Strays.{IsStray}
+use Rattle.store_opening.specs.Unlisted.{IsUnlisting}
+use Rattle.store_opening.specs.Tables.{IsMissingTable}
 
 -- the file of the counts of a host that Head names, of which this was found, holds none
 pub record IsWithoutCounts (files : Files) (file : FileId) (found : Option (List ℕ)) : Type 0 where
@@ -37,12 +39,16 @@ pub record IsWithoutCounts (files : Files) (file : FileId) (found : Option (List
   pub holds : HoldsCatalog files known
   pub foreign : IsForeignToCounts (Some files) (length known.hosts) file found
 
--- the file doesn't belong to the pool, to the catalog, to the counts, or to any
+-- the file doesn't belong to the pool, to the catalog, to the counts, or to any; or it doesn't list what the counts have, or is a table
+-- that is missing
 abbrev pub IsForeign : (told : Option Files) → FileId → Option (List ℕ) → Type 0
 IsForeign told file found =
     IsForeignToPool told file found
     ⊎ (IsForeignToCatalog told file found
-    ⊎ (((all : Files) → told ≡ Some all → IsWithoutCounts all file found) ⊎ ((all : Files) → told ≡ Some all → IsStray all file found)))
+    ⊎ (((all : Files) → told ≡ Some all → IsWithoutCounts all file found)
+    ⊎ (((all : Files) → told ≡ Some all → IsStray all file found)
+    ⊎ (((all : Files) → told ≡ Some all → IsUnlisting all file found)
+    ⊎ ((all : Files) → told ≡ Some all → IsMissingTable all file found)))))
 
 -- what a refusal says of the files
 abbrev pub SaysForeign : (told : Option Files) → OpenRefusal → Type 0

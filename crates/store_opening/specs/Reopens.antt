@@ -34,7 +34,7 @@ use Rattle.store_opening.specs.declared.found.Found.{Found}
 use Rattle.store_opening.specs.Recovers.{IsForeignTo}
 use Rattle.store_opening.specs.Begins.{MayLeave, IsSpent, IsBetween}
 use Rattle.store_opening.specs.Settles.{ComesToOne, IsStopped}
-use Rattle.store_opening.specs.Whole.{IsLast, HasAllOf}
+use Rattle.store_opening.specs.Whole.{IsLast, HasAllOf, HasBuckets}
 
 -- what a store answers to a reopening that was refused
 abbrev pub reply_of : OpenRefusal → Refusal
@@ -121,6 +121,7 @@ module _ {D N S : Type 0} {d : DiskGhosts D} {n : NamerGhosts N S} where
         → IsForeignTo (d.files old.journal.disk) (d.files new.journal.disk) file found
     -- over any disk that tells its files
     pub whole : OnOk reply (HasAllOf new)
+    pub buckets : OnOk reply (HasBuckets new)
     pub listed : OnOk reply (AreThePoolFiles (d.files old.journal.disk) (slots_of new.pool.names))
     pub spent : (rule : BrokenRule) → reply ≡ Err (Broken rule)
         → (rule ≡ NumbersSpent) × ((all : Files) → told new.journal ≡ Some all → IsLast all)

@@ -20,7 +20,7 @@ ghost use Rattle.store_parts.specs.Runs.{Steps};
 ghost use Rattle.store_opening.specs.Recovers.{SaysWhy};
 ghost use Rattle.store_opening.specs.Begins.{MayLeave, IsPlain, Begins};
 ghost use Rattle.store_opening.specs.Settles.{IsSynced, MayBeSynced, Settles};
-ghost use Rattle.store_opening.specs.Whole.{KeepsData, IsAllOf, SaysSpent};
+ghost use Rattle.store_opening.specs.Whole.{KeepsData, IsAllOf, HasBucketsOf, SaysSpent};
 ghost use Rattle.open_sessions.specs.Opened.{AreNone, AreNumbers};
 ghost use Rattle.store_opening.specs.Reopens.{Reopens, IsOfFound, reply_of, halts, first_of, second_of};
 
@@ -80,6 +80,7 @@ fn begin_again<D: Disk, N: Namer>(
     ensures quiet { IfErr result (λ refusal. IsPlain refusal → journal.old.halted ≡ false → is_some (told journal.old) ≡ true → Quiet journal.old journal.new) }
     ensures foreign { IfErr result (SaysWhy (D.files journal.old.disk) (D.files journal.new.disk)) }
     ensures whole { IfOk result (IsAllOf (told journal.new)) }
+    ensures buckets { IfOk result (HasBucketsOf (told journal.new)) }
     ensures listed { IfOk result (λ found. AreThePoolFiles (D.files journal.old.disk) (slots_of found.pool.names)) }
     ensures spent { IfErr result (SaysSpent (told journal.new)) }
     ensures counted { Counted (D.fault_count journal.old.disk) (D.fault_count journal.new.disk) (IsErrOf result OpenRefusal.DiskFault) }

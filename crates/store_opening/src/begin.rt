@@ -3,26 +3,27 @@
 ghost use Rattle.std.specs.Prelude.{◌≡◌, ◌<◌, false, List, ℕ, Option, IfOk, IfErr, OnOk, Err, IsErrOf};
 ghost use Rattle.fault_counts.specs.Counts.{Counted};
 ghost use Rattle.journal_view.specs.View.{told, Quiet, FindsOnly};
-ghost use Rattle.pool_changes.specs.Kept.{slots_of};
+ghost use Rattle.pool_changes.specs.Kept.{slots_of, IsSame};
 ghost use Rattle.pool_store.specs.Opening.{AreThePoolFiles};
 ghost use Rattle.office_model.specs.Office.{Durable, Names, raised};
 ghost use Rattle.store_parts.specs.Held.{IsStored};
 ghost use Rattle.store_opening.specs.Recovers.{Holds, IsHeld, Looks, SaysForeign};
 ghost use Rattle.store_opening.specs.Begins.{MayLeave, Begins};
 ghost use Rattle.store_opening.specs.Settles.{Ends};
-ghost use Rattle.store_opening.specs.Whole.{IsAllOf, SaysSpent};
+ghost use Rattle.store_opening.specs.Whole.{IsAllOf, HasBucketsOf, SaysSpent};
 
 use crate::fault::{OpenRefusal, refusal_of};
 use crate::found::Found;
+use crate::next::{accept, propose};
 use crate::recover::recover;
 use disk_trait::Disk;
 use intent_journal::{Journal, JournalFault};
 use pool_name::Namer;
 use std::alloc::{AllocError, Global};
 
-/// Makes durable that the office is in its next epoch.
+/// Makes durable that the office is in its next epoch, and the index of its pool in buckets, by one commit.
 ///
-/// After Ok what was found is of that epoch. After `Memory` nothing was written; after `Disk` the disk has the office as it
+/// After Ok what was found is of that epoch, and its index in buckets. After `Memory` nothing was written; after `Disk` the disk has the office as it
 /// was, or in its next epoch.
 fn raise<D: Disk, N: Namer>(
     alloc: Global,
@@ -34,20 +35,21 @@ fn raise<D: Disk, N: Namer>(
     ensures ok { OnOk result ((office : Durable) (names : Names) → IsHeld journal.old found.old.pool found.old.catalog found.old.counts office names
         → IsHeld journal.new found.new.pool found.new.catalog found.new.counts (raised office) names) }
     ensures whole { OnOk result (IsAllOf (told journal.old) found.old → IsAllOf (told journal.new) found.new) }
-    ensures pool { found.new.pool ≡ found.old.pool }
+    ensures names { IsSame (slots_of found.old.pool.names) (slots_of found.new.pool.names) }
+    ensures buckets { OnOk result (found.new.pool.in_one_file ≡ false) }
     ensures looks { (office : Durable) (names : Names) → IsStored journal.old found.old.pool found.old.catalog office names
         → Looks N.digest_of journal.old journal.new office (raised office) }
     ensures memory { result ≡ Err JournalFault.Memory → Quiet journal.old journal.new }
     ensures running { result ≡ Err JournalFault.Halted → ⊥ }
     ensures counted { Counted (D.fault_count journal.old.disk) (D.fault_count journal.new.disk) (result ≡ Err JournalFault.Disk) }
 {
-    let change = match found.catalog.propose_epoch(alloc) {
-        Ok(change) => change,
+    let next = match propose(alloc, found) {
+        Ok(next) => next,
         Err(AllocError) => return Err(JournalFault::Memory),
     };
-    match journal_view::commit(journal, alloc, change.changes()) {
+    match journal_view::commit(journal, alloc, &next.changes) {
         Ok(()) => {
-            found.catalog.accept(change);
+            accept(found, next);
             Ok(())
         }
         Err(fault) => Err(fault),
@@ -70,6 +72,7 @@ pub(crate) fn begin<D: Disk, N: Namer>(
     ensures quiet { IfErr result (λ refusal. (refusal ≡ OpenRefusal.DiskFault → ⊥) → Quiet journal.old journal.new) }
     ensures foreign { IfErr result (SaysForeign (told journal.old)) }
     ensures whole { IfOk result (IsAllOf (told journal.new)) }
+    ensures buckets { IfOk result (HasBucketsOf (told journal.new)) }
     ensures listed { IfOk result (λ found. AreThePoolFiles (D.files journal.old.disk) (slots_of found.pool.names)) }
     ensures spent { IfErr result (SaysSpent (told journal.new)) }
     ensures counted { Counted (D.fault_count journal.old.disk) (D.fault_count journal.new.disk) (IsErrOf result OpenRefusal.DiskFault) }

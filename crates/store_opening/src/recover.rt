@@ -21,6 +21,8 @@ ghost use Rattle.store_opening.specs.Whole.{IsAllOf};
 use crate::fault::{OpenRefusal, catalog_refusal, counts_refusal, pool_refusal};
 use crate::found::Found;
 use crate::stray::refuse_strays;
+use crate::tables::refuse_gaps;
+use crate::unlisted::refuse_unlisted;
 use disk_trait::{Disk, FileId};
 use host_counts::HostCounts;
 use intent_journal::Journal;
@@ -153,8 +155,8 @@ fn read_parts<D: Disk, N: Namer>(
 
 /// Finds the office that the files of a journal stand for. Nothing is written.
 ///
-/// `Foreign` comes where a file is outside its layout, is called for and absent, or isn't called for; never where the
-/// files stand for an office.
+/// `Foreign` comes if a file is outside its layout, is called for and absent, or isn't called for, and if a file of the index
+/// doesn't list a content that counts have; never if the files stand for an office.
 pub(crate) fn recover<D: Disk, N: Namer>(
     alloc: Global,
     journal: &mut Journal<D>,
@@ -175,7 +177,15 @@ pub(crate) fn recover<D: Disk, N: Namer>(
         Ok(found) => found,
         Err(refusal) => return Err(refusal),
     };
-    match refuse_strays(alloc, journal, &found.catalog) {
+    let files = match refuse_strays(alloc, journal, &found.catalog) {
+        Ok(files) => files,
+        Err(refusal) => return Err(refusal),
+    };
+    match refuse_gaps(alloc, &files, &found.catalog) {
+        Ok(()) => {}
+        Err(refusal) => return Err(refusal),
+    }
+    match refuse_unlisted(alloc, journal, &files, &found) {
         Ok(()) => Ok(found),
         Err(refusal) => Err(refusal),
     }

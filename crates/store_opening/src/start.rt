@@ -16,7 +16,7 @@ ghost use Rattle.store_opening.specs.Recovers.{Holds, SaysForeign, SaysWhy};
 ghost use Rattle.store_opening.specs.Reopens.{IsOfFound};
 ghost use Rattle.store_opening.specs.Opens.{IsOf, Opened, Left};
 ghost use Rattle.store_opening.specs.Settles.{IsSynced, MayBeSynced, ComesToOne, IsStopped, IsOfOne};
-ghost use Rattle.store_opening.specs.Whole.{KeepsData, HasAllOf, SaysSpent};
+ghost use Rattle.store_opening.specs.Whole.{KeepsData, HasAllOf, HasBuckets, SaysSpent};
 
 use crate::begin::begin;
 use crate::fault::{OpenRefusal, open_refusal};
@@ -90,6 +90,7 @@ fn start<D: Disk, N: Namer>(
         → Left N.digest_of (D.files refused.0) (D.uncertain refused.0) a b refused.1) }
     ensures foreign { IfErr result (λ refused. SaysForeign (option_map seen (D.files refused.0)) refused.1) }
     ensures whole { IfOk result HasAllOf }
+    ensures buckets { IfOk result HasBuckets }
     ensures listed { IfOk result (λ parts. AreThePoolFiles (D.files journal.disk) (slots_of parts.pool.names)) }
     ensures spent { IfErr result (λ refused. SaysSpent (option_map seen (D.files refused.0)) refused.1) }
     ensures counted { IfOk result (λ parts. D.fault_count parts.journal.disk ≡ D.fault_count journal.disk) }
@@ -109,7 +110,7 @@ fn start<D: Disk, N: Namer>(
 /// was or in its next epoch. `Foreign` says what was found of the file; it never comes on a disk that a store left.
 ///
 /// Over any disk that tells its files: after Ok they are those of a store, of which memory has what they hold, and the names in use
-/// are those of the Pool files; `EpochsSpent` comes only over those of a store in its last epoch.
+/// are those of the Pool files; the index of the pool is in buckets there; `EpochsSpent` comes only over those of a store in its last epoch.
 pub fn open<D: Disk, N: Namer>(
     alloc: Global,
     disk: D,
@@ -123,6 +124,7 @@ pub fn open<D: Disk, N: Namer>(
         → IsStopped ⟦<D as Disk>⟧ N.digest_of disk refused.0 a b) }
     ensures foreign { IfErr result (λ refused. SaysWhy (D.files disk) (D.files refused.0) refused.1) }
     ensures whole { IfOk result HasAllOf }
+    ensures buckets { IfOk result HasBuckets }
     ensures listed { IfOk result (λ parts. AreThePoolFiles (D.files disk) (slots_of parts.pool.names)) }
     ensures spent { IfErr result (λ refused. SaysSpent (option_map seen (D.files refused.0)) refused.1) }
     ensures counted { IfOk result (λ parts. D.fault_count parts.journal.disk ≡ D.fault_count disk) }

@@ -1,17 +1,17 @@
 //! Files that neither a head nor the index of a host calls for.
 
-ghost use Rattle.std.specs.Prelude.{◌≡◌, true, false, List, ℕ, Option, Some, slice_get, IfErr, OnOk, IsErrOf};
+ghost use Rattle.std.specs.Prelude.{◌≡◌, true, false, List, ℕ, Option, Some, slice_get, IfOk, IfErr, OnOk, IsErrOf};
 ghost use Rattle.fault_counts.specs.Counts.{Counted};
 ghost use Rattle.disk_trait.specs.declared.ids.FileId.{FileId as File};
 ghost use Rattle.disk_trait.specs.Files.{Files};
-ghost use Rattle.journal_view.specs.Found.{is_seen};
+ghost use Rattle.journal_view.specs.Found.{is_seen, ListsSeen};
 ghost use Rattle.journal_view.specs.View.{told, Quiet};
 ghost use Rattle.office_catalog.specs.Held.{HoldsCatalog};
 ghost use Rattle.office_changes.specs.ChangeLaws.{is_of_index};
 ghost use Rattle.store_opening.specs.Strays.{is_known, has_line, is_stray, first_stray, HasNoStray, IsNamedByByte, IsStray};
 
 use crate::fault::{OpenRefusal, refusal_of};
-use disk_trait::{Disk, FileId};
+use disk_trait::{Disk, FileId, FileList};
 use intent_journal::Journal;
 use office_catalog::Catalog;
 use office_files::{Owner, find_owner};
@@ -79,7 +79,11 @@ fn is_named_by_byte(file: FileId)
 }
 
 /// What a stray file is refused with: what was found of it, or that it couldn't be read.
-fn refusal_with<D: Disk>(alloc: Global, journal: &mut Journal<D>, file: FileId) -> OpenRefusal
+pub(crate) fn refusal_with<D: Disk>(
+    alloc: Global,
+    journal: &mut Journal<D>,
+    file: FileId,
+) -> OpenRefusal
     requires ready { journal.old.halted ≡ false }
     requires seen { is_seen file ≡ true }
     ensures foreign { (other : File) (found : Option (List ℕ)) → result ≡ OpenRefusal.Foreign other found → (other ≡ file) × ((all : Files) → told journal.old ≡ Some all → found ≡ all file) }
@@ -94,14 +98,15 @@ fn refusal_with<D: Disk>(alloc: Global, journal: &mut Journal<D>, file: FileId) 
 }
 
 /// Refuses a file that is there though the catalog doesn't call for it, or that is of a pool without a head, with what was
-/// found of it. Nothing is written.
+/// found of it; else the files that are there. Nothing is written.
 pub(crate) fn refuse_strays<D: Disk>(
     alloc: Global,
     journal: &mut Journal<D>,
     catalog: &Catalog,
-) -> Result<(), OpenRefusal>
+) -> Result<FileList, OpenRefusal>
     requires { journal.old.halted ≡ false }
     ensures none { OnOk result ((all : Files) → told journal.old ≡ Some all → HasNoStray catalog.now all) }
+    ensures seen { IfOk result (λ files. (all : Files) → told journal.old ≡ Some all → ListsSeen files all) }
     ensures stray { IfErr result (λ refusal. (file : File) (found : Option (List ℕ)) → refusal ≡ OpenRefusal.Foreign file found
         → (all : Files) → told journal.old ≡ Some all → HoldsCatalog all catalog.now → IsStray all file found) }
     ensures kind { IfErr result (λ refusal. refusal ≡ OpenRefusal.EpochsSpent → ⊥) }
@@ -113,7 +118,7 @@ pub(crate) fn refuse_strays<D: Disk>(
         Err(fault) => return Err(refusal_of(fault)),
     };
     match first_stray(catalog, files.has(FileId::Head), files.as_slice()) {
-        None => Ok(()),
+        None => Ok(files),
         Some(file) => {
             is_named_by_byte(file);
             Err(refusal_with(alloc, journal, file))

@@ -6,7 +6,7 @@ pub returns-in-Ok : goal.returns-in-Ok
 returns-in-Ok g c =
     reopens_raised c.args.parts.now c.take_over.new.parts c.begin_again.new.journal c.in-Ok.found c.epoch-epoch.result
     c.in-Ok.ensures.begins
-    c.in-Ok.ensures.crash c.in-Ok.ensures.counted c.in-Ok.ensures.settles c.in-Ok.ensures.whole c.in-Ok.ensures.listed c.take_over.ensures.is c.take_over.ensures.journal c.epoch-epoch.ensures
+    c.in-Ok.ensures.crash c.in-Ok.ensures.counted c.in-Ok.ensures.settles c.in-Ok.ensures.whole c.in-Ok.ensures.buckets c.in-Ok.ensures.listed c.take_over.ensures.is c.take_over.ensures.journal c.epoch-epoch.ensures
 
 pub returns-in-Err : goal.returns-in-Err
 returns-in-Err g c =

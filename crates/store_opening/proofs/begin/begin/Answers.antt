@@ -2,10 +2,9 @@ use Rattle.std.specs.Prelude.{is_some}
 use Rattle.std.proofs.Common.{Err, sym, ap, ◌∙◌}
 use Rattle.intent_journal.specs.declared.fault.JournalFault.{JournalFault}
 use Rattle.store_opening.proofs.Beginning.{crash_still, begins_not, begins_spent, begins_raised, begins_between, begins_crash}
-use Rattle.pool_changes.specs.Kept.{slots_of}
 use Rattle.store_opening.specs.declared.fault.OpenRefusal.TheVariants.{EpochsSpent}
 use Rattle.store_opening.proofs.Settling.{ends_still, ends_spent, ends_raised, ends_between}
-use Rattle.store_opening.proofs.Whole.{last_whole, not_spent}
+use Rattle.store_opening.proofs.Whole.{buckets_of, last_whole, not_spent}
 use Rattle.store_opening.proofs.begin.begin.Goals as goal
 
 pub returns-in-Err-clause-begins : goal.returns-in-Err-clause-begins
@@ -29,7 +28,7 @@ pub returns-in-Ok-raise-clause-begins : goal.returns-in-Ok-raise-clause-begins
 returns-in-Ok-raise-clause-begins g c = λ a b holds.
     begins_raised g.N.Namer c.args.journal.now a b holds c.requires c.recover.new.journal c.in-Ok.found (c.in-Ok.ensures.recovers a b holds)
     c.in-Ok.ensures.quiet c.raise.new.journal c.raise.new.found c.epoch.result c.epoch.ensures c.if-epoch-ge18446744073709551615.false
-    c.raise.ensures.pool c.in-Ok-raise.ensures.ok
+    c.raise.ensures.names c.in-Ok-raise.ensures.ok
 
 pub returns-in-Ok-raise-clause-crash : goal.returns-in-Ok-raise-clause-crash
 returns-in-Ok-raise-clause-crash g c = λ a b holds.
@@ -62,7 +61,12 @@ returns-in-Ok-raise-clause-whole g c =
 
 pub returns-in-Ok-raise-clause-listed : goal.returns-in-Ok-raise-clause-listed
 returns-in-Ok-raise-clause-listed g c = λ all is id.
-    ap (λ p. is_some (slots_of p.names id)) c.raise.ensures.pool ∙ c.in-Ok.ensures.listed all is id
+    ap is_some (c.raise.ensures.names id) ∙ c.in-Ok.ensures.listed all is id
+
+pub returns-in-Ok-raise-clause-buckets : goal.returns-in-Ok-raise-clause-buckets
+returns-in-Ok-raise-clause-buckets g c =
+    buckets_of _ c.raise.new.found c.in-Ok-raise.ensures.buckets
+    (c.in-Ok-raise.ensures.whole (λ all is. c.in-Ok.ensures.whole all (sym c.in-Ok.ensures.quiet.told_same ∙ is)))
 
 pub returns-in-Err-raise-clause-spent : goal.returns-in-Err-raise-clause-spent
 returns-in-Err-raise-clause-spent g c = λ e. absurd (not_spent _ c.refusal_of.ensures.kind e)
@@ -80,7 +84,7 @@ pub returns-in-Ok-raise-clause-ends : goal.returns-in-Ok-raise-clause-ends
 returns-in-Ok-raise-clause-ends g c = λ a b holds.
     ends_raised g.N.Namer c.args.journal.now a b holds c.recover.new.journal c.in-Ok.found (c.in-Ok.ensures.recovers a b holds)
     c.in-Ok.ensures.quiet c.raise.new.journal c.raise.ensures.looks c.requires c.raise.new.found c.epoch.result c.epoch.ensures
-    c.if-epoch-ge18446744073709551615.false c.raise.ensures.pool c.in-Ok-raise.ensures.ok
+    c.if-epoch-ge18446744073709551615.false c.raise.ensures.names c.in-Ok-raise.ensures.ok
 
 pub returns-in-Err-raise-clause-ends : goal.returns-in-Err-raise-clause-ends
 returns-in-Err-raise-clause-ends g c = λ a b holds.

@@ -1,7 +1,7 @@
 use Rattle.store_opening.proofs.Running.{started_of}
 use Rattle.store_opening.proofs.Reopening.{left_of, left_at, closed_foreign}
 use Rattle.store_opening.proofs.Settling.{closed_one}
-use Rattle.store_opening.proofs.Whole.{whole_parts, listed_parts, spent_closed}
+use Rattle.store_opening.proofs.Whole.{whole_parts, buckets_parts, listed_parts, spent_closed}
 use Rattle.store_opening.proofs.start.start.Goals as goal
 
 pub returns-in-Err-clause-left : goal.returns-in-Err-clause-left
@@ -17,6 +17,11 @@ returns-in-Err-clause-foreign g c = λ file found e.
 pub returns-in-Ok-clause-whole : goal.returns-in-Ok-clause-whole
 returns-in-Ok-clause-whole g c =
     whole_parts c.parts_of.result c.in-Ok.found c.parts_of.ensures.is c.begin.new.journal c.parts_of.ensures.journal c.in-Ok.ensures.whole
+
+pub returns-in-Ok-clause-buckets : goal.returns-in-Ok-clause-buckets
+returns-in-Ok-clause-buckets g c =
+    buckets_parts c.parts_of.result c.in-Ok.found c.parts_of.ensures.is c.begin.new.journal c.parts_of.ensures.journal
+    c.in-Ok.ensures.buckets
 
 pub returns-in-Ok-clause-listed : goal.returns-in-Ok-clause-listed
 returns-in-Ok-clause-listed g c =

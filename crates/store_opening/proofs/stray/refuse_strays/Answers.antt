@@ -11,8 +11,8 @@ pub refusal_with-requires-clause-seen : goal.refusal_with-requires-clause-seen
 refusal_with-requires-clause-seen g c =
     first_seen c.args.catalog.now.hosts c.has.result c.as_slice.result.now c.in-Some.file (sym c.first_stray.ensures ∙ c.in-Some.is)
 
-pub returns-clause-stray : goal.returns-clause-stray
-returns-clause-stray g c = λ file found e all is holds.
+pub returns-in-Some-clause-stray : goal.returns-in-Some-clause-stray
+returns-in-Some-clause-stray g c = λ file found e all is holds.
     let f = c.refusal_with.ensures.foreign file found e in
     a_stray all c.in-Ok.files c.args.catalog.now c.has.result c.as_slice.result.now (c.in-Ok.ensures.found all is) c.has.ensures
     c.as_slice.ensures c.in-Some.file file found (sym c.first_stray.ensures ∙ c.in-Some.is) f.0
