@@ -18,7 +18,7 @@ use Rattle.office_store.specs.declared.store.Store.{Store}
 use Rattle.office_store.specs.Damage.{TellsDamage}
 use Rattle.office_store.specs.Serves.{Serves}
 use Rattle.office_store.specs.Moves.{AreServed, Moves}
-use Rattle.browse_http.specs.Scripts.{FollowsAfter}
+use Rattle.call_scripts.specs.Scripts.{FollowsAfter}
 use Rattle.night_work.specs.declared.ends.NightEnd.{NightEnd}
 use Rattle.night_work.specs.declared.ends.NightEnd.TheVariants as F
 use Rattle.night_work.specs.Script.{events_after, each_of, night_buckets, night_script}

@@ -22,7 +22,7 @@ use Rattle.folder_walk.specs.declared.refusals.DumpRefusal.TheVariants as P
 use Rattle.folder_restore.specs.declared.refusals.RestoreRefusal.{RestoreRefusal}
 use Rattle.folder_restore.specs.declared.refusals.RestoreRefusal.TheVariants as W
 use Rattle.browse_http.specs.declared.end.End.{End}
-use Rattle.browse_http.specs.declared.end.End.TheVariants.{Ended, Truncated, BadRequest, LinkFault, Memory}
+use Rattle.browse_http.specs.declared.end.End.TheVariants.{Ended, Truncated, BadRequest, LinkFault, Memory, Cut}
 use Rattle.admin_cli.specs.declared.note.Note.{Note}
 use Rattle.admin_cli.specs.declared.note.Note.TheVariants.{Usage, NoMemory, DiskFailed, Foreign, Refused, BadPath, BadTarget, FileTooLarge, FolderNotEmpty, StoreNotEmpty, FolderFailed}
 use Rattle.admin_cli.specs.Statuses.{status_of}
@@ -92,6 +92,8 @@ served_other Truncated true = other (note_of Truncated true) 4 refl (λ e. omega
 served_other Truncated false = other (note_of Truncated false) 1 refl (λ e. omega (arith, e)) (λ e. omega (arith, e))
 served_other BadRequest true = other (note_of BadRequest true) 4 refl (λ e. omega (arith, e)) (λ e. omega (arith, e))
 served_other BadRequest false = other (note_of BadRequest false) 1 refl (λ e. omega (arith, e)) (λ e. omega (arith, e))
+served_other (Cut refusal) true = other (note_of (Cut refusal) true) 4 refl (λ e. omega (arith, e)) (λ e. omega (arith, e))
+served_other (Cut refusal) false = other (note_of (Cut refusal) false) 1 refl (λ e. omega (arith, e)) (λ e. omega (arith, e))
 
 all_other : (failed halted : Bool) → IsOther (note_of_all failed halted)
 all_other true halted = other (note_of_all true halted) 3 refl (λ e. omega (arith, e)) (λ e. omega (arith, e))

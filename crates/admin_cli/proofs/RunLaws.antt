@@ -2,7 +2,7 @@
 --     is_served      the calls lead from the disk that came in to that handed back
 --     serves, refuses_early, lacks_memory, is_cause, refuses
 --     serves_complete, refused_complete, refused_tells      how such runs end
-use Rattle.std.specs.Prelude.{IsSome, ◌||◌, ◌⊎◌}
+use Rattle.std.specs.Prelude.{IsSome, ◌||◌, ◌⊎◌, ◌++◌}
 use Rattle.std.proofs.Common.{◌≡◌, ℕ, ◌-◌, ◌^◌, ◌<◌, Bool, true, false, List, Option, None, Some, refl, sym, ap, ◌∙◌, subst, inl, inr, arith}
 use Rattle.fault_counts.specs.Counts.{Rose}
 use Rattle.disk_trait.specs.declared.disk.Disk.{Ghosts as DiskGhosts}
@@ -30,7 +30,7 @@ use Rattle.settings_file.specs.declared.read.Settings.{Settings}
 use Rattle.settings_file.specs.declared.fault.SettingsFault.TheVariants as F
 use Rattle.settings_file.specs.Document.{IsSettings}
 use Rattle.browse_http.specs.declared.end.End.{End}
-use Rattle.browse_http.specs.declared.end.End.TheVariants.{Ended, Truncated, BadRequest, LinkFault, Memory}
+use Rattle.browse_http.specs.declared.end.End.TheVariants.{Ended, Truncated, BadRequest, LinkFault, Memory, Cut}
 use Rattle.browse_http.specs.Talk.{ServesLink, calls_of}
 use Rattle.admin_cli.specs.declared.note.Note.{Note}
 use Rattle.admin_cli.specs.declared.note.Note.TheVariants.{EpochsSpent, NoMemory}
@@ -105,9 +105,9 @@ module _ {D N S : Type 0} {d : DiskGhosts D} {n : NamerGhosts N S} (disk : D) (s
       port port' link link' moments moments' end =
       subst (λ (added : Defaults). ServesLink added (λ (p : DirectPort D N S d n) calls (q : DirectPort D N S d n). Moves p.store calls q.store)
       port port' link link' moments moments' end) defaults_is served_by in
-      let moved : Moves store (calls_of served.talk.exchanges) store' =
-      subst (λ q. Moves store (calls_of served.talk.exchanges) q) (sym store_is)
-      (subst (λ p. Moves p (calls_of served.talk.exchanges) port'.store) port_is served.talk.moved) in
+      let moved : Moves store (calls_of served.talk.exchanges ++ served.talk.made) store' =
+      subst (λ q. Moves store (calls_of served.talk.exchanges ++ served.talk.made) q) (sym store_is)
+      (subst (λ p. Moves p (calls_of served.talk.exchanges ++ served.talk.made) port'.store) port_is served.talk.moved) in
       rw (note_is, disk_is, halted_is) (record {
         asked = asked;
         read = read;
@@ -119,11 +119,13 @@ module _ {D N S : Type 0} {d : DiskGhosts D} {n : NamerGhosts N S} (disk : D) (s
           talk = record {
             exchanges = served.talk.exchanges;
             are = served.talk.are;
-            moved = is_served (calls_of served.talk.exchanges) moved;
+            made = served.talk.made;
+            moved = is_served (calls_of served.talk.exchanges ++ served.talk.made) moved;
             clock = served.talk.clock;
             taken = served.talk.taken;
             left_is = served.talk.left_is;
             quiet = served.talk.quiet;
+            begun = served.talk.begun;
             talk = served.talk.talk;
           };
           ahead = served.ahead;
@@ -193,6 +195,9 @@ module _ {D : Type 0} (d : DiskGhosts D) (digest_of : List ℕ → List ℕ) (di
   served_complete a b BadRequest true link stopped m same l same_link =
       let rose : Rose (d.fault_count disk) (d.fault_count disk') = stopped refl in absurd (omega (arith, rose, m, same))
   served_complete a b BadRequest false link stopped m same l same_link = inr (inl refl)
+  served_complete a b (Cut refusal) true link stopped m same l same_link =
+      let rose : Rose (d.fault_count disk) (d.fault_count disk') = stopped refl in absurd (omega (arith, rose, m, same))
+  served_complete a b (Cut refusal) false link stopped m same l same_link = inr (inl refl)
 
   unopened_complete : (a b : Durable) (refusal : OpenRefusal) → StandsForEither d digest_of disk a b
       → IsUnopened d digest_of disk disk' refusal → d.fault_count disk < 2 ^ 64 - 1 → d.fault_count disk' ≡ d.fault_count disk

@@ -4,12 +4,13 @@ use Rattle.std.specs.Prelude.{ℕ, List, [], ◌++◌, codes, Option, Some, None
 use Rattle.disk_trait.specs.Names.{real_name}
 use Rattle.office_model.specs.RuleNames.{rule_name}
 use Rattle.admin_cli.specs.declared.note.Note.{Note}
-use Rattle.admin_cli.specs.declared.note.Note.TheVariants.{Nothing, InputEnded, NotUnderstood, Refused, BadPath, BadTarget, FileTooLarge, FolderNotEmpty, StoreNotEmpty, Usage, LinkFailed, DoorFailed, FolderFailed, DiskFailed, Foreign, EpochsSpent, NoMemory, BadSettings}
+use Rattle.admin_cli.specs.declared.note.Note.TheVariants.{Nothing, InputEnded, NotUnderstood, ResponseCut, Refused, BadPath, BadTarget, FileTooLarge, FolderNotEmpty, StoreNotEmpty, Usage, LinkFailed, DoorFailed, FolderFailed, DiskFailed, Foreign, EpochsSpent, NoMemory, BadSettings}
 
 abbrev pub text_of : Note → Option (List ℕ)
 text_of Nothing = Some []
 text_of InputEnded = Some (codes "input ended inside a request")
 text_of NotUnderstood = Some (codes "request not understood")
+text_of ResponseCut = Some (codes "response cut")
 text_of (Refused rule) = Some (codes "refused " ++ rule_name rule)
 text_of BadPath = Some (codes "refused BadPath")
 text_of BadTarget = Some (codes "refused BadTarget")

@@ -26,10 +26,10 @@ use Rattle.office_store.specs.Moves.{MayRecoverIn}
 use Rattle.settings_file.specs.declared.read.Settings.{Settings}
 use Rattle.settings_file.specs.Document.{IsSettings}
 use Rattle.browse_http.specs.declared.end.End.{End}
-use Rattle.browse_http.specs.declared.end.End.TheVariants.{Ended, Truncated, BadRequest, LinkFault, Memory}
+use Rattle.browse_http.specs.declared.end.End.TheVariants.{Ended, Truncated, BadRequest, LinkFault, Memory, Cut}
 use Rattle.browse_http.specs.Talk.{ServesLink}
 use Rattle.admin_cli.specs.declared.note.Note.{Note}
-use Rattle.admin_cli.specs.declared.note.Note.TheVariants.{Nothing, InputEnded, NotUnderstood, LinkFailed, DiskFailed, Foreign, EpochsSpent, NoMemory}
+use Rattle.admin_cli.specs.declared.note.Note.TheVariants.{Nothing, InputEnded, NotUnderstood, ResponseCut, LinkFailed, DiskFailed, Foreign, EpochsSpent, NoMemory}
 use Rattle.admin_cli.specs.Statuses.{status_of}
 use Rattle.command_line.specs.Line.{Line, Pipe}
 use Rattle.admin_cli.specs.Command.{AsksFor}
@@ -42,6 +42,7 @@ note_of LinkFault halted = LinkFailed
 note_of Ended halted = if halted then DiskFailed else Nothing
 note_of Truncated halted = if halted then DiskFailed else InputEnded
 note_of BadRequest halted = if halted then DiskFailed else NotUnderstood
+note_of (Cut refusal) halted = if halted then DiskFailed else ResponseCut
 
 -- what a run says that opened no store
 abbrev pub note_of_refusal : OpenRefusal → Note

@@ -1,13 +1,14 @@
 -- The program's exit statuses.
 use Rattle.std.specs.Prelude.{ℕ}
 use Rattle.admin_cli.specs.declared.note.Note.{Note}
-use Rattle.admin_cli.specs.declared.note.Note.TheVariants.{Nothing, InputEnded, NotUnderstood, Refused, BadPath, BadTarget, FileTooLarge, FolderNotEmpty, StoreNotEmpty, Usage, LinkFailed, DoorFailed, FolderFailed, DiskFailed, Foreign, EpochsSpent, NoMemory, BadSettings}
+use Rattle.admin_cli.specs.declared.note.Note.TheVariants.{Nothing, InputEnded, NotUnderstood, ResponseCut, Refused, BadPath, BadTarget, FileTooLarge, FolderNotEmpty, StoreNotEmpty, Usage, LinkFailed, DoorFailed, FolderFailed, DiskFailed, Foreign, EpochsSpent, NoMemory, BadSettings}
 
 -- the status of a run, by what it says as it ends
 abbrev pub status_of : Note → ℕ
 status_of Nothing = 0
 status_of InputEnded = 1
 status_of NotUnderstood = 1
+status_of ResponseCut = 1
 status_of (Refused rule) = 1
 status_of BadPath = 1
 status_of BadTarget = 1

@@ -13,6 +13,8 @@ pub enum Note {
     InputEnded,
     /// The head of a request was refused.
     NotUnderstood,
+    /// The store couldn't give the rest of a file, whose response was cut.
+    ResponseCut,
     /// A call of a folder command or of a demo was refused, since it breaks this rule.
     Refused(BrokenRule),
     /// A path of the folder breaks a rule of paths.
@@ -56,7 +58,7 @@ impl Note {
         match self {
             Note::Nothing => 0,
             Note::InputEnded => 1,
-            Note::NotUnderstood => 1,
+            Note::NotUnderstood | Note::ResponseCut => 1,
             Note::Refused(_) | Note::BadPath | Note::BadTarget | Note::FileTooLarge => 1,
             Note::FolderNotEmpty | Note::StoreNotEmpty => 1,
             Note::Usage => 2,
@@ -80,6 +82,7 @@ impl fmt::Display for Note {
             Note::Nothing => write!(f, ""),
             Note::InputEnded => write!(f, "input ended inside a request"),
             Note::NotUnderstood => write!(f, "request not understood"),
+            Note::ResponseCut => write!(f, "response cut"),
             Note::Refused(rule) => write!(f, "refused {rule}"),
             Note::BadPath => write!(f, "refused BadPath"),
             Note::BadTarget => write!(f, "refused BadTarget"),

@@ -18,8 +18,8 @@ use std::alloc::{AllocError, Global};
 use stream_traits::{Clock, Faults, Link, OpenGate};
 
 /// What is said of a run that served its connection.
-fn note_of(end: End, halted: bool) -> Note
-    ensures { result ≡ note_of end halted }
+fn note_of(end: &End, halted: bool) -> Note
+    ensures { result ≡ note_of end.now halted }
 {
     match end {
         End::Memory => Note::NoMemory,
@@ -28,6 +28,7 @@ fn note_of(end: End, halted: bool) -> Note
         End::Ended => Note::Nothing,
         End::Truncated => Note::InputEnded,
         End::BadRequest => Note::NotUnderstood,
+        End::Cut(_) => Note::ResponseCut,
     }
 }
 
@@ -73,7 +74,7 @@ pub fn serve_pipe<D: Disk, N: Namer, C: Clock, L: Link>(
     let store = port.into_store();
     let halted = store.is_halted();
     DoneOnLink {
-        note: note_of(end, halted),
+        note: note_of(&end, halted),
         disk: store.close(),
         link,
     }

@@ -1,4 +1,5 @@
 use browse_http::End;
+use http_bodies::BodyStop;
 use http_wire::HeadRefusal;
 use std::alloc::AllocError;
 use std::io;
@@ -13,6 +14,8 @@ pub enum Fault {
     Memory,
     /// A head was refused.
     Head(HeadRefusal),
+    /// A body was not read to its end.
+    Body(BodyStop),
     /// The input ended inside a request.
     Truncated,
     /// The link failed.
@@ -32,6 +35,12 @@ impl From<AllocError> for Fault {
 impl From<Failed> for Fault {
     fn from(_fault: Failed) -> Fault {
         Fault::Link
+    }
+}
+
+impl From<BodyStop> for Fault {
+    fn from(stop: BodyStop) -> Fault {
+        Fault::Body(stop)
     }
 }
 

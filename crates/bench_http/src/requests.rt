@@ -4,7 +4,8 @@ use crate::fault::Fault;
 use crate::input::{LOOKUP, copies, put_of};
 use crate::report::Report;
 use crate::sizes::Sizes;
-use http_wire::{BodyRead, Head, HeadRead, Wire, read_body, read_head};
+use http_bodies::{Body, PIECE_SIZE, next_piece};
+use http_wire::{Head, HeadRead, Wire, read_head};
 use std::alloc::{AllocError, Global};
 use stream_traits::MemoryLink;
 
@@ -24,14 +25,18 @@ fn wire_over(alloc: Global, input: Vec<u8>) -> Result<Wire<MemoryLink>, AllocErr
     Ok(Wire::new(alloc, link))
 }
 
-/// Reads the body of a request, and gives how many bytes it has.
+/// Reads the body of a request in pieces, and gives how many bytes it has.
 fn body_len(alloc: Global, wire: &mut Wire<MemoryLink>, head: &Head) -> Result<usize, Fault> {
-    match read_body(alloc, wire, head) {
-        BodyRead::Body(body) => Ok(body.len()),
-        BodyRead::Truncated => Err(Fault::Truncated),
-        BodyRead::LinkFault => Err(Fault::Link),
-        BodyRead::Memory => Err(Fault::Memory),
+    let mut body = Body::of_length(head.length().unwrap_or(0));
+    let mut len = 0usize;
+    for _ in 0..u32::MAX {
+        let piece = next_piece(alloc, wire, &mut body)?;
+        len = len.saturating_add(piece.len());
+        if piece.len() < PIECE_SIZE {
+            return Ok(len);
+        }
     }
+    Err(Fault::Truncated)
 }
 
 /// Reads a request, and gives how many bytes its body has, or nothing at the end of the input.

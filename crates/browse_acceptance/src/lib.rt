@@ -1,16 +1,10 @@
-//! Tests of replies, connections, doors and nights. They use only what the crates show, and stand apart from them, so that each
-//! crate is proved once.
+//! Tests of requests, replies and nights. They use only what the crates show, and stand apart from them, so that each crate is
+//! proved once.
 #![tactic(auto)]
 
-#[cfg(test)]
-mod browse_http_tests;
 #[cfg(test)]
 mod night_work_tests;
 #[cfg(test)]
 mod reply_bodies_tests;
 #[cfg(test)]
 mod request_events_tests;
-#[cfg(test)]
-mod serve_callers_tests;
-#[cfg(test)]
-mod serve_door_tests;

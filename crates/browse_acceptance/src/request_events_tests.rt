@@ -4,6 +4,7 @@ use http_heads::{Front, read_front};
 use http_query::QueryRule;
 use http_routes::{Route, router};
 use office_model::{Event, PutItem};
+use office_talks::expect;
 use request_events::*;
 use std::alloc::Global;
 use std::test::Fail;
@@ -111,6 +112,21 @@ fn defaults(alloc: Global) -> Result<Defaults, Fail> {
     })
 }
 
+/// The way of a request with this head, which stands here without its end.
+fn way(alloc: Global, head: &str) -> Result<Way, RequestFault> {
+    let Ok(router) = router(alloc) else {
+        return Err(RequestFault::Memory);
+    };
+    let bytes = format!(in alloc; "{head}\r\n\r\n")?;
+    match read_front(alloc, bytes.as_bytes())? {
+        Front::Whole { len: _, head } => {
+            let plan = plan_of(alloc, &router, &head)?;
+            Ok(way_of(&head, plan))
+        }
+        _ => Err(RequestFault::Memory),
+    }
+}
+
 /// The event of a head, with a body if its fields name a length.
 fn asked(
     alloc: Global,
@@ -118,16 +134,12 @@ fn asked(
     body: &[u8],
     defaults: &Defaults,
 ) -> Result<Event, RequestFault> {
-    let Ok(router) = router(alloc) else {
-        return Err(RequestFault::Memory);
-    };
-    let bytes = format!(in alloc; "{head}\r\n\r\n")?;
-    match read_front(alloc, bytes.as_bytes())? {
-        Front::Whole { len: _, head } => {
+    match way(alloc, head)? {
+        Way::Planned(plan) => {
             let body = Vec::from_slice(alloc, body)?;
-            event_asked(alloc, &router, &head, body, Moment::first(), defaults)
+            event_of(alloc, plan, body, Moment::first(), defaults)
         }
-        _ => Err(RequestFault::Memory),
+        Way::Staged(_) => Err(RequestFault::Memory),
     }
 }
 
@@ -220,6 +232,68 @@ fn a_put_has_its_item(rt: HostRuntime) -> Result<(), Fail> {
         expect_put(rt.alloc(), query, (mode, nanos, group))?;
     }
     Ok(())
+}
+
+/// The kinds of puts with a field of their heads, and how many bytes of the body are looked at, or None if the file goes by stages.
+const WAYS: &[(&str, &str, Option<usize>)] = &[
+    ("file", "Content-Length: 0", Some(65_536)),
+    ("file", "Content-Length: 65536", Some(65_536)),
+    ("file", "Content-Length: 65537", None),
+    ("file", "Content-Length: 1099511627775", None),
+    ("file", "Transfer-Encoding: chunked", None),
+    ("link", "Content-Length: 65537", Some(4_097)),
+    ("link", "Transfer-Encoding: chunked", Some(4_097)),
+    ("dir", "Transfer-Encoding: chunked", Some(0)),
+];
+
+fn expect_way(alloc: Global, kind: &str, field: &str, wanted: Option<usize>) -> Result<(), Fail> {
+    let head = format!(in alloc;
+        "PUT /dumps/1-0/entry?path=a&kind={kind} HTTP/1.1\r\nHost: b\r\n{field}"
+    )?;
+    let looked = match way(alloc, head.as_str()) {
+        Ok(Way::Planned(plan)) => Some(looked_at(&plan)),
+        Ok(Way::Staged(_put)) => None,
+        Err(_) => return Err(Fail::new("no plan")),
+    };
+    expect(looked == wanted, "another way")
+}
+
+#[test]
+fn a_large_file_goes_by_stages(rt: HostRuntime) -> Result<(), Fail> {
+    for (kind, field, wanted) in WAYS {
+        expect_way(rt.alloc(), kind, field, *wanted)?;
+    }
+    Ok(())
+}
+
+#[test]
+fn a_target_is_refused_by_its_first_bytes(rt: HostRuntime) -> Result<(), Fail> {
+    let defaults = defaults(rt.alloc())?;
+    let head = "PUT /dumps/1-0/entry?path=a&kind=link HTTP/1.0\r\nContent-Length: 9999";
+    let target = [b'x'; 4_097];
+    let short = asked(rt.alloc(), head, &target[..4_096], &defaults);
+    let long = asked(rt.alloc(), head, &target, &defaults);
+    let refused = matches!(long, Err(RequestFault::Refused(RequestRefusal::BadTarget)));
+    expect(short.is_ok() && refused, "another target")
+}
+
+#[test]
+fn a_file_is_read_part_by_part(rt: HostRuntime) -> Result<(), Fail> {
+    let line = "GET /hosts/pc1/backups/3/file?path=a%2Fb";
+    let Ok(
+        Event::OpenFile {
+            host: _,
+            number,
+            path,
+        },
+    ) = asked_by_line(rt.alloc(), line)?
+    else {
+        return Err(Fail::new("no file"));
+    };
+    expect(
+        number == 3 && path.as_slice() == b"a/b".as_slice(),
+        "another file",
+    )
 }
 
 #[test]

@@ -5,7 +5,8 @@ ghost use Rattle.http_wire.specs.Wires.{left_of, written_of, sent_of, faults_of}
 ghost use Rattle.browse_http.specs.Talk.{Converses, ServesLink};
 
 use crate::end::End;
-use crate::exchange::{REQUEST_LIMIT, exchange};
+use crate::exchange::exchange;
+use crate::heads::REQUEST_LIMIT;
 use crate::interface::Interface;
 use http_wire::Wire;
 use office_model::Port;
@@ -19,8 +20,8 @@ pub struct Served<L> {
     pub link: L,
 }
 
-/// Serves a connection: reads requests, holds each at the gate between its head and its body, calls the port with the event of
-/// each that isn't refused, and writes the responses. It ends after 1,000,000 requests at the latest. What was written is sent
+/// Serves a connection: reads requests, holds each at the gate between its head and its body, makes the calls of each that isn't
+/// refused, and writes the responses. It ends after 1,000,000 requests at the latest. What was written is sent
 /// before more is read, and at the end. The settings give the rules of a host that is added, and the zone. The order of work, the
 /// routes and the responses are those of the interface's description; heads and bodies are those of HTTP/1.1 (RFC 9112).
 pub fn serve_connection<P: Port, L: Link, C: Clock, G: Gate>(

@@ -1,136 +1,59 @@
 //! One request, what comes of it, and its response.
 
-ghost use Rattle.std.specs.Prelude.{◌≡◌, [], ◌∷◌, ◌+◌, ◌<◌, ◌==◌, ◌||◌, IfOk, IfErr, OnOk, IsErrOf};
+ghost use Rattle.std.specs.Prelude.{◌≡◌, ◌<◌, [], None, Some, Ok, Err, OnOk, IfErr, IsErrOf};
 ghost use Rattle.fault_counts.specs.Counts.{Counted};
 ghost use Rattle.http_wire.specs.Wires.{left_of, written_of, faults_of};
-ghost use Rattle.office_model.specs.Step.{IsAnswerTo};
-ghost use Rattle.browse_http.specs.Scripts.{is_memory};
-ghost use Rattle.browse_http.specs.Talk.{Refused, Called, request_limit, asks_head};
-ghost use Rattle.reply_bodies.specs.Replies.{long_body};
-ghost use Rattle.browse_http.specs.Serving.{Lacks, EndsCalled, EndsAnswered, Responds, CarriesOut, CarriesOutLast, GoesOn, EndsAt};
+ghost use Rattle.http_bodies.specs.Bodies.{IsAt};
+ghost use Rattle.request_events.specs.declared.defaults.Defaults.{Defaults as DefaultsValue};
+ghost use Rattle.request_events.specs.Plans.{planned};
+ghost use Rattle.request_events.specs.Asked.{staged_by, goes_by_stages};
+ghost use Rattle.browse_http.specs.Talk.{request_limit, coding_of, staged_of};
+ghost use Rattle.browse_http.specs.Serving.{CallsNothing, Attends, AttendsLast, CarriesOut, CarriesOutLast, IsOf, GoesOn, EndsAt, is_open};
 
+use crate::answers::{answer_refused, respond};
+use crate::bodies::{read_kept, skip_rest};
 use crate::end::End;
+use crate::files::send_file;
+use crate::heads::{Request, end_body, give_up, request_of, take_head};
 use crate::interface::Interface;
-use crate::reading::{Request, give_up, read_request};
-use crate::replies::{write_refusal, write_reply};
-use disk_trait::Bytes;
-use http_heads::Head;
+use crate::stages::put_in_stages;
 use http_wire::Wire;
-use office_model::{Answer, Event, Port, Refusal};
-use reply_bodies::answer_body;
-use request_events::{RequestFault, RequestRefusal, event_asked};
-use std::alloc::{AllocError, Global};
-use stream_traits::{Clock, Failed, Faults, Gate, Link};
+use office_model::{Event, Port};
+use request_events::{
+    FilePut, Plan, RequestFault, RequestRefusal, Way, event_of, looked_at, plan_of, way_of,
+};
+use std::alloc::Global;
+use stream_traits::{Clock, Faults, Gate, Link};
 
-/// The most requests of a connection: the response to the last one closes it.
-pub const REQUEST_LIMIT: u32 = 1_000_000;
-
-/// Whether the response to the request at this index is the connection's last.
-fn is_last(index: u32, head: &Head) -> bool
-    requires { index < request_limit }
-    ensures { result ≡ (head.now.closes || (index + 1 == request_limit)) }
+/// Whether an event opens a file.
+fn is_open(event: &Event) -> bool
+    ensures { result ≡ is_open event.now }
 {
-    head.closes() || index + 1 == REQUEST_LIMIT
+    matches!(event, Event::OpenFile { .. })
 }
 
-/// Whether the request asks for no body.
-fn asks_head(head: &Head) -> bool
-    ensures { result ≡ asks_head head.now }
-{
-    head.method() == b"HEAD".as_slice()
-}
-
-/// Whether a reply is want of memory.
-fn is_memory(reply: &Result<Answer, Refusal>) -> bool
-    ensures { result ≡ is_memory reply.now }
-{
-    matches!(reply, Err(Refusal::Memory))
-}
-
-/// The body of a longer answer; or want of memory, for such an answer alone.
-fn made_for(alloc: Global, reply: &Result<Answer, Refusal>) -> Result<Option<Bytes>, AllocError>
-    ensures made { IfOk result (λ made. IfOk reply.now (λ answer. made ≡ long_body answer)) }
-    ensures lacks { IfErr result (λ _. Lacks reply.now) }
-{
-    match reply {
-        Ok(answer) => answer_body(alloc, answer),
-        Err(_) => Ok(None),
-    }
-}
-
-/// Sends the response to a reply, and says how the connection ends if that is the last.
-fn answer<L: Link>(
-    wire: &mut Wire<L>,
-    event: &Event,
-    reply: &Result<Answer, Refusal>,
-    made: &Option<Bytes>,
-    closes: bool,
-    is_head: bool,
-) -> Result<(), End>
-    requires { IfOk reply.now (λ answer. made.now ≡ long_body answer) }
-    ensures goes { OnOk result (Responds (written_of wire.old) (written_of wire.new) (Called ((event.now, reply.now) ∷ [])) closes is_head) }
-    ensures ends { IfErr result (EndsCalled (written_of wire.old) (written_of wire.new) (Called ((event.now, reply.now) ∷ [])) closes is_head) }
-    ensures left { left_of wire.new ≡ left_of wire.old }
-    ensures counted { Counted (faults_of wire.old) (faults_of wire.new) (IsErrOf result End.LinkFault) }
-{
-    match write_reply(wire, event, reply, made, closes, is_head) {
-        Ok(()) => {}
-        Err(Failed) => return Err(End::LinkFault),
-    }
-    if is_memory(reply) {
-        return Err(End::Memory);
-    }
-    if closes {
-        return Err(End::Ended);
-    }
-    Ok(())
-}
-
-/// Makes the response to a reply and sends it, and says how the connection ends if that is the last or there is no memory for it.
-fn respond<L: Link>(
+/// Calls an event, or all that a file takes, and sends the response.
+fn carry_event<P: Port, L: Link>(
     alloc: Global,
+    port: &mut P,
     wire: &mut Wire<L>,
     event: &Event,
-    reply: &Result<Answer, Refusal>,
     closes: bool,
     is_head: bool,
 ) -> Result<(), End>
-    requires { IfOk reply.now (IsAnswerTo event.now) }
-    ensures goes { OnOk result (Responds (written_of wire.old) (written_of wire.new) (Called ((event.now, reply.now) ∷ [])) closes is_head) }
-    ensures ends { IfErr result (EndsAnswered (written_of wire.old) (written_of wire.new) event.now reply.now closes is_head) }
+    ensures goes { OnOk result (CarriesOut (IsOf (Ok event.now)) P.moves port.old port.new (written_of wire.old) (written_of wire.new) closes is_head) }
+    ensures ends { IfErr result (CarriesOutLast (IsOf (Ok event.now)) P.moves port.old port.new (written_of wire.old) (written_of wire.new) closes is_head) }
     ensures left { left_of wire.new ≡ left_of wire.old }
     ensures counted { Counted (faults_of wire.old) (faults_of wire.new) (IsErrOf result End.LinkFault) }
 {
-    let made = match made_for(alloc, reply) {
-        Ok(made) => made,
-        Err(AllocError) => return Err(give_up(wire)),
-    };
-    answer(wire, event, reply, &made, closes, is_head)
+    if is_open(event) {
+        return send_file(alloc, port, wire, event, closes, is_head);
+    }
+    let reply = port.call(alloc, event);
+    respond(alloc, wire, event, &reply, closes, is_head)
 }
 
-/// Sends the response to a request that is refused, and says how the connection ends if that is the last.
-fn answer_refused<L: Link>(
-    wire: &mut Wire<L>,
-    refusal: RequestRefusal,
-    closes: bool,
-    is_head: bool,
-) -> Result<(), End>
-    ensures goes { OnOk result (Responds (written_of wire.old) (written_of wire.new) (Refused refusal) closes is_head) }
-    ensures ends { IfErr result (EndsCalled (written_of wire.old) (written_of wire.new) (Refused refusal) closes is_head) }
-    ensures left { left_of wire.new ≡ left_of wire.old }
-    ensures counted { Counted (faults_of wire.old) (faults_of wire.new) (IsErrOf result End.LinkFault) }
-{
-    match write_refusal(wire, refusal, closes, is_head) {
-        Ok(()) => {}
-        Err(Failed) => return Err(End::LinkFault),
-    }
-    if closes {
-        return Err(End::Ended);
-    }
-    Ok(())
-}
-
-/// What comes of a request that was read: its event is called, or it is refused; and its response.
+/// What comes of an event, or of its want; and the response.
 fn carry_out<P: Port, L: Link>(
     alloc: Global,
     port: &mut P,
@@ -139,17 +62,131 @@ fn carry_out<P: Port, L: Link>(
     closes: bool,
     is_head: bool,
 ) -> Result<(), End>
-    ensures goes { OnOk result (CarriesOut P.moves port.old port.new (written_of wire.old) (written_of wire.new) judged closes is_head) }
-    ensures ends { IfErr result (CarriesOutLast P.moves port.old port.new (written_of wire.old) (written_of wire.new) judged closes is_head) }
+    ensures goes { OnOk result (CarriesOut (IsOf judged) P.moves port.old port.new (written_of wire.old) (written_of wire.new) closes is_head) }
+    ensures ends { IfErr result (CarriesOutLast (IsOf judged) P.moves port.old port.new (written_of wire.old) (written_of wire.new) closes is_head) }
     ensures left { left_of wire.new ≡ left_of wire.old }
     ensures counted { Counted (faults_of wire.old) (faults_of wire.new) (IsErrOf result End.LinkFault) }
 {
     match judged {
-        Ok(event) => {
-            let reply = port.call(alloc, &event);
-            respond(alloc, wire, &event, &reply, closes, is_head)
-        }
+        Ok(event) => carry_event(alloc, port, wire, &event, closes, is_head),
         Err(RequestFault::Refused(refusal)) => answer_refused(wire, refusal, closes, is_head),
+        Err(RequestFault::Memory) => Err(give_up(wire)),
+    }
+}
+
+/// A request whose file goes by stages.
+fn attend_staged<P: Port, L: Link, C: Clock>(
+    alloc: Global,
+    port: &mut P,
+    wire: &mut Wire<L>,
+    clock: &mut C,
+    request: &mut Request,
+    put: FilePut,
+) -> Result<(), End>
+    requires { staged_of request.old.head (planned request.old.head) ≡ Some put }
+    ensures goes { OnOk result ((defaults : DefaultsValue) → Attends defaults request.old.head P.moves port.old port.new request.old.body
+        (left_of wire.old) (left_of wire.new) (written_of wire.old) (written_of wire.new) (C.moments clock.old) (C.moments clock.new)
+        request.old.closes request.old.is_head) }
+    ensures ends { IfErr result (λ end. (defaults : DefaultsValue) → AttendsLast defaults request.old.head P.moves port.old port.new request.old.body
+        (left_of wire.old) (left_of wire.new) (written_of wire.old) (written_of wire.new) (C.moments clock.old) (C.moments clock.new)
+        request.old.closes request.old.is_head end) }
+    ensures counted { Counted (faults_of wire.old) (faults_of wire.new) (IsErrOf result End.LinkFault) }
+{
+    let answered = match put_in_stages(alloc, port, wire, &mut request.body, put) {
+        Ok(answered) => answered,
+        Err(stop) => return Err(end_body(wire, stop, request.is_head)),
+    };
+    clock.now();
+    respond(
+        alloc,
+        wire,
+        &answered.event,
+        &answered.reply,
+        request.closes,
+        request.is_head,
+    )
+}
+
+/// A request that is refused before its body is read.
+fn attend_refused<L: Link, C: Clock>(
+    alloc: Global,
+    wire: &mut Wire<L>,
+    clock: &mut C,
+    request: &mut Request,
+    refusal: RequestRefusal,
+) -> Result<(), End>
+    requires { planned request.old.head ≡ Err refusal }
+    ensures goes { OnOk result ((defaults : DefaultsValue) → Attends defaults request.old.head CallsNothing tt tt request.old.body
+        (left_of wire.old) (left_of wire.new) (written_of wire.old) (written_of wire.new) (C.moments clock.old) (C.moments clock.new)
+        request.old.closes request.old.is_head) }
+    ensures ends { IfErr result (λ end. (defaults : DefaultsValue) → AttendsLast defaults request.old.head CallsNothing tt tt request.old.body
+        (left_of wire.old) (left_of wire.new) (written_of wire.old) (written_of wire.new) (C.moments clock.old) (C.moments clock.new)
+        request.old.closes request.old.is_head end) }
+    ensures counted { Counted (faults_of wire.old) (faults_of wire.new) (IsErrOf result End.LinkFault) }
+{
+    match skip_rest(alloc, wire, &mut request.body) {
+        Ok(()) => {}
+        Err(stop) => return Err(end_body(wire, stop, request.is_head)),
+    }
+    clock.now();
+    answer_refused(wire, refusal, request.closes, request.is_head)
+}
+
+/// A request of one event, or of a file in parts.
+fn attend_planned<P: Port, L: Link, C: Clock>(
+    alloc: Global,
+    port: &mut P,
+    wire: &mut Wire<L>,
+    clock: &mut C,
+    interface: &Interface,
+    request: &mut Request,
+    plan: Plan,
+) -> Result<(), End>
+    requires planned { planned request.old.head ≡ Ok plan }
+    requires whole { staged_by (goes_by_stages request.old.head) plan ≡ None }
+    requires body { IsAt (coding_of request.old.head) request.old.body [] [] }
+    ensures goes { OnOk result (Attends interface.now.defaults request.old.head P.moves port.old port.new request.old.body
+        (left_of wire.old) (left_of wire.new) (written_of wire.old) (written_of wire.new) (C.moments clock.old) (C.moments clock.new)
+        request.old.closes request.old.is_head) }
+    ensures ends { IfErr result (AttendsLast interface.now.defaults request.old.head P.moves port.old port.new request.old.body
+        (left_of wire.old) (left_of wire.new) (written_of wire.old) (written_of wire.new) (C.moments clock.old) (C.moments clock.new)
+        request.old.closes request.old.is_head) }
+    ensures counted { Counted (faults_of wire.old) (faults_of wire.new) (IsErrOf result End.LinkFault) }
+{
+    let kept = match read_kept(alloc, wire, &mut request.body, looked_at(&plan)) {
+        Ok(kept) => kept,
+        Err(stop) => return Err(end_body(wire, stop, request.is_head)),
+    };
+    let judged = event_of(alloc, plan, kept, clock.now(), &interface.defaults);
+    carry_out(alloc, port, wire, judged, request.closes, request.is_head)
+}
+
+/// A request whose head was read: its route and query are judged, then its body is read, and what comes of it is answered.
+fn attend<P: Port, L: Link, C: Clock>(
+    alloc: Global,
+    port: &mut P,
+    wire: &mut Wire<L>,
+    clock: &mut C,
+    interface: &Interface,
+    request: &mut Request,
+) -> Result<(), End>
+    requires { IsAt (coding_of request.old.head) request.old.body [] [] }
+    ensures goes { OnOk result (Attends interface.now.defaults request.old.head P.moves port.old port.new request.old.body
+        (left_of wire.old) (left_of wire.new) (written_of wire.old) (written_of wire.new) (C.moments clock.old) (C.moments clock.new)
+        request.old.closes request.old.is_head) }
+    ensures ends { IfErr result (AttendsLast interface.now.defaults request.old.head P.moves port.old port.new request.old.body
+        (left_of wire.old) (left_of wire.new) (written_of wire.old) (written_of wire.new) (C.moments clock.old) (C.moments clock.new)
+        request.old.closes request.old.is_head) }
+    ensures counted { Counted (faults_of wire.old) (faults_of wire.new) (IsErrOf result End.LinkFault) }
+{
+    match plan_of(alloc, &interface.router, &request.head) {
+        Ok(plan) => match way_of(&request.head, plan) {
+            Way::Staged(put) => attend_staged(alloc, port, wire, clock, request, put),
+            Way::Planned(plan) => attend_planned(
+                alloc, port, wire, clock, interface, request, plan,
+            ),
+        },
+        Err(RequestFault::Refused(refusal)) => attend_refused(alloc, wire, clock, request, refusal),
         Err(RequestFault::Memory) => Err(give_up(wire)),
     }
 }
@@ -171,16 +208,8 @@ pub fn exchange<P: Port, L: Link, C: Clock, G: Gate>(
         (written_of wire.old) (written_of wire.new) (C.moments clock.old) (C.moments clock.new) index) }
     ensures counted { Counted (faults_of wire.old) (faults_of wire.new) (IsErrOf result End.LinkFault) }
 {
-    let Request { head, body } = read_request(alloc, wire, gate, index)?;
-    let closes = is_last(index, &head);
-    let is_head = asks_head(&head);
-    let judged = event_asked(
-        alloc,
-        &interface.router,
-        &head,
-        body,
-        clock.now(),
-        &interface.defaults,
-    );
-    carry_out(alloc, port, wire, judged, closes, is_head)
+    let head = take_head(alloc, wire)?;
+    gate.hold(u64::from(index));
+    let mut request = request_of(index, head);
+    attend(alloc, port, wire, clock, interface, &mut request)
 }

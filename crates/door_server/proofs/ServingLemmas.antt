@@ -53,17 +53,19 @@ AreServed-append defaults l moments now moments' (connection ∷ rest) back earl
 -- a connection whose calls moved the port is one that made its calls
 pub IsServed-made : (defaults : Defaults) {P : Type 0} (moves : P → List Call → P → Type 0) (old new : P) (link back : LinkSeen)
     (moments moments' : Option (List ℕ)) (end : End) (served : ServesLink defaults moves old new link back moments moments' end)
-    → ServesLink defaults (Makes (calls_of served.talk.exchanges)) tt tt link back moments moments' end
+    → ServesLink defaults (Makes (calls_of served.talk.exchanges ++ served.talk.made)) tt tt link back moments moments' end
 IsServed-made defaults moves old new link back moments moments' end served = record {
   unread = served.unread;
   talk = record {
     exchanges = served.talk.exchanges;
     are = served.talk.are;
+    made = served.talk.made;
     moved = refl;
     clock = served.talk.clock;
     taken = served.talk.taken;
     left_is = served.talk.left_is;
     quiet = served.talk.quiet;
+    begun = served.talk.begun;
     talk = served.talk.talk;
   };
   ahead = served.ahead;
@@ -93,8 +95,8 @@ module _ (defaults : Defaults) {P : Type 0} (moves : P → List Call → P → T
       → coming ≡ ahead_of (link ∷ []) now → now_given ≡ given → coming' ≡ now → given' ≡ with_last now_given (back ∷ [])
       → ServesDoor defaults moves old new l coming coming' given given' moments moments'
   ServesDoor-one old new link back coming now coming' given now_given given' moments moments' end served came same kept gave = record {
-    connections = record { link = link; back = back; calls = calls_of served.talk.exchanges; end = end } ∷ [];
-    moved = subst (λ calls. moves old calls new) (sym (append-nil (calls_of served.talk.exchanges))) served.talk.moved;
+    connections = record { link = link; back = back; calls = calls_of served.talk.exchanges ++ served.talk.made; end = end } ∷ [];
+    moved = subst (λ calls. moves old calls new) (sym (append-nil (calls_of served.talk.exchanges ++ served.talk.made))) served.talk.moved;
     served = (moments', IsServed-made defaults moves old new (seen_of l link) (seen_of l back) moments moments' end served, refl);
     came = came ∙ ap (ahead_of (link ∷ [])) (sym kept);
     gave = gave ∙ ap (λ told. with_last told (back ∷ [])) same;

@@ -61,7 +61,7 @@ fn expect_cuts(
 ) -> Result<(), Fail> {
     for cut in least..text.len() {
         let front = str::from_utf8(&text.as_bytes()[..cut])?;
-        expect_from_office(alloc, &[before, front], &[told], End::Truncated)?;
+        expect_from_office(alloc, &[before, front], &[told], &End::Truncated)?;
     }
     Ok(())
 }
@@ -74,7 +74,7 @@ fn expect_exchange(alloc: Global, talk: &mut Talk, row: Exchange) -> Result<(), 
     talk.go_on(head, between)?;
     expect_cuts(alloc, talk.asked(), body, 0, talk.told())?;
     talk.go_on(body, response)?;
-    expect_from_office(alloc, &[talk.asked()], &[talk.told()], End::Ended)
+    expect_from_office(alloc, &[talk.asked()], &[talk.told()], &End::Ended)
 }
 
 #[test]
@@ -98,7 +98,7 @@ fn expect_cut_over<P: Port>(
 ) -> Result<(), Fail> {
     for cut in least..text.len() {
         let front = str::from_utf8(&text.as_bytes()[..cut])?;
-        expect_over(alloc, port, &[before, front], &[told], End::Truncated)?;
+        expect_over(alloc, port, &[before, front], &[told], &End::Truncated)?;
     }
     Ok(())
 }
@@ -108,7 +108,13 @@ fn expect_request_over<P: Port>(alloc: Global, port: &mut P, row: Exchange) -> R
     let (head, body, between, response) = row;
     expect_cut_over(alloc, port, "", head, 1, "")?;
     expect_cut_over(alloc, port, head, body, 0, between)?;
-    expect_over(alloc, port, &[head, body], &[between, response], End::Ended)
+    expect_over(
+        alloc,
+        port,
+        &[head, body],
+        &[between, response],
+        &End::Ended,
+    )
 }
 
 /// Connections to one store: what a request asks for is done when the whole one has come, and once.
@@ -134,7 +140,7 @@ const SHORT: &str = "GET /hosts HTTP/1.0\r\n\r\n";
 fn a_run_on_a_cut_input_has_its_status(rt: HostRuntime) -> Result<(), Fail> {
     for cut in 1..SHORT.len() {
         let front = str::from_utf8(&SHORT.as_bytes()[..cut])?;
-        expect_both(&rt, &[front], &[], End::Truncated)?;
+        expect_both(&rt, &[front], &[], &End::Truncated)?;
     }
     Ok(())
 }

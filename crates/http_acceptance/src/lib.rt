@@ -1,8 +1,10 @@
 //! What HTTP/1.1 gives over the plain office in memory and over the store by the command `pipe`, shown by examples, and nothing
-//! else: whole exchanges in exact bytes, refusals of routes, queries and paths in their order, texts in JSON, and inputs that end
+//! else: whole exchanges in exact bytes, bodies in chunks and in pieces, refusals of routes, queries and paths in their order, texts in JSON, and inputs that end
 //! early, at every byte.
 #![tactic(auto)]
 
+#[cfg(test)]
+mod bodies;
 #[cfg(test)]
 mod cuts;
 #[cfg(test)]

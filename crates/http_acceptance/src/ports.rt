@@ -69,7 +69,7 @@ fn link_of(alloc: Global, input: &[&str]) -> Result<MemoryLink, AllocError> {
     for piece in input {
         bytes.extend_from_slice(piece.as_bytes())?;
     }
-    MemoryLink::new(alloc, bytes, 65_536, Vec::new(alloc))
+    MemoryLink::new(alloc, bytes, 262_144, Vec::new(alloc))
 }
 
 /// A clock that stands at 1,700,000,000.
@@ -188,17 +188,18 @@ impl Talk {
     }
 
     /// Fails where the conversation goes otherwise over a port, or doesn't end so.
-    pub fn expect(&self, rt: &impl Machine, end: End) -> Result<(), Fail> {
+    pub fn expect(&self, rt: &impl Machine, end: &End) -> Result<(), Fail> {
         expect_both(rt, &[self.asked()], &[self.told()], end)
     }
 }
 
 /// The status of a run whose connection ended so, and what it says.
-fn status_of(end: End) -> (u8, &'static str) {
+fn status_of(end: &End) -> (u8, &'static str) {
     match end {
         End::Ended => (0, ""),
         End::Truncated => (1, "input ended inside a request"),
         End::BadRequest => (1, "request not understood"),
+        End::Cut(_) => (1, "response cut"),
         End::LinkFault => (3, "link failed"),
         End::Memory => (6, "no memory"),
     }
@@ -222,13 +223,13 @@ pub fn expect_over<P: Port>(
     port: &mut P,
     input: &[&str],
     output: &[&str],
-    end: End,
+    end: &End,
 ) -> Result<(), Fail> {
     let link = link_of(alloc, input)?;
     let mut clock = new_clock();
     let interface = interface(alloc)?;
     let served = serve_connection(alloc, port, link, &mut clock, &mut OpenGate, &interface);
-    if served.end == end && are_joined(served.link.sent(), output) {
+    if status_of(&served.end) == status_of(end) && are_joined(served.link.sent(), output) {
         return Ok(());
     }
     let sent = String::from_utf8_lossy(alloc, served.link.sent())?;
@@ -240,7 +241,7 @@ pub fn expect_from_office(
     alloc: Global,
     input: &[&str],
     output: &[&str],
-    end: End,
+    end: &End,
 ) -> Result<(), Fail> {
     let mut office = TreeOffice::new(alloc, Md5Namer);
     expect_over(alloc, &mut office, input, output, end)
@@ -251,7 +252,7 @@ fn expect_from_store(
     rt: &impl Machine,
     input: &[&str],
     output: &[&str],
-    end: End,
+    end: &End,
 ) -> Result<(), Fail> {
     let alloc = rt.alloc();
     let mut words = Vec::new(alloc);
@@ -294,7 +295,7 @@ pub fn expect_both(
     rt: &impl Machine,
     input: &[&str],
     output: &[&str],
-    end: End,
+    end: &End,
 ) -> Result<(), Fail> {
     expect_from_office(rt.alloc(), input, output, end)?;
     expect_from_store(rt, input, output, end)

@@ -34,7 +34,7 @@ fn another_method_is_told_which_are_allowed(rt: HostRuntime) -> Result<(), Fail>
         talk.go_on(asked.as_str(), told.as_str())?;
     }
     talk.ask(alloc, "GET /stats", "200 OK", NOTHING_KEPT)?;
-    talk.expect(&rt, End::Ended)
+    talk.expect(&rt, &End::Ended)
 }
 
 /// Lines, and the name of what refuses each of them with this status.
@@ -52,7 +52,7 @@ fn expect_refusals(rt: &impl Machine, rows: &[Refused]) -> Result<(), Fail> {
         talk.refuse(alloc, line, status, name)?;
     }
     talk.ask(alloc, "GET /hosts", "200 OK", "{\"hosts\":[\"pc1\"]}")?;
-    talk.expect(rt, End::Ended)
+    talk.expect(rt, &End::Ended)
 }
 
 /// Reads of a file: each line breaks one rule less than the one before, which is the one that was judged first.
@@ -280,7 +280,7 @@ fn a_session_has_one_name(rt: HostRuntime) -> Result<(), Fail> {
         talk.refuse(alloc, line.as_str(), ABSENT, "NoSession")?;
     }
     talk.ask(alloc, "DELETE /dumps/1-1", "200 OK", "{}")?;
-    talk.expect(&rt, End::Ended)
+    talk.expect(&rt, &End::Ended)
 }
 
 /// Paths that break a rule, as a query writes them, and the rule; the first one that is broken is named.
@@ -352,5 +352,5 @@ fn a_path_keeps_the_rules(rt: HostRuntime) -> Result<(), Fail> {
     for row in COMPONENTS {
         refuse_component(alloc, &mut talk, row)?;
     }
-    talk.expect(&rt, End::Ended)
+    talk.expect(&rt, &End::Ended)
 }

@@ -62,7 +62,7 @@ fn a_path_is_decoded_once(rt: HostRuntime) -> Result<(), Fail> {
         read(alloc, &mut talk, path, bytes)?;
         read(alloc, &mut talk, other, bytes)?;
     }
-    talk.expect(&rt, End::Ended)
+    talk.expect(&rt, &End::Ended)
 }
 
 /// Paths as a query writes them, in the order of their bytes, and as JSON writes them: by Python's json.dumps with
@@ -110,7 +110,7 @@ fn a_name_is_a_text_of_json(rt: HostRuntime) -> Result<(), Fail> {
     }
     commit(alloc, &mut talk)?;
     list(alloc, &mut talk, &NAMES)?;
-    talk.expect(&rt, End::Ended)
+    talk.expect(&rt, &End::Ended)
 }
 
 /// The targets of links, and as JSON writes them.
@@ -143,7 +143,7 @@ fn a_target_is_a_text_of_json(rt: HostRuntime) -> Result<(), Fail> {
     for (index, (_, target)) in TARGETS.iter().enumerate() {
         look_up(alloc, &mut talk, index, target)?;
     }
-    talk.expect(&rt, End::Ended)
+    talk.expect(&rt, &End::Ended)
 }
 
 /// Attributes as a query writes them, and the entry that is told of a directory with them.
@@ -185,7 +185,7 @@ fn attributes_are_told_as_they_were_put(rt: HostRuntime) -> Result<(), Fail> {
         let line = format!(in alloc; "GET /hosts/pc1/backups/0/entry?path=d{index}")?;
         talk.ask(alloc, line.as_str(), "200 OK", entry)?;
     }
-    talk.expect(&rt, End::Ended)
+    talk.expect(&rt, &End::Ended)
 }
 
 /// The name of each directory of a path of 4,096 bytes: 16 of them, each with a slash behind it, and a last component of 240 bytes.
@@ -220,5 +220,5 @@ fn a_path_has_up_to_4096_bytes(rt: HostRuntime) -> Result<(), Fail> {
     read(alloc, &mut talk, path.as_str(), "deep")?;
     let line = format!(in alloc; "GET /hosts/pc1/backups/0/file?path={path}d")?;
     talk.refuse(alloc, line.as_str(), "400 Bad Request", "BadPath.TooLong")?;
-    talk.expect(&rt, End::Ended)
+    talk.expect(&rt, &End::Ended)
 }

@@ -1,5 +1,5 @@
 -- What the fields of a head say. A field is a name and a value without the blanks around it; names count in any case.
-use Rattle.std.specs.Prelude.{ℕ, Bool, ◌&&◌, not, nat_lt, ◌==◌, List, [], ◌∷◌, length, Option, Some, None, codes, if◌then◌else◌}
+use Rattle.std.specs.Prelude.{ℕ, Bool, ◌&&◌, ◌||◌, not, nat_lt, ◌==◌, List, [], ◌∷◌, length, Option, Some, None, codes, if◌then◌else◌}
 use Rattle.std.specs.Char.{is_ascii_digit}
 use Rattle.std.specs.List.{filter_map, list_all, list_any, slice_split}
 use Rattle.std.specs.Str.{str_eq_ignore_ascii_case}
@@ -30,7 +30,7 @@ is_number text = nat_lt 0 (length text) && list_all is_ascii_digit text
 
 -- the most bytes of a body
 abbrev pub body_limit : ℕ
-body_limit = 67108864
+body_limit = 1099511627775
 
 -- the digits write a number above it
 abbrev pub is_too_large : List ℕ → Bool
@@ -39,15 +39,26 @@ is_too_large text = nat_lt body_limit (digits_value 10 text)
 abbrev pub has_one_host : FieldList → Bool
 has_one_host fields = length (values_of (codes "Host") fields) == 1
 
-abbrev pub has_transfer_encoding : FieldList → Bool
-has_transfer_encoding fields = nat_lt 0 (length (values_of (codes "Transfer-Encoding") fields))
+-- the encodings in which a body comes
+abbrev pub encodings : FieldList → List (List ℕ)
+encodings fields = values_of (codes "Transfer-Encoding") fields
 
--- the first rule that these lengths break, where the body comes in an encoding or as it is: a head names one length at
--- most, and that is a number; no body comes in an encoding of its own; none is larger than the limit
-unfoldable pub broken_length_rule : List (List ℕ) → Bool → Option HeadRefusal
-broken_length_rule texts encoded =
+abbrev pub has_transfer_encoding : FieldList → Bool
+has_transfer_encoding fields = nat_lt 0 (length (encodings fields))
+
+-- there is one, and it is that of chunks
+abbrev pub names_chunked : FieldList → Bool
+names_chunked fields =
+    (length (encodings fields) == 1) && list_all (λ text. str_eq_ignore_ascii_case text (codes "chunked")) (encodings fields)
+
+-- the first rule that these lengths break, where the body comes in chunks, in an encoding or as it is: a head names one
+-- length at most, and that is a number; chunks come in version 1.1, and without a length; no body comes in another encoding;
+-- none is larger than the limit
+unfoldable pub broken_length_rule : ℕ → List (List ℕ) → Bool → Bool → Option HeadRefusal
+broken_length_rule minor texts chunked encoded =
     if nat_lt 1 (length texts) then Some BadHead
     else if not (list_all is_number texts) then Some BadHead
+    else if chunked then (if (minor == 0) || nat_lt 0 (length texts) then Some BadHead else None)
     else if encoded then Some NoLength
     else if list_any is_too_large texts then Some FileTooLarge
     else None
@@ -56,7 +67,7 @@ broken_length_rule texts encoded =
 unfoldable pub broken_field_rule : ℕ → FieldList → Option HeadRefusal
 broken_field_rule minor fields =
     if (minor == 1) && not (has_one_host fields) then Some BadHead
-    else broken_length_rule (length_texts fields) (has_transfer_encoding fields)
+    else broken_length_rule minor (length_texts fields) (names_chunked fields) (has_transfer_encoding fields)
 
 -- the number that the first text writes
 abbrev pub first_number : List (List ℕ) → Option ℕ

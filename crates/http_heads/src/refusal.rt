@@ -7,9 +7,9 @@ use std::fmt;
 pub enum HeadRefusal {
     /// 400: no head, or its fields contradict each other.
     BadHead,
-    /// 411: the body comes without a length.
+    /// 411: the body comes in another encoding than chunks.
     NoLength,
-    /// 413: the body is larger than 67,108,864 bytes.
+    /// 413: the body is larger than 1,099,511,627,775 bytes.
     FileTooLarge,
     /// 431: more than 16,384 bytes or 64 fields.
     HeadTooLarge,

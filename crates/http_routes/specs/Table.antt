@@ -10,6 +10,10 @@ use Rattle.http_routes.specs.declared.route.Route.{Route}
 use Rattle.http_routes.specs.declared.route.Route.TheVariants.{Hosts, Host, Rules, Dumps, Entry, Commit, Dump, Backups, Backup, BackupList, BackupEntry, BackupFile, Restores, Keep, Next, Restore, Expire, Contacts, Due, Clean, Sweep, Stats, Reopen}
 use Rattle.http_routes.specs.declared.route.Action.{Action}
 use Rattle.http_routes.specs.declared.route.Action.TheVariants as A
+use Rattle.http_routes.specs.declared.route.OfficeAction.TheVariants as O
+use Rattle.http_routes.specs.declared.route.HostAction.TheVariants as H
+use Rattle.http_routes.specs.declared.route.BackupAction.TheVariants as B
+use Rattle.http_routes.specs.declared.route.SessionAction.TheVariants as S
 
 -- a route's text and its name
 abbrev pub Named : Type 0
@@ -49,29 +53,29 @@ Row = List ℕ × Action
 
 -- what a route is for, by the methods that it takes
 abbrev pub actions_of : Route → List Row
-actions_of Hosts = (codes "GET", A.Hosts) ∷ []
-actions_of Host = (codes "PUT", A.AddHost) ∷ []
-actions_of Rules = (codes "PUT", A.SetRules) ∷ []
-actions_of Dumps = (codes "POST", A.OpenDump) ∷ []
-actions_of Entry = (codes "PUT", A.Put) ∷ (codes "DELETE", A.Remove) ∷ []
-actions_of Commit = (codes "POST", A.Commit) ∷ []
-actions_of Dump = (codes "DELETE", A.Abort) ∷ []
-actions_of Backups = (codes "GET", A.Backups) ∷ []
-actions_of Backup = (codes "DELETE", A.Delete) ∷ []
-actions_of BackupList = (codes "GET", A.List) ∷ []
-actions_of BackupEntry = (codes "GET", A.Lookup) ∷ []
-actions_of BackupFile = (codes "GET", A.ReadFile) ∷ []
-actions_of Restores = (codes "POST", A.OpenRead) ∷ []
-actions_of Keep = (codes "POST", A.Keep) ∷ []
-actions_of Next = (codes "GET", A.ReadNext) ∷ []
-actions_of Restore = (codes "DELETE", A.CloseRead) ∷ []
-actions_of Expire = (codes "POST", A.Expire) ∷ []
-actions_of Contacts = (codes "POST", A.Contact) ∷ []
-actions_of Due = (codes "GET", A.Due) ∷ []
-actions_of Clean = (codes "POST", A.Clean) ∷ []
-actions_of Sweep = (codes "POST", A.Sweep) ∷ []
-actions_of Stats = (codes "GET", A.Stats) ∷ []
-actions_of Reopen = (codes "POST", A.Reopen) ∷ []
+actions_of Hosts = (codes "GET", A.Office O.Hosts) ∷ []
+actions_of Host = (codes "PUT", A.Host H.Add) ∷ []
+actions_of Rules = (codes "PUT", A.Host H.SetRules) ∷ []
+actions_of Dumps = (codes "POST", A.Host H.OpenDump) ∷ []
+actions_of Entry = (codes "PUT", A.Session S.Put) ∷ (codes "DELETE", A.Session S.Remove) ∷ []
+actions_of Commit = (codes "POST", A.Session S.Commit) ∷ []
+actions_of Dump = (codes "DELETE", A.Session S.Abort) ∷ []
+actions_of Backups = (codes "GET", A.Host H.Backups) ∷ []
+actions_of Backup = (codes "DELETE", A.Backup B.Delete) ∷ []
+actions_of BackupList = (codes "GET", A.Backup B.List) ∷ []
+actions_of BackupEntry = (codes "GET", A.Backup B.Lookup) ∷ []
+actions_of BackupFile = (codes "GET", A.Backup B.OpenFile) ∷ []
+actions_of Restores = (codes "POST", A.Backup B.OpenRead) ∷ []
+actions_of Keep = (codes "POST", A.Backup B.Keep) ∷ []
+actions_of Next = (codes "GET", A.Session S.ReadNext) ∷ []
+actions_of Restore = (codes "DELETE", A.Session S.CloseRead) ∷ []
+actions_of Expire = (codes "POST", A.Host H.Expire) ∷ []
+actions_of Contacts = (codes "POST", A.Host H.Contact) ∷ []
+actions_of Due = (codes "GET", A.Host H.Due) ∷ []
+actions_of Clean = (codes "POST", A.Office O.Clean) ∷ []
+actions_of Sweep = (codes "POST", A.Office O.Sweep) ∷ []
+actions_of Stats = (codes "GET", A.Office O.Stats) ∷ []
+actions_of Reopen = (codes "POST", A.Office O.Reopen) ∷ []
 
 -- ---- a router's rows
 

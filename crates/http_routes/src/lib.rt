@@ -5,7 +5,7 @@
 //! | Item | What it is |
 //! |---|---|
 //! | `Route` | the routes |
-//! | `Action` | what a method asks for at a route |
+//! | `Action` | what a method asks for at a route, of the office, a host, a backup or a session |
 //! | `router`, `route_of` | the table as a router, and the route of a path |
 //! | `split_target`, `first_part`, `second_part` | the parts of a target and of a path |
 //!
@@ -15,8 +15,8 @@
 //! let action = route_of(&router, path).and_then(|route| route.action(b"POST"));
 //! ```
 //!
-//! One more route is a variant of `Route`, a row of `ROUTES`, an arm of `actions` and one of `allow`, all in `route.rt`, and a row of
-//! `routes` and of `actions_of` in `specs/Table`: its form, its tokens and its place in the router are computed from its text.
+//! One more route is a variant of `Route`, a row of `ROUTES` and an arm of `actions`, all in `route.rt`, and a row of `routes` and of
+//! `actions_of` in `specs/Table`: its form, its tokens and its place in the router are computed from its text.
 #![tactic(auto)]
 
 mod actions;
@@ -28,4 +28,4 @@ mod route;
 pub use laws::{forms_have_routes, routes_have_forms};
 pub use matching::{route_of, router};
 pub use parts::{first_part, second_part, split_target};
-pub use route::{Action, ROUTES, Route};
+pub use route::{Action, BackupAction, HostAction, OfficeAction, ROUTES, Route, SessionAction};

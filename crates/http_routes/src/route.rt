@@ -60,33 +60,59 @@ pub const ROUTES: [(&str, Route); 23] = [
     ("/reopen", Route::Reopen),
 ];
 
-/// What a request asks for: the kind of its event.
+/// What a request asks for, by what its path names.
 #[derive(Clone, Copy, Debug, PartialEq, Eq)]
 pub enum Action {
+    /// The path names nothing.
+    Office(OfficeAction),
+    Host(HostAction),
+    Backup(BackupAction),
+    /// The path names an open dump or restore.
+    Session(SessionAction),
+}
+
+/// What is asked of the whole office.
+#[derive(Clone, Copy, Debug, PartialEq, Eq)]
+pub enum OfficeAction {
     Hosts,
-    AddHost,
-    SetRules,
-    OpenDump,
-    Put,
-    Remove,
-    Commit,
-    Abort,
-    Backups,
-    Delete,
-    List,
-    Lookup,
-    ReadFile,
-    OpenRead,
-    Keep,
-    ReadNext,
-    CloseRead,
-    Expire,
-    Contact,
-    Due,
     Clean,
     Sweep,
     Stats,
     Reopen,
+}
+
+/// What is asked of a host.
+#[derive(Clone, Copy, Debug, PartialEq, Eq)]
+pub enum HostAction {
+    Add,
+    SetRules,
+    OpenDump,
+    Backups,
+    Expire,
+    Contact,
+    Due,
+}
+
+/// What is asked of a backup.
+#[derive(Clone, Copy, Debug, PartialEq, Eq)]
+pub enum BackupAction {
+    Delete,
+    List,
+    Lookup,
+    OpenFile,
+    OpenRead,
+    Keep,
+}
+
+/// What is asked of an open dump or restore.
+#[derive(Clone, Copy, Debug, PartialEq, Eq)]
+pub enum SessionAction {
+    Put,
+    Remove,
+    Commit,
+    Abort,
+    ReadNext,
+    CloseRead,
 }
 
 impl Route {
@@ -95,29 +121,32 @@ impl Route {
         ensures { map row_of result.now ≡ actions_of self }
     {
         match self {
-            Route::Hosts => &[("GET", Action::Hosts)],
-            Route::Host => &[("PUT", Action::AddHost)],
-            Route::Rules => &[("PUT", Action::SetRules)],
-            Route::Dumps => &[("POST", Action::OpenDump)],
-            Route::Entry => &[("PUT", Action::Put), ("DELETE", Action::Remove)],
-            Route::Commit => &[("POST", Action::Commit)],
-            Route::Dump => &[("DELETE", Action::Abort)],
-            Route::Backups => &[("GET", Action::Backups)],
-            Route::Backup => &[("DELETE", Action::Delete)],
-            Route::BackupList => &[("GET", Action::List)],
-            Route::BackupEntry => &[("GET", Action::Lookup)],
-            Route::BackupFile => &[("GET", Action::ReadFile)],
-            Route::Restores => &[("POST", Action::OpenRead)],
-            Route::Keep => &[("POST", Action::Keep)],
-            Route::Next => &[("GET", Action::ReadNext)],
-            Route::Restore => &[("DELETE", Action::CloseRead)],
-            Route::Expire => &[("POST", Action::Expire)],
-            Route::Contacts => &[("POST", Action::Contact)],
-            Route::Due => &[("GET", Action::Due)],
-            Route::Clean => &[("POST", Action::Clean)],
-            Route::Sweep => &[("POST", Action::Sweep)],
-            Route::Stats => &[("GET", Action::Stats)],
-            Route::Reopen => &[("POST", Action::Reopen)],
+            Route::Hosts => &[("GET", Action::Office(OfficeAction::Hosts))],
+            Route::Host => &[("PUT", Action::Host(HostAction::Add))],
+            Route::Rules => &[("PUT", Action::Host(HostAction::SetRules))],
+            Route::Dumps => &[("POST", Action::Host(HostAction::OpenDump))],
+            Route::Entry => &[
+                ("PUT", Action::Session(SessionAction::Put)),
+                ("DELETE", Action::Session(SessionAction::Remove)),
+            ],
+            Route::Commit => &[("POST", Action::Session(SessionAction::Commit))],
+            Route::Dump => &[("DELETE", Action::Session(SessionAction::Abort))],
+            Route::Backups => &[("GET", Action::Host(HostAction::Backups))],
+            Route::Backup => &[("DELETE", Action::Backup(BackupAction::Delete))],
+            Route::BackupList => &[("GET", Action::Backup(BackupAction::List))],
+            Route::BackupEntry => &[("GET", Action::Backup(BackupAction::Lookup))],
+            Route::BackupFile => &[("GET", Action::Backup(BackupAction::OpenFile))],
+            Route::Restores => &[("POST", Action::Backup(BackupAction::OpenRead))],
+            Route::Keep => &[("POST", Action::Backup(BackupAction::Keep))],
+            Route::Next => &[("GET", Action::Session(SessionAction::ReadNext))],
+            Route::Restore => &[("DELETE", Action::Session(SessionAction::CloseRead))],
+            Route::Expire => &[("POST", Action::Host(HostAction::Expire))],
+            Route::Contacts => &[("POST", Action::Host(HostAction::Contact))],
+            Route::Due => &[("GET", Action::Host(HostAction::Due))],
+            Route::Clean => &[("POST", Action::Office(OfficeAction::Clean))],
+            Route::Sweep => &[("POST", Action::Office(OfficeAction::Sweep))],
+            Route::Stats => &[("GET", Action::Office(OfficeAction::Stats))],
+            Route::Reopen => &[("POST", Action::Office(OfficeAction::Reopen))],
         }
     }
 
@@ -128,25 +157,7 @@ impl Route {
     {
         match self {
             Route::Entry => "PUT, DELETE",
-            Route::Hosts
-            | Route::Backups
-            | Route::BackupList
-            | Route::BackupEntry
-            | Route::BackupFile
-            | Route::Next
-            | Route::Due
-            | Route::Stats => "GET",
-            Route::Host | Route::Rules => "PUT",
-            Route::Dumps
-            | Route::Commit
-            | Route::Restores
-            | Route::Keep
-            | Route::Expire
-            | Route::Contacts
-            | Route::Clean
-            | Route::Sweep
-            | Route::Reopen => "POST",
-            Route::Dump | Route::Backup | Route::Restore => "DELETE",
+            _ => self.actions()[0].0,
         }
     }
 }

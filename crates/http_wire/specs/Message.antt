@@ -44,6 +44,12 @@ response_head message =
     status_line message.status ++ field_line (codes "Content-Type") message.content_type
     ++ length_line (length message.body) ++ allow_line message.allow ++ close_line message.closes ++ line_end
 
+-- the head of a response of so many bytes that follow it in parts
+unfoldable pub bytes_head : ℕ → Bool → List ℕ
+bytes_head size closes =
+    status_line 200 ++ field_line (codes "Content-Type") (codes "application/octet-stream")
+    ++ length_line size ++ close_line closes ++ line_end
+
 -- the body, which is left off where the method is HEAD
 abbrev pub body_sent : Message → List ℕ
 body_sent message = if message.is_head then [] else message.body
@@ -57,4 +63,6 @@ continue_response = codes "HTTP/1.1 100 Continue" ++ line_end ++ line_end
 
 -- the response to want of memory
 abbrev pub no_memory_response : List ℕ
-no_memory_response = codes "HTTP/1.1 507 Insufficient Storage" ++ line_end ++ codes "Content-Length: 0" ++ line_end ++ codes "Connection: close" ++ line_end ++ line_end
+no_memory_response =
+    codes "HTTP/1.1 507 Insufficient Storage" ++ line_end ++ codes "Content-Length: 0" ++ line_end ++ codes "Connection: close" ++ line_end
+    ++ line_end

@@ -4,7 +4,8 @@
 //! | Type | What it is |
 //! |---|---|
 //! | `Wire` | a link, with what was read ahead of it |
-//! | `HeadRead`, `BodyRead` | what reading a head or a body comes to |
+//! | `HeadRead` | what reading a head comes to |
+//! | `add_bytes` | the next bytes of a body |
 //! | `Response` | what is written; without memory, too |
 //!
 //! ```text
@@ -19,9 +20,9 @@ mod response;
 mod sending;
 mod wire;
 
-pub use body::{BodyRead, read_body};
+pub use body::add_bytes;
 pub use head::{HeadRead, read_head};
 pub use http_heads::{Head, HeadRefusal, Version};
-pub use response::{CONTINUE, NO_MEMORY, Response, head_text, sent_body};
-pub use sending::{write_no_memory, write_response};
+pub use response::{CONTINUE, NO_MEMORY, Response, bytes_head_text, head_text, sent_body};
+pub use sending::{write_bytes_head, write_no_memory, write_response};
 pub use wire::{Wire, WireFault};

@@ -3,7 +3,7 @@
 ghost use Rattle.std.specs.Prelude.{◌≡◌, ◌++◌, ◌+◌, ◌≤◌, length, IfSome, IsTrue};
 ghost use Rattle.std.specs.Option.{option_copied};
 ghost use Rattle.short_text.specs.Limits.{short_text_limit};
-ghost use Rattle.http_wire.specs.Message.{phrase, status_line, field_line, length_line, allow_line, close_line, response_head, body_sent};
+ghost use Rattle.http_wire.specs.Message.{phrase, status_line, field_line, length_line, allow_line, close_line, bytes_head, response_head, body_sent};
 ghost use Rattle.http_wire.specs.Response.{message_of, HasShortHead};
 
 use http::StatusCode;
@@ -70,6 +70,29 @@ pub fn head_text(response: &Response) -> ShortText
     push_length(&mut text, response.body.len());
     push_allow(&mut text, response.allow);
     push_close(&mut text, response.closes);
+    text.push(EMPTY_LINE);
+    text
+}
+
+/// The status of a response of bytes.
+#[tactic(auto, unfolding(crate::specs::Message::phrase))]
+fn ok_status() -> StatusCode
+    ensures value { result ≡ 200 }
+    ensures short { length (phrase result) ≤ 64 }
+{
+    StatusCode::OK
+}
+
+/// The head of a response of so many bytes that follow it in parts. It takes no memory.
+#[tactic(auto, unfolding(crate::specs::Message::bytes_head))]
+pub fn bytes_head_text(size: u64, closes: bool) -> ShortText
+    ensures { result ≡ bytes_head size closes }
+{
+    let mut text = ShortText::new();
+    push_status(&mut text, ok_status());
+    push_field(&mut text, b"Content-Type", b"application/octet-stream");
+    push_length(&mut text, size as usize);
+    push_close(&mut text, closes);
     text.push(EMPTY_LINE);
     text
 }

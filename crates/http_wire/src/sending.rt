@@ -1,11 +1,11 @@
 ghost use Rattle.std.specs.Prelude.{◌≡◌, ◌++◌, OnOk, OnErr, IsErr};
 ghost use Rattle.fault_counts.specs.Counts.{Counted};
 ghost use Rattle.stream_traits.specs.Told.{behind, WroteFront};
-ghost use Rattle.http_wire.specs.Message.{response_bytes, no_memory_response};
+ghost use Rattle.http_wire.specs.Message.{bytes_head, response_bytes, no_memory_response};
 ghost use Rattle.http_wire.specs.Response.{message_of, HasShortHead};
 ghost use Rattle.http_wire.specs.Wires.{left_of, written_of, sent_of, faults_of};
 
-use crate::response::{NO_MEMORY, Response, head_text, sent_body};
+use crate::response::{NO_MEMORY, Response, bytes_head_text, head_text, sent_body};
 use crate::wire::Wire;
 use std::alloc::AllocError;
 use stream_traits::{Failed, Faults, Link};
@@ -21,6 +21,20 @@ pub fn write_response<L: Link>(wire: &mut Wire<L>, response: &Response) -> Resul
     ensures counted { Counted (faults_of wire.old) (faults_of wire.new) (IsErr result) }
 {
     match write_both(wire, head_text(response).as_slice(), sent_body(response)) {
+        Ok(()) => Ok(()),
+        Err(Failed) => Err(Failed),
+    }
+}
+
+/// Writes the head of a response of so many bytes, which are to follow in parts. It takes no memory.
+pub fn write_bytes_head<L: Link>(wire: &mut Wire<L>, size: u64, closes: bool) -> Result<(), Failed>
+    ensures all { OnOk result (written_of wire.new ≡ behind (written_of wire.old) (bytes_head size closes)) }
+    ensures front { OnErr result (WroteFront (written_of wire.old) (written_of wire.new) (bytes_head size closes)) }
+    ensures sent { sent_of wire.new ≡ sent_of wire.old }
+    ensures left { left_of wire.new ≡ left_of wire.old }
+    ensures counted { Counted (faults_of wire.old) (faults_of wire.new) (IsErr result) }
+{
+    match wire.write(bytes_head_text(size, closes).as_slice()) {
         Ok(()) => Ok(()),
         Err(Failed) => Err(Failed),
     }

@@ -51,9 +51,6 @@ impl From<AllocError> for WireFault {
 /// The room for what is read ahead: three heads of the most bytes.
 const ROOM: usize = 49_152;
 
-/// The most bytes of a body that are read in one call, and for which there is memory before they come.
-pub(crate) const PIECE: usize = 65_536;
-
 /// The most bytes of a body that are copied behind its head, so that both are given to the link in one write.
 const JOINED: usize = 65_536;
 
@@ -75,7 +72,7 @@ pub struct Wire<L: Link> {
 }
 
 impl<L: Link> Wire<L> {
-    ghost use Rattle.http_wire.specs.Wires.{ahead_of, link_left, left_of, written_of, sent_of, faults_of, ReadsAhead};
+    ghost use Rattle.http_wire.specs.Wires.{ahead_of, link_left, left_of, written_of, sent_of, faults_of, ReadsAhead, TakesAhead};
 
     /// A wire over a link, of which nothing is read ahead. What was written to the link before isn't known to be sent.
     /// It takes no memory.
@@ -114,7 +111,7 @@ impl<L: Link> Wire<L> {
     }
 
     /// Writes bytes, and sends nothing.
-    pub(crate) fn write(&mut self, bytes: &[u8]) -> Result<(), Failed>
+    pub fn write(&mut self, bytes: &[u8]) -> Result<(), Failed>
         ensures all { OnOk result (written_of self.new ≡ behind (written_of self.old) bytes.now) }
         ensures front { OnErr result (WroteFront (written_of self.old) (written_of self.new) bytes.now) }
         ensures sent { sent_of self.new ≡ sent_of self.old }
@@ -183,32 +180,15 @@ impl<L: Link> Wire<L> {
         }
     }
 
-    /// Sends what was written, if fewer bytes than these were read ahead.
-    pub(crate) fn send_before(&mut self, count: usize) -> Result<(), Failed>
-        ensures sent { OnOk result (length (ahead_of self.old) < count → sent_of self.new ≡ written_of self.new) }
-        ensures written { written_of self.new ≡ written_of self.old }
-        ensures ahead { ahead_of self.new ≡ ahead_of self.old }
-        ensures left { link_left self.new ≡ link_left self.old }
-        ensures counted { Counted (faults_of self.old) (faults_of self.new) (IsErr result) }
-    {
-        if self.to - self.from >= count {
-            return Ok(());
-        }
-        match self.send() {
-            Ok(()) => Ok(()),
-            Err(Failed) => Err(Failed),
-        }
-    }
-
     /// The bytes that were read and not taken.
-    pub(crate) fn ahead(&self) -> &[u8]
+    pub fn ahead(&self) -> &[u8]
         ensures { result.now ≡ ahead_of self.now }
     {
         &self.room[self.from..self.to]
     }
 
     /// Takes the first bytes of those that were read ahead.
-    pub(crate) fn take(&mut self, count: usize)
+    pub fn take(&mut self, count: usize)
         requires { count ≤ length (ahead_of self.old) }
         ensures ahead { ahead_of self.new ≡ drop count (ahead_of self.old) }
         ensures link { self.new.link ≡ self.old.link }
@@ -216,24 +196,27 @@ impl<L: Link> Wire<L> {
         self.from += count;
     }
 
-    /// Takes at most so many of the bytes that were read ahead, in memory of their own with room for a piece more.
-    pub(crate) fn take_copy(&mut self, alloc: Global, most: usize) -> Result<Vec<u8>, AllocError>
-        ensures took { IfOk result (λ copy. ahead_of self.old ≡ copy.items ++ ahead_of self.new) }
-        ensures fits { IfOk result (λ copy. length copy.items ≤ most) }
-        ensures none { IfOk result (λ copy. length copy.items < most → ahead_of self.new ≡ []) }
+    /// Takes at most so many of the bytes that were read ahead, puts them behind those that are there, and says how many.
+    pub(crate) fn take_into(
+        &mut self,
+        bytes: &mut Vec<u8>,
+        most: usize,
+    ) -> Result<usize, AllocError>
+        ensures took { IfOk result (λ count. TakesAhead bytes.old.items bytes.new.items (ahead_of self.old) (ahead_of self.new) count) }
+        ensures fits { IfOk result (λ count. count ≤ most) }
+        ensures none { IfOk result (λ count. count < most → ahead_of self.new ≡ []) }
         ensures err { OnErr result (ahead_of self.new ≡ ahead_of self.old) }
         ensures link { self.new.link ≡ self.old.link }
     {
         let count = most.min(self.to - self.from);
-        let mut copy = Vec::with_capacity(alloc, most.min(count + PIECE))?;
-        copy.extend_from_slice(&self.ahead()[..count])?;
+        bytes.extend_from_slice(&self.ahead()[..count])?;
         self.take(count);
-        Ok(copy)
+        Ok(count)
     }
 
     /// Sends what was written, reads a piece behind what was read ahead, and says how many bytes came: none at the end
     /// of the link.
-    pub(crate) fn fill(&mut self, alloc: Global) -> Result<usize, WireFault>
+    pub fn fill(&mut self, alloc: Global) -> Result<usize, WireFault>
         requires { length (ahead_of self.old) < head_limit }
         ensures came { IfOk result (ReadsAhead (ahead_of self.old) (ahead_of self.new) (link_left self.old) (link_left self.new)) }
         ensures end { IfOk result (λ count. count ≡ 0 → IsEnd (link_left self.old)) }
@@ -276,7 +259,7 @@ impl<L: Link> Wire<L> {
             self.room = zeros(alloc, ROOM)?;
             return Ok(());
         }
-        if self.room.len() - self.to < HEAD_LIMIT {
+        if self.from == self.to || self.room.len() - self.to < HEAD_LIMIT {
             move_to_front(self.room.as_mut_slice(), self.from, self.to);
             self.to -= self.from;
             self.from = 0;

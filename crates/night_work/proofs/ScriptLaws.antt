@@ -13,7 +13,7 @@ use Rattle.office_model.specs.declared.answer.Answer.{Answer}
 use Rattle.office_model.specs.declared.answer.Answer.TheVariants as A
 use Rattle.office_model.specs.declared.refusal.Refusal.{Refusal}
 use Rattle.office_model.specs.Step.{Call}
-use Rattle.browse_http.specs.Scripts.{FollowsAfter}
+use Rattle.call_scripts.specs.Scripts.{FollowsAfter}
 use Rattle.night_work.specs.declared.ends.Night.{Night}
 use Rattle.night_work.specs.declared.ends.NightEnd.TheVariants.{Done, Refused}
 use Rattle.night_work.specs.Script.{events_after, each_of, night_script, night_buckets, night_of, total}

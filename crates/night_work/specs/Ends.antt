@@ -7,8 +7,8 @@ use Rattle.office_model.specs.declared.event.Event.TheVariants as E
 use Rattle.office_model.specs.declared.answer.Answer.TheVariants as A
 use Rattle.office_model.specs.declared.refusal.Refusal.{Refusal}
 use Rattle.office_model.specs.Step.{Call}
-use Rattle.browse_http.specs.Scripts.{Follows}
-use Rattle.browse_http.specs.Talk.{Gave}
+use Rattle.call_scripts.specs.Scripts.{Follows}
+use Rattle.call_scripts.specs.Moments.{Gave}
 use Rattle.night_work.specs.declared.ends.NightEnd.{NightEnd}
 use Rattle.night_work.specs.declared.ends.NightEnd.TheVariants.{Done, NotNow, Refused, Memory}
 use Rattle.night_work.specs.Script.{is_due, night_buckets, night_script, night_of}

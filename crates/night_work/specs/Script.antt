@@ -12,7 +12,7 @@ use Rattle.office_model.specs.declared.event.Event.TheVariants as E
 use Rattle.office_model.specs.declared.answer.Answer.{Answer}
 use Rattle.office_model.specs.declared.answer.Answer.TheVariants as A
 use Rattle.office_model.specs.Step.{Call}
-use Rattle.browse_http.specs.Scripts.{Script}
+use Rattle.call_scripts.specs.Scripts.{Script}
 use Rattle.night_work.specs.declared.ends.Night.{Night}
 
 -- ---- whether it is time

@@ -9,7 +9,7 @@ use http_heads::{Front, Head, read_front};
 use http_routes::router;
 use office_model::{Answer, Event, Port, Refusal};
 use reply_bodies::{answer_body, answer_text, refusal_text};
-use request_events::{Defaults, event_asked};
+use request_events::{Defaults, event_of, plan_of};
 use std::alloc::{AllocError, Global};
 use std::test::Fail;
 use stream_traits::Moment;
@@ -39,13 +39,16 @@ fn defaults(alloc: Global) -> Result<Defaults, Fail> {
 }
 
 /// The event of a head with its body.
-fn event_of(alloc: Global, now: Moment, head: &Head, body: &str) -> Result<Event, Fail> {
+fn event_asked(alloc: Global, now: Moment, head: &Head, body: &str) -> Result<Event, Fail> {
     let Ok(router) = router(alloc) else {
         return Err(Fail::new("no router"));
     };
     let defaults = defaults(alloc)?;
     let body = Vec::from_slice(alloc, body.as_bytes())?;
-    match event_asked(alloc, &router, head, body, now, &defaults) {
+    let Ok(plan) = plan_of(alloc, &router, head) else {
+        return Err(Fail::new("no plan"));
+    };
+    match event_of(alloc, plan, body, now, &defaults) {
         Ok(event) => Ok(event),
         Err(_) => Err(Fail::new("no event")),
     }
@@ -56,7 +59,7 @@ pub fn event_at(alloc: Global, now: Moment, ask: &str, body: &str) -> Result<Eve
     let count = body.len();
     let text = format!(in alloc; "{ask} HTTP/1.1\r\nHost: b\r\nContent-Length: {count}\r\n\r\n")?;
     match read_front(alloc, text.as_bytes())? {
-        Front::Whole { len: _, head } => event_of(alloc, now, &head, body),
+        Front::Whole { len: _, head } => event_asked(alloc, now, &head, body),
         _ => Err(Fail::new("no head")),
     }
 }
@@ -85,9 +88,26 @@ pub fn is_told(
     body: &str,
 ) -> Result<bool, AllocError> {
     match reply {
-        Ok(Answer::Content(bytes)) => Ok(bytes.as_slice() == body.as_bytes()),
+        Ok(Answer::Content(bytes) | Answer::Part(bytes)) => {
+            Ok(bytes.as_slice() == body.as_bytes())
+        }
         Ok(answer) => has_body(alloc, event, answer, body.as_bytes()),
         Err(refusal) => Ok(refusal_text(refusal).as_slice() == body.as_bytes()),
+    }
+}
+
+/// The first part of an open file, which is closed.
+fn first_part<P: Port>(alloc: Global, port: &mut P, reader: u64) -> Result<Answer, Refusal> {
+    let reply = port.call(alloc, &Event::ReadPart { reader });
+    let _closed = port.call(alloc, &Event::CloseFile { reader });
+    reply
+}
+
+/// The reply to an event. A file that it opens is read, too: the files of tests have no more than one part.
+fn reply_to<P: Port>(alloc: Global, port: &mut P, event: &Event) -> Result<Answer, Refusal> {
+    match port.call(alloc, event) {
+        Ok(Answer::Opened { reader, size: _ }) => first_part(alloc, port, reader),
+        reply => reply,
     }
 }
 
@@ -99,7 +119,7 @@ pub fn is_answered<P: Port>(
     row: &Row,
 ) -> Result<bool, Fail> {
     let event = event_at(alloc, now, row.0, row.1)?;
-    let reply = port.call(alloc, &event);
+    let reply = reply_to(alloc, port, &event);
     Ok(is_told(alloc, &event, &reply, row.2)?)
 }
 
@@ -111,7 +131,7 @@ pub fn expect_row<P: Port>(
     row: &Row,
 ) -> Result<(), Fail> {
     let event = event_at(alloc, now, row.0, row.1)?;
-    let reply = port.call(alloc, &event);
+    let reply = reply_to(alloc, port, &event);
     if is_told(alloc, &event, &reply, row.2)? {
         return Ok(());
     }

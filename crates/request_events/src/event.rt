@@ -1,38 +1,34 @@
 ghost use Rattle.std.specs.Prelude.{◌≡◌, Ok};
-ghost use Rattle.http_routes.specs.Table.{table};
 ghost use Rattle.request_events.specs.Said.{Says};
-ghost use Rattle.request_events.specs.Events.{event_of, put_event, local_in, event_asked};
+ghost use Rattle.request_events.specs.Events.{event_of, file_event, link_event, local_in};
 ghost use Rattle.office_model.specs.declared.event.Event.TheVariants as E;
 
 use crate::defaults::Defaults;
-use crate::items::{PlannedItem, item_of};
-use crate::plan::{Plan, plan_of};
-use crate::refusal::RequestFault;
-use attr_records::{HostName, PathName};
-use http_heads::Head;
-use http_routes::Route;
-use matchit::Router;
+use crate::plan::{FilePut, Plan};
+use crate::refusal::{RequestFault, RequestRefusal};
+use attr_records::{Attr, BadTarget, File, HostName, Item, Link, LinkTarget, PathName};
+use disk_trait::Bytes;
 use office_model::{Event, PutItem, SessionName};
 use std::alloc::Global;
 use stream_traits::Moment;
 
-/// The event of a plan, a body, the moment after it and the settings, or why the request is refused. `has_length` tells whether
-/// the head named the length of the body.
+/// The event of a plan, a body, the moment after it and the settings, or why the request is refused. Of the body it takes no more
+/// than `looked_at` tells.
 pub fn event_of(
     alloc: Global,
     plan: Plan,
-    has_length: bool,
     body: Vec<u8>,
     now: Moment,
     defaults: &Defaults,
 ) -> Result<Event, RequestFault>
-    ensures { Says result (event_of plan has_length body.items now defaults.now) }
+    ensures { Says result (event_of plan body.items now defaults.now) }
 {
     match plan {
         Plan::Ready(event) => Ok(event),
         Plan::AddHost { host } => add_host(alloc, host, defaults),
         Plan::OpenDump { host, kind } => Ok(Event::OpenDump { host, kind, now }),
-        Plan::Put { dump, path, item } => put(alloc, dump, path, item, has_length, body),
+        Plan::PutFile(put) => Ok(put_file(put, body)),
+        Plan::PutLink { dump, path, attr } => put_link(alloc, dump, path, attr, body),
         Plan::Commit { dump } => Ok(Event::Commit { dump, now }),
         Plan::Expire { host } => Ok(Event::Expire { host, now }),
         Plan::Due { host } => Ok(due(host, now, defaults)),
@@ -55,36 +51,38 @@ fn due(host: HostName, now: Moment, defaults: &Defaults) -> Event
     Event::Due { host, now, local }
 }
 
-/// The put of an item of which this is planned.
-fn put(
+/// The put of a file with these bytes.
+fn put_file(put: FilePut, bytes: Vec<u8>) -> Event
+    ensures { result ≡ file_event put bytes.items }
+{
+    let file = File {
+        attr: put.attr,
+        group: put.group,
+        bytes: Bytes::from_vec(bytes),
+    };
+    Event::Put {
+        dump: put.dump,
+        path: put.path,
+        item: PutItem::Whole(Item::File(file)),
+    }
+}
+
+/// The put of a link with this target, or the refusal of the target.
+fn put_link(
     alloc: Global,
     dump: SessionName,
     path: PathName,
-    item: PlannedItem,
-    has_length: bool,
-    body: Vec<u8>,
+    attr: Attr,
+    target: Vec<u8>,
 ) -> Result<Event, RequestFault>
-    ensures { Says result (put_event dump path item has_length body.items) }
+    ensures { Says result (link_event dump path attr target.items) }
 {
-    let item = item_of(alloc, item, has_length, body)?;
-    let item = PutItem::Whole(item);
-    Ok(Event::Put { dump, path, item })
-}
-
-/// The event that a request asks for, or why it is refused: the plan of its head, with its body, the moment after it and the
-/// settings.
-#[tactic(auto, unfolding(crate::specs::Events::event_asked))]
-pub fn event_asked(
-    alloc: Global,
-    router: &Router<Route>,
-    head: &Head,
-    body: Vec<u8>,
-    now: Moment,
-    defaults: &Defaults,
-) -> Result<Event, RequestFault>
-    requires { router.now ≡ table }
-    ensures { Says result (event_asked head.now body.items now defaults.now) }
-{
-    let plan = plan_of(alloc, router, head)?;
-    event_of(alloc, plan, head.length().is_some(), body, now, defaults)
+    match LinkTarget::read(alloc, target.as_slice()) {
+        Ok(target) => {
+            let item = PutItem::Whole(Item::Link(Link { attr, target }));
+            Ok(Event::Put { dump, path, item })
+        }
+        Err(BadTarget::BadTarget) => Err(RequestFault::Refused(RequestRefusal::BadTarget)),
+        Err(BadTarget::Memory) => Err(RequestFault::Memory),
+    }
 }

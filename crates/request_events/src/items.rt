@@ -1,17 +1,15 @@
-//! The item of a put: what the query says of it, and with its body.
+//! What the query of a put says of its item.
 
 ghost use Rattle.std.specs.Prelude.{◌≡◌, ◌≤◌, ◌-◌, ◌^◌, pos, codes, IfSome};
 ghost use Rattle.http_query.specs.Numbers.{number_of, mode_of, seconds_of};
 ghost use Rattle.request_events.specs.Said.{Says};
 ghost use Rattle.request_events.specs.Values.{value_in, value_or};
-ghost use Rattle.request_events.specs.Items.{item_kind_of, number_or, nanos_or, default_mode, attributes_of, planned_as, planned_item_of, planned_item_in, item_of};
+ghost use Rattle.request_events.specs.Items.{item_kind_of, number_or, nanos_or, default_mode, attributes_of, attributes_in, group_in};
 
-use crate::refusal::{RequestFault, RequestRefusal};
+use crate::refusal::RequestFault;
 use crate::values::{MISSING, in_form};
-use attr_records::{Attr, BadTarget, Dir, File, Item, Link, LinkTarget};
-use disk_trait::Bytes;
+use attr_records::Attr;
 use http_query::{Query, read_mode, read_number, read_seconds};
-use std::alloc::Global;
 
 /// The kinds of an item.
 #[derive(Clone, Copy, Debug, PartialEq, Eq)]
@@ -19,16 +17,6 @@ pub enum ItemKind {
     File,
     Dir,
     Link,
-}
-
-/// An item without what the body is of it.
-#[derive(Clone, Copy, Debug, PartialEq)]
-pub enum PlannedItem {
-    /// The body is its bytes.
-    File { attr: Attr, group: u32 },
-    Dir { attr: Attr },
-    /// The body is its target.
-    Link { attr: Attr },
 }
 
 /// The kind of an item that a text names.
@@ -130,58 +118,16 @@ fn attributes_of(kind: ItemKind, query: &Query) -> Option<Attr>
     Some(Attr::new(mode, uid, gid, mtime, nanos))
 }
 
-/// An item of a kind with these attributes.
-fn planned_as(kind: ItemKind, query: &Query, attr: Attr) -> Option<PlannedItem>
-    ensures { result ≡ planned_as kind query.now attr }
+/// The attributes of an item of a kind, or the refusal of a value.
+pub fn attributes_in(kind: ItemKind, query: &Query) -> Result<Attr, RequestFault>
+    ensures { Says result (attributes_in kind query.now) }
 {
-    match kind {
-        ItemKind::File => {
-            let group = number_or(query, "group")?;
-            Some(PlannedItem::File { attr, group })
-        }
-        ItemKind::Dir => Some(PlannedItem::Dir { attr }),
-        ItemKind::Link => Some(PlannedItem::Link { attr }),
-    }
+    in_form(attributes_of(kind, query))
 }
 
-/// What the query says of an item of a kind.
-#[tactic(auto, unfolding(crate::specs::Items::planned_item_of))]
-fn planned_item_of(kind: ItemKind, query: &Query) -> Option<PlannedItem>
-    ensures { result ≡ planned_item_of kind query.now }
+/// The group of a file, or the refusal of its value.
+pub fn group_in(query: &Query) -> Result<u32, RequestFault>
+    ensures { Says result (group_in query.now) }
 {
-    let attr = attributes_of(kind, query)?;
-    planned_as(kind, query, attr)
-}
-
-/// What the query says of an item of a kind, or the refusal of a value.
-pub fn planned_item_in(kind: ItemKind, query: &Query) -> Result<PlannedItem, RequestFault>
-    ensures { Says result (planned_item_in kind query.now) }
-{
-    in_form(planned_item_of(kind, query))
-}
-
-/// The item whose bytes or target the body is. The number of a file's bytes has to be known before them.
-pub fn item_of(
-    alloc: Global,
-    planned: PlannedItem,
-    has_length: bool,
-    body: Vec<u8>,
-) -> Result<Item, RequestFault>
-    ensures { Says result (item_of planned has_length body.items) }
-{
-    match planned {
-        PlannedItem::File { attr, group } => {
-            if !has_length {
-                return Err(RequestFault::Refused(RequestRefusal::NoLength));
-            }
-            let bytes = Bytes::from_vec(body);
-            Ok(Item::File(File { attr, group, bytes }))
-        }
-        PlannedItem::Dir { attr } => Ok(Item::Dir(Dir { attr })),
-        PlannedItem::Link { attr } => match LinkTarget::read(alloc, body.as_slice()) {
-            Ok(target) => Ok(Item::Link(Link { attr, target })),
-            Err(BadTarget::BadTarget) => Err(RequestFault::Refused(RequestRefusal::BadTarget)),
-            Err(BadTarget::Memory) => Err(RequestFault::Memory),
-        },
-    }
+    in_form(number_or(query, "group"))
 }

@@ -1,35 +1,36 @@
 ghost use Rattle.std.specs.Prelude.{◌≡◌, codes};
 ghost use Rattle.http_query.specs.Keys.{rows_of};
 ghost use Rattle.http_query.specs.Query.{value_of};
-ghost use Rattle.request_events.specs.Keys.{put_keys, taken};
+ghost use Rattle.request_events.specs.Keys.{keys_of, put_keys, taken};
 ghost use Rattle.request_events.specs.Said.{Says};
 
 use crate::refusal::{RequestFault, RequestRefusal};
 use http_query::{Key, Query};
+use http_routes::{Action, BackupAction, HostAction, OfficeAction, SessionAction};
 
 // Keys that must be there if they are taken.
 
-pub const PATH: Key = Key {
+const PATH: Key = Key {
     name: "path",
     needed: true,
 };
 
-pub const KIND: Key = Key {
+const KIND: Key = Key {
     name: "kind",
     needed: true,
 };
 
-pub const ON: Key = Key {
+const ON: Key = Key {
     name: "on",
     needed: true,
 };
 
-pub const GOOD: Key = Key {
+const GOOD: Key = Key {
     name: "good",
     needed: true,
 };
 
-pub const BUCKET: Key = Key {
+const BUCKET: Key = Key {
     name: "bucket",
     needed: true,
 };
@@ -67,13 +68,13 @@ const GROUP: Key = Key {
 };
 
 /// The key `path` of a listing, which is of the root without it.
-pub const PLACE: Key = Key {
+const PLACE: Key = Key {
     name: "path",
     needed: false,
 };
 
 /// The keys of rules.
-pub const RULE_KEYS: [Key; 15] = [
+const RULE_KEYS: [Key; 15] = [
     Key {
         name: "FillCycle",
         needed: false,
@@ -143,7 +144,7 @@ const ENTRY_KEYS: [Key; 7] = [PATH, KIND, MODE, UID, GID, MTIME, NANOS];
 const FILE_KEYS: [Key; 8] = [PATH, KIND, MODE, UID, GID, MTIME, NANOS, GROUP];
 
 /// The keys of a put, by the kind that the query names.
-pub fn put_keys(query: &Query) -> &'static [Key]
+fn put_keys(query: &Query) -> &'static [Key]
     ensures { rows_of result.now ≡ put_keys (value_of (codes "kind") query.now) }
 {
     match query.value("kind") {
@@ -155,6 +156,24 @@ pub fn put_keys(query: &Query) -> &'static [Key]
             }
         }
         None => &ENTRY_KEYS,
+    }
+}
+
+/// The keys that an action takes.
+pub fn keys_of(action: Action, query: &Query) -> &'static [Key]
+    ensures { rows_of result.now ≡ keys_of action query.now }
+{
+    match action {
+        Action::Office(OfficeAction::Clean) => &[BUCKET],
+        Action::Host(HostAction::SetRules) => &RULE_KEYS,
+        Action::Host(HostAction::OpenDump) => &[KIND],
+        Action::Host(HostAction::Contact) => &[GOOD],
+        Action::Backup(BackupAction::List) => &[PLACE],
+        Action::Backup(BackupAction::Lookup | BackupAction::OpenFile) => &[PATH],
+        Action::Backup(BackupAction::Keep) => &[ON],
+        Action::Session(SessionAction::Put) => put_keys(query),
+        Action::Session(SessionAction::Remove) => &[PATH],
+        _ => &[],
     }
 }
 

@@ -1,18 +1,16 @@
 ghost use Rattle.std.specs.Prelude.{◌≡◌};
 ghost use Rattle.http_routes.specs.Table.{table};
 ghost use Rattle.request_events.specs.Said.{Says};
-ghost use Rattle.request_events.specs.Targets.{target_parts};
-ghost use Rattle.request_events.specs.Plans.{action_asked, plan_for, planned};
+ghost use Rattle.request_events.specs.Plans.{action_asked, has_length, is_file, measured, plan_for, planned};
 
-use crate::backups::{delete, keep, list_backups, list_entries, look_up, open_read, read_file};
-use crate::dumps::{abort, commit, open_dump, put, remove};
-use crate::hosts::{add_host, contact, due, expire, list_hosts, set_rules};
-use crate::items::PlannedItem;
-use crate::night::{clean, reopen, stats, sweep};
+use crate::backups::backup_event;
+use crate::hosts::host_plan;
+use crate::keys::{keys_of, taken};
+use crate::names::{host_in, number_in, session_in};
+use crate::office::office_event;
 use crate::refusal::{RequestFault, RequestRefusal};
-use crate::restores::{close_read, read_next};
-use crate::target::Target;
-use attr_records::{HostName, PathName};
+use crate::sessions::session_plan;
+use attr_records::{Attr, HostName, PathName};
 use backup_rules::Kind;
 use http_heads::Head;
 use http_query::Query;
@@ -20,6 +18,16 @@ use http_routes::{Action, Route, route_of, split_target};
 use matchit::Router;
 use office_model::{Event, SessionName};
 use std::alloc::Global;
+
+/// The put of a file, but for its bytes.
+#[derive(Debug, Drop)]
+pub struct FilePut {
+    pub dump: SessionName,
+    pub path: PathName,
+    pub attr: Attr,
+    /// Files of one group other than 0 are hard links of one file.
+    pub group: u32,
+}
 
 /// What a head asks for: an event, or what lacks its body, the moment or the settings to be one.
 #[derive(Debug, Drop)]
@@ -35,11 +43,13 @@ pub enum Plan {
         host: HostName,
         kind: Kind,
     },
-    /// The body is what the item lacks.
-    Put {
+    /// The body is the file's bytes.
+    PutFile(FilePut),
+    /// The body is the link's target.
+    PutLink {
         dump: SessionName,
         path: PathName,
-        item: PlannedItem,
+        attr: Attr,
     },
     /// The moment is that after the body.
     Commit {
@@ -64,7 +74,31 @@ pub fn plan_of(alloc: Global, router: &Router<Route>, head: &Head) -> Result<Pla
     let (path, query) = split_target(head.target());
     let action = action_asked(router, path, head.method())?;
     let query = Query::read(alloc, query.as_bytes())?;
-    plan_for(alloc, action, &Target { path, query })
+    let plan = plan_for(alloc, action, path, &query)?;
+    measured(has_length(head), plan)
+}
+
+/// Whether the end of the body is known: it has a length, or comes in chunks.
+fn has_length(head: &Head) -> bool
+    ensures { result ≡ has_length head.now }
+{
+    head.length().is_some() || head.is_chunked()
+}
+
+fn is_file(plan: &Plan) -> bool
+    ensures { result ≡ is_file plan.now }
+{
+    matches!(plan, Plan::PutFile(_))
+}
+
+/// The plan, unless it is of a file whose bytes have no length.
+fn measured(has_length: bool, plan: Plan) -> Result<Plan, RequestFault>
+    ensures { Says result (measured has_length plan) }
+{
+    if is_file(&plan) && !has_length {
+        return Err(RequestFault::Refused(RequestRefusal::NoLength));
+    }
+    Ok(plan)
 }
 
 /// What a method asks for at a path.
@@ -81,34 +115,30 @@ fn action_asked(router: &Router<Route>, path: &str, method: &[u8]) -> Result<Act
     }
 }
 
-/// What a target asks for by this action.
-fn plan_for(alloc: Global, action: Action, target: &Target<'_>) -> Result<Plan, RequestFault>
-    ensures { Says result (plan_for action (target_parts target.now)) }
+/// What an action asks for: the names of the path are judged first, then the keys of the query, then their values.
+fn plan_for(alloc: Global, action: Action, path: &str, query: &Query) -> Result<Plan, RequestFault>
+    ensures { Says result (plan_for action path.now query.now) }
 {
+    let keys = keys_of(action, query);
     match action {
-        Action::Hosts => list_hosts(target),
-        Action::AddHost => add_host(alloc, target),
-        Action::SetRules => set_rules(alloc, target),
-        Action::OpenDump => open_dump(alloc, target),
-        Action::Put => put(alloc, target),
-        Action::Remove => remove(alloc, target),
-        Action::Commit => commit(target),
-        Action::Abort => abort(target),
-        Action::Backups => list_backups(alloc, target),
-        Action::Delete => delete(alloc, target),
-        Action::List => list_entries(alloc, target),
-        Action::Lookup => look_up(alloc, target),
-        Action::ReadFile => read_file(alloc, target),
-        Action::OpenRead => open_read(alloc, target),
-        Action::Keep => keep(alloc, target),
-        Action::ReadNext => read_next(target),
-        Action::CloseRead => close_read(target),
-        Action::Expire => expire(alloc, target),
-        Action::Contact => contact(alloc, target),
-        Action::Due => due(alloc, target),
-        Action::Clean => clean(target),
-        Action::Sweep => sweep(target),
-        Action::Stats => stats(target),
-        Action::Reopen => reopen(target),
+        Action::Office(action) => {
+            taken(keys, query)?;
+            Ok(Plan::Ready(office_event(action, query)?))
+        }
+        Action::Host(action) => {
+            let host = host_in(alloc, path)?;
+            taken(keys, query)?;
+            host_plan(alloc, action, host, query)
+        }
+        Action::Backup(action) => {
+            let host = host_in(alloc, path)?;
+            let number = number_in(path)?;
+            taken(keys, query)?;
+            Ok(Plan::Ready(backup_event(alloc, action, host, number, query)?))
+        }
+        Action::Session(action) => {
+            taken(keys, query)?;
+            session_plan(alloc, action, session_in(path), query)
+        }
     }
 }

@@ -7,6 +7,7 @@ struct Want {
     head: &'static [u8],
     version: Version,
     length: Option<u64>,
+    chunked: bool,
     expects_continue: bool,
     closes: bool,
 }
@@ -15,11 +16,12 @@ const PLAIN: Want = Want {
     head: b"GET /a?b HTTP/1.1\r\nHost: b\r\n\r\n",
     version: Version::Http11,
     length: None,
+    chunked: false,
     expects_continue: false,
     closes: false,
 };
 
-const READ: [Want; 16] = [
+const READ: [Want; 18] = [
     PLAIN,
     Want {
         head: b"\n\r\nGET /a?b HTTP/1.1\nhost:b\n\n",
@@ -44,13 +46,24 @@ const READ: [Want; 16] = [
         ..PLAIN
     },
     Want {
-        head: b"GET /a?b HTTP/1.1\r\nHost: b\r\nContent-Length: \t67108864 \r\n\r\n",
-        length: Some(67_108_864),
+        head: b"GET /a?b HTTP/1.1\r\nHost: b\r\nContent-Length: \t1099511627775 \r\n\r\n",
+        length: Some(1_099_511_627_775),
         ..PLAIN
     },
     Want {
         head: b"GET /a?b HTTP/1.1\r\nHost: b\r\nExpect: 100-Continue\r\nContent-Length: 1\r\n\r\n",
         length: Some(1),
+        expects_continue: true,
+        ..PLAIN
+    },
+    Want {
+        head: b"GET /a?b HTTP/1.1\r\nHost: b\r\nTransfer-Encoding: chunked\r\n\r\n",
+        chunked: true,
+        ..PLAIN
+    },
+    Want {
+        head: b"GET /a?b HTTP/1.1\r\ntransfer-encoding:\tChunKED \r\nHost: b\r\nExpect: 100-continue\r\n\r\n",
+        chunked: true,
         expects_continue: true,
         ..PLAIN
     },
@@ -140,11 +153,11 @@ const REFUSED: [(&[u8], HeadRefusal); 18] = [
         HeadRefusal::NoLength,
     ),
     (
-        b"GET / HTTP/1.0\r\nTransfer-Encoding: chunked\r\nContent-Length: 67108865\r\n\r\n",
+        b"GET / HTTP/1.0\r\nTransfer-Encoding: gzip\r\nContent-Length: 1099511627776\r\n\r\n",
         HeadRefusal::NoLength,
     ),
     (
-        b"GET / HTTP/1.0\r\nContent-Length: 67108865\r\n\r\n",
+        b"GET / HTTP/1.0\r\nContent-Length: 1099511627776\r\n\r\n",
         HeadRefusal::FileTooLarge,
     ),
     (
@@ -154,6 +167,58 @@ const REFUSED: [(&[u8], HeadRefusal); 18] = [
     (
         b"GET / HTTP/1.0\r\nContent-Length: 999999999999999999999999999999\r\n\r\n",
         HeadRefusal::FileTooLarge,
+    ),
+];
+
+/// Heads that a server and what stands before it could read as bodies of two lengths.
+const TWO_WAYS: [(&[u8], HeadRefusal); 12] = [
+    (
+        b"GET / HTTP/1.1\r\nHost: b\r\nContent-Length: 5\r\nTransfer-Encoding: chunked\r\n\r\n",
+        HeadRefusal::BadHead,
+    ),
+    (
+        b"GET / HTTP/1.1\r\nHost: b\r\nTransfer-Encoding: chunked\r\nContent-Length: 0\r\n\r\n",
+        HeadRefusal::BadHead,
+    ),
+    (
+        b"GET / HTTP/1.1\r\nHost: b\r\nTransfer-Encoding: chunked\r\nContent-Length: 1099511627776\r\n\r\n",
+        HeadRefusal::BadHead,
+    ),
+    (
+        b"GET / HTTP/1.0\r\nTransfer-Encoding: chunked\r\n\r\n",
+        HeadRefusal::BadHead,
+    ),
+    (
+        b"GET / HTTP/1.1\r\nHost: b\r\nTransfer-Encoding: chunked\r\nTransfer-Encoding: chunked\r\n\r\n",
+        HeadRefusal::NoLength,
+    ),
+    (
+        b"GET / HTTP/1.1\r\nHost: b\r\nTransfer-Encoding: chunked, gzip\r\n\r\n",
+        HeadRefusal::NoLength,
+    ),
+    (
+        b"GET / HTTP/1.1\r\nHost: b\r\nTransfer-Encoding: gzip, chunked\r\n\r\n",
+        HeadRefusal::NoLength,
+    ),
+    (
+        b"GET / HTTP/1.1\r\nHost: b\r\nTransfer-Encoding: identity\r\nTransfer-Encoding: chunked\r\n\r\n",
+        HeadRefusal::NoLength,
+    ),
+    (
+        b"GET / HTTP/1.1\r\nHost: b\r\nTransfer-Encoding: xchunked\r\nContent-Length: 5\r\n\r\n",
+        HeadRefusal::NoLength,
+    ),
+    (
+        b"GET / HTTP/1.1\r\nHost: b\r\nTransfer-Encoding: \"chunked\"\r\n\r\n",
+        HeadRefusal::NoLength,
+    ),
+    (
+        b"GET / HTTP/1.1\r\nHost: b\r\nTransfer-Encoding : chunked\r\n\r\n",
+        HeadRefusal::BadHead,
+    ),
+    (
+        b"GET / HTTP/1.1\r\nHost: b\r\nTransfer-Encoding:\r\n chunked\r\n\r\n",
+        HeadRefusal::BadHead,
     ),
 ];
 
@@ -182,6 +247,7 @@ fn says(head: &Head, want: &Want) -> bool {
         && head.target() == "/a?b"
         && head.version() == want.version
         && head.length() == want.length
+        && head.is_chunked() == want.chunked
         && head.expects_continue() == want.expects_continue
         && head.closes() == want.closes
 }
@@ -256,6 +322,9 @@ fn heads_are_read(rt: HostRuntime) -> Result<(), Fail> {
 #[test]
 fn other_heads_are_refused(rt: HostRuntime) -> Result<(), Fail> {
     for (bytes, refusal) in REFUSED {
+        expect_refused(rt.alloc(), bytes, refusal)?;
+    }
+    for (bytes, refusal) in TWO_WAYS {
         expect_refused(rt.alloc(), bytes, refusal)?;
     }
     Ok(())

@@ -53,13 +53,22 @@ fn each_path_has_its_route(rt: HostRuntime) -> Result<(), Fail> {
 
 #[test]
 fn a_route_takes_its_methods(rt: HostRuntime) -> Result<(), Fail> {
-    assert_eq!(rt; Route::Entry.action(b"PUT"), Some(Action::Put));
-    assert_eq!(rt; Route::Entry.action(b"DELETE"), Some(Action::Remove));
+    assert_eq!(rt;
+        Route::Entry.action(b"PUT"),
+        Some(Action::Session(SessionAction::Put))
+    );
+    assert_eq!(rt;
+        Route::Entry.action(b"DELETE"),
+        Some(Action::Session(SessionAction::Remove))
+    );
     assert_eq!(rt; Route::Entry.action(b"PATCH"), None);
     assert_eq!(rt; Route::Entry.allow(), "PUT, DELETE");
     assert_eq!(rt; Route::BackupFile.action(b"HEAD"), None);
     assert_eq!(rt; Route::BackupFile.allow(), "GET");
-    assert_eq!(rt; Route::Sweep.action(b"POST"), Some(Action::Sweep));
+    assert_eq!(rt;
+        Route::Sweep.action(b"POST"),
+        Some(Action::Office(OfficeAction::Sweep))
+    );
     assert_eq!(rt; Route::Sweep.allow(), "POST");
     Ok(())
 }

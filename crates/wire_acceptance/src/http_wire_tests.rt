@@ -1,60 +1,9 @@
+use crate::links::{SlowLink, link_of};
 use http::StatusCode;
 use http_wire::*;
 use std::alloc::Global;
 use std::test::Fail;
-use stream_traits::{Failed, Faults, Link, MemoryLink, Sink, Source};
-
-/// A link that gives and takes one byte at a time.
-#[derive(Drop)]
-struct SlowLink {
-    link: MemoryLink,
-}
-
-impl Faults for SlowLink {
-    ghost use Rattle.std.specs.Prelude.{Some};
-    ghost use Rattle.stream_traits.specs.Memory.{bytes_left, bytes_written, bytes_sent, fault_count};
-
-    ghost left = { λ slow. Some (bytes_left slow.link) };
-
-    ghost written = { λ slow. Some (bytes_written slow.link) };
-
-    ghost sent = { λ slow. Some (bytes_sent slow.link) };
-
-    ghost faults = { λ slow. fault_count slow.link };
-
-    fn faults(&self) -> u64 {
-        self.link.faults()
-    }
-}
-
-impl Source for SlowLink {
-    fn read(&mut self, room: &mut [u8]) -> Result<usize, Failed> {
-        let most = room.len().min(1);
-        match self.link.read(&mut room[..most]) {
-            Ok(count) => Ok(count),
-            Err(Failed) => Err(Failed),
-        }
-    }
-}
-
-impl Sink for SlowLink {
-    fn write(&mut self, bytes: &[u8]) -> Result<usize, Failed> {
-        let most = bytes.len().min(1);
-        match self.link.write(&bytes[..most]) {
-            Ok(count) => Ok(count),
-            Err(Failed) => Err(Failed),
-        }
-    }
-
-    fn flush(&mut self) -> Result<(), Failed> {
-        match self.link.flush() {
-            Ok(()) => Ok(()),
-            Err(Failed) => Err(Failed),
-        }
-    }
-}
-
-impl Link for SlowLink {}
+use stream_traits::{Failed, Faults, Link, MemoryLink, ReadFault, Sink, Source};
 
 /// A link that notes its calls: `r` for a read, `w` for a write, `f` for a flush.
 #[derive(Drop)]
@@ -101,12 +50,6 @@ impl Sink for NotedLink {
 
 impl Link for NotedLink {}
 
-/// A link in memory with this input, and room for `room` written bytes.
-fn link_of(alloc: Global, input: &[u8], room: usize) -> Result<MemoryLink, Fail> {
-    let link = MemoryLink::new(alloc, input.to_vec(alloc)?, room, Vec::new(alloc))?;
-    Ok(link)
-}
-
 fn outcome(read: &HeadRead) -> &'static str {
     match read {
         HeadRead::Whole(_) => "Whole",
@@ -126,7 +69,7 @@ fn read_over<L: Link + Drop>(alloc: Global, link: L) -> &'static str {
 }
 
 /// Heads with the end of the input behind them, and what they come to.
-const HEADS: [(&[u8], &str); 20] = [
+const HEADS: [(&[u8], &str); 23] = [
     (b"", "Ended"),
     (b"\r\n\n\r\n", "Ended"),
     (b"\r\n\r", "Truncated"),
@@ -144,11 +87,23 @@ const HEADS: [(&[u8], &str); 20] = [
     ),
     (b"GET / HTTP/1.0\r\nContent-Length: +1\r\n\r\n", "BadHead"),
     (
+        b"GET / HTTP/1.1\r\nHost: h\r\nTransfer-Encoding: chunked\r\n\r\n",
+        "Whole",
+    ),
+    (
         b"GET / HTTP/1.0\r\nTransfer-Encoding: chunked\r\n\r\n",
+        "BadHead",
+    ),
+    (
+        b"GET / HTTP/1.0\r\nTransfer-Encoding: gzip\r\n\r\n",
         "NoLength",
     ),
     (
-        b"GET / HTTP/1.0\r\nContent-Length: 67108865\r\n\r\n",
+        b"GET / HTTP/1.0\r\nContent-Length: 1099511627775\r\n\r\n",
+        "Whole",
+    ),
+    (
+        b"GET / HTTP/1.0\r\nContent-Length: 1099511627776\r\n\r\n",
         "FileTooLarge",
     ),
     (
@@ -237,6 +192,17 @@ PUT /c HTTP/1.1\r\nHost: h\r\nContent-Length: 003\r\n\r\nxyz";
 /// Their targets and bodies.
 const REQUESTS: [(&str, &[u8]); 3] = [("/a", b"hello"), ("/b", b""), ("/c", b"xyz")];
 
+/// Reads a body of the length that its head names.
+fn read_counted<L: Link>(
+    alloc: Global,
+    wire: &mut Wire<L>,
+    head: &Head,
+) -> Result<Vec<u8>, ReadFault> {
+    let mut body = Vec::new(alloc);
+    add_bytes(alloc, wire, &mut body, head.length().unwrap_or(0) as usize)?;
+    Ok(body)
+}
+
 /// Reads a request, and compares its target and its body.
 fn expect_request<L: Link>(
     alloc: Global,
@@ -247,9 +213,7 @@ fn expect_request<L: Link>(
     let HeadRead::Whole(head) = read_head(alloc, wire) else {
         return Err(Fail::new("no head"));
     };
-    let BodyRead::Body(bytes) = read_body(alloc, wire, &head) else {
-        return Err(Fail::new("no body"));
-    };
+    let bytes = read_counted(alloc, wire, &head)?;
     if head.target() == target && bytes.as_slice() == body {
         return Ok(());
     }
@@ -278,9 +242,13 @@ fn requests_follow_each_other(rt: HostRuntime) -> Result<(), Fail> {
 }
 
 /// Heads, and what is written before their bodies.
-const WAITING: [(&[u8], &[u8]); 4] = [
+const WAITING: [(&[u8], &[u8]); 5] = [
     (
         b"PUT / HTTP/1.1\r\nHost: h\r\nExpect: 100-Continue\r\nContent-Length: 1\r\n\r\n",
+        b"HTTP/1.1 100 Continue\r\n\r\n",
+    ),
+    (
+        b"PUT / HTTP/1.1\r\nHost: h\r\nExpect: 100-continue\r\nTransfer-Encoding: chunked\r\n\r\n",
         b"HTTP/1.1 100 Continue\r\n\r\n",
     ),
     (
@@ -316,16 +284,17 @@ fn a_waiting_client_is_asked_for_its_body(rt: HostRuntime) -> Result<(), Fail> {
     Ok(())
 }
 
-/// A request whose body has one byte of the 67,108,864 that it names.
-const CUT_BODY: &[u8] = b"PUT / HTTP/1.0\r\nContent-Length: 67108864\r\n\r\nx";
+/// A request whose body has one byte of the 1,099,511,627,775 that it names.
+const CUT_BODY: &[u8] = b"PUT / HTTP/1.0\r\nContent-Length: 1099511627775\r\n\r\nx";
 
 #[test]
-fn a_body_that_is_cut_is_truncated(rt: HostRuntime) -> Result<(), Fail> {
+fn a_body_that_is_cut_ends_too_early(rt: HostRuntime) -> Result<(), Fail> {
     let mut wire = Wire::new(rt.alloc(), link_of(rt.alloc(), CUT_BODY, 0)?);
     let HeadRead::Whole(head) = read_head(rt.alloc(), &mut wire) else {
         return Err(Fail::new("no head"));
     };
-    assert!(rt; matches!(read_body(rt.alloc(), &mut wire, &head), BodyRead::Truncated));
+    let read = read_counted(rt.alloc(), &mut wire, &head);
+    assert!(rt; matches!(read, Err(ReadFault::Ended)));
     assert_eq!(rt; wire.faults(), 0);
     Ok(())
 }
@@ -356,9 +325,9 @@ fn answer_one<L: Link>(alloc: Global, wire: &mut Wire<L>) -> Result<Option<()>, 
     let HeadRead::Whole(head) = read_head(alloc, wire) else {
         return Ok(None);
     };
-    let BodyRead::Body(_body) = read_body(alloc, wire, &head) else {
+    if read_counted(alloc, wire, &head).is_err() {
         return Ok(None);
-    };
+    }
     if !EMPTY.has_short_head() {
         return Err(Failed);
     }
@@ -466,6 +435,29 @@ fn nothing_waits_while_the_link_is_read(rt: HostRuntime) -> Result<(), Fail> {
     };
     answer_all(rt.alloc(), &mut slow)?;
     assert_eq!(rt; slow.link.sent().len(), 216);
+    Ok(())
+}
+
+/// The head of a file of five bytes, whose connection goes on.
+const FILE_HEAD: &[u8] =
+    b"HTTP/1.1 200 OK\r\nContent-Type: application/octet-stream\r\nContent-Length: 5\r\n\r\n";
+
+/// The same, where it closes.
+const LAST_FILE_HEAD: &[u8] = b"HTTP/1.1 200 OK\r\nContent-Type: application/octet-stream\r\n\
+Content-Length: 5\r\nConnection: close\r\n\r\n";
+
+#[test]
+fn the_head_of_bytes_is_written_before_them(rt: HostRuntime) -> Result<(), Fail> {
+    let mut wire = Wire::new(rt.alloc(), link_of(rt.alloc(), b"", 512)?);
+    write_bytes_head(&mut wire, 5, false)?;
+    wire.write(b"hello")?;
+    write_bytes_head(&mut wire, 5, true)?;
+    wire.send()?;
+    let link = wire.into_link();
+    let mut expected = FILE_HEAD.to_vec(rt.alloc())?;
+    expected.extend_from_slice(b"hello")?;
+    expected.extend_from_slice(LAST_FILE_HEAD)?;
+    assert_eq!(rt; link.sent(), expected.as_slice());
     Ok(())
 }
 

@@ -3,6 +3,8 @@
 #![tactic(auto)]
 
 #[cfg(test)]
+mod http_bodies_tests;
+#[cfg(test)]
 mod http_heads_tests;
 #[cfg(test)]
 mod http_query_tests;
@@ -10,5 +12,7 @@ mod http_query_tests;
 mod http_routes_tests;
 #[cfg(test)]
 mod http_wire_tests;
+#[cfg(test)]
+mod links;
 #[cfg(test)]
 mod restore_stream_tests;
