@@ -196,9 +196,9 @@ class Relay:
     def _serve(self, peer):
         with contextlib.suppress(OSError), peer, socket.create_connection(("127.0.0.1", self.port_behind)) as behind:
             threading.Thread(target=self._back, args=[behind, peer], daemon=True).start()
-            before = b""
+            before = bytearray()
             while True:
-                piece = peer.recv(16_384)
+                piece = peer.recv(65_536)
                 if not piece or self.is_down:
                     break
                 what = self.spoil(before, piece) if self.spoil else None
