@@ -116,6 +116,11 @@ impl Port for NotedPort {
     ghost joined = { λ p q r xs ys a b. tt };
 }
 
+/// Whether two texts are the same.
+fn is_same(one: &str, other: &str) -> bool {
+    one == other
+}
+
 /// Serves an input over a port, and compares the calls, the status of the response, or none, and the end. It gives how many bytes
 /// were sent.
 fn expect(
@@ -143,7 +148,7 @@ fn expect(
     let line = told.as_str().lines().next().unwrap_or("");
     let given = line.split(' ').nth(1).unwrap_or("");
     let found = name_of(&served.end);
-    if noted == calls && given == status && found == end {
+    if is_same(noted, calls) && is_same(given, status) && is_same(found, end) {
         return Ok(told.len());
     }
     Err(Fail::new(format_args!("{noted:?}, {given}, {found} for {calls:?}, {status}, {end}")))
