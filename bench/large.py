@@ -42,14 +42,14 @@ def copied(path, to):
         for piece in pieces_of(path):
             file.write(piece)
         os.fsync(file.fileno())
-    os.remove(to)
     return time.monotonic() - start
 
 
 def compared(path, other):
-    """The time of reading two files."""
+    """The time of reading two files and comparing them."""
     start = time.monotonic()
-    subprocess.run(["cmp", path, other], check=True)
+    for one, two in zip(pieces_of(path), pieces_of(other)):
+        assert one == two
     return time.monotonic() - start
 
 
@@ -66,6 +66,23 @@ def put(server, dump, name, path, in_chunks):
         for piece in pieces_of(path):
             server.send(piece)
     return server.response()
+
+
+def put_but_one(server, store, dump, name, path):
+    """Sends a file but for its last byte, and waits until its stage has all whole pieces of that; the last byte."""
+    size = os.path.getsize(path)
+    server.send(f"PUT /dumps/{dump}/entry?path={name}&kind=file{HEAD}Content-Length: {size}\r\n\r\n".encode())
+    left = size - 1
+    for piece in pieces_of(path):
+        server.send(piece[:left])
+        left -= len(piece)
+    stage = max((int(it[6:]), it) for it in os.listdir(store) if it.startswith("stage-"))[1]
+    while os.path.getsize(f"{store}/{stage}") < (size - 1) // 65_536 * 65_536:
+        time.sleep(0.01)
+    time.sleep(0.1)
+    with open(path, "rb") as file:
+        file.seek(size - 1)
+        return file.read()
 
 
 def get(server, name):
@@ -91,8 +108,10 @@ def measure(program, room, size):
     say(f"a file of {size} random bytes")
     lay(path, size)
     hashing, digest = hashed(path)
-    writing, comparing = copied(path, f"{room}/copy"), compared(path, path)
-    server = Server(program, f"{room}/store")
+    writing, comparing = copied(path, f"{room}/copy"), compared(path, f"{room}/copy")
+    os.remove(f"{room}/copy")
+    store = f"{room}/store"
+    server = Server(program, store)
     server.ask(request("PUT /hosts/pc1"))
     dump = server.open_dump("pc1", "full")
     lines = []
@@ -100,6 +119,13 @@ def measure(program, room, size):
         say(what)
         taken, _ = server.timed(put, server, dump, name, path, in_chunks)
         lines.append((what, taken))
+    for name, what in (("last", "its last byte and the put of its stage, which the pool has"), ("other", "the same of a new content")):
+        say(what)
+        if name == "other":
+            with open(path, "r+b") as file:
+                file.write(b"other")
+        last = put_but_one(server, store, dump, name, path)
+        lines.append((what, server.timed(server.ask, last)[0]))
     lines.append(("commit", server.timed(server.ask, request(f"POST /dumps/{dump}/commit"))[0]))
     say("GET")
     taken, found = server.timed(get, server, "new")
