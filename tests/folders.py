@@ -155,7 +155,7 @@ def small(room):
     expect_run("a name that is no text is refused", dump(store, folder), 1, b"", b"refused BadPath\n")
     os.remove(os.path.join(os.fsencode(folder), b"bad\xff"))
     with open(f"{folder}/large", "wb") as it:
-        it.truncate(67_108_865)
+        it.truncate(1_099_511_627_776)
     expect_run("a file that is too large is refused", dump(store, folder), 1, b"", b"refused FileTooLarge\n")
     os.remove(f"{folder}/large")
     if os.geteuid() != 0:
@@ -197,6 +197,34 @@ def large(room, entries):
         expect(f"backup {number} is restored", done.returncode == 0 and done.stdout == f"restored pc1 {number} {len(wanted)}\n".encode(), done)
         found = seen(back)
         expect(f"backup {number} is the tree", found == wanted, difference(wanted, found))
+
+
+def peak_of_dump(store, folder):
+    """A dump, its status and the most kilobytes that it held."""
+    words = [PROGRAM, "dump-folder", "--store", store, "--host", "pc1", "--kind", "full", folder]
+    worker = subprocess.Popen(words, stdout=subprocess.DEVNULL)
+    _, status, used = os.wait4(worker.pid, 0)
+    worker.returncode = os.waitstatus_to_exitcode(status)
+    return worker.returncode, used.ru_maxrss
+
+
+def huge(room):
+    """A file of more than 67,108,864 bytes goes piece by piece, and comes back with its hard link."""
+    store, folder, back = f"{room}/store5", f"{room}/huge", f"{room}/huge-back"
+    os.makedirs(folder)
+    piece = random.Random(5).randbytes(1_000_003)
+    with open(f"{folder}/large", "wb") as it:
+        for number in range(70):
+            it.write(piece + bytes([number]))
+    os.link(f"{folder}/large", f"{folder}/twin")
+    put(f"{folder}/small", b"small")
+    add_host(store, "pc1")
+    status, peak = peak_of_dump(store, folder)
+    expect("a tree with a large file is dumped", status == 0, status)
+    expect("the large file is never held whole", peak < 40_000, f"{peak} KB")
+    expect_run("and again what comes after it", dump(store, folder, "incr"), 0, b"committed pc1 1\n", b"")
+    expect_run("and restored", restore(store, back, 0), 0, b"restored pc1 0 3\n", b"")
+    expect("what is restored is the tree with the large file", seen(folder) == seen(back), difference(seen(folder), seen(back)))
 
 
 def live(room):
@@ -271,6 +299,7 @@ def main():
     try:
         small(room)
         large(room, int(os.environ.get("ENTRIES", "5000")))
+        huge(room)
         live(room)
         hostile(room)
     finally:

@@ -126,7 +126,7 @@ module _ {D : Type 0} (d : DiskGhosts D) (digest_of : List ℕ → List ℕ) (di
       let made : IsDump kind tree host dumped.now dumped.later number dumped.calls = dumped.whole tree is is_tree in
       let served : IsServed d digest_of disk disk' dumped.calls halted a b = dumped.moved a b stands in
       holds host number tree served.last
-      (dump_shows host made.moment made.dump number tree served.last (d.fault_count disk') is_tree kind dumped.now made.base
+      (dump_shows host made.moment made.dump number tree made.puts made.are_puts served.last (d.fault_count disk') is_tree kind dumped.now made.base
       (reopened served.office) served.names served.opening served.sound.office made.is_base
       (subst (λ calls. Leads (Running (reopened served.office) served.names) served.opening calls served.last (d.fault_count disk')) made.calls_are
       served.history))

@@ -21,7 +21,7 @@ pub enum Note {
     BadPath,
     /// A link of the folder has a target that is none.
     BadTarget,
-    /// A file of the folder has more than 67,108,864 bytes.
+    /// A file of the folder has more than 1,099,511,627,775 bytes.
     FileTooLarge,
     /// Something lies in the folder that is to be filled.
     FolderNotEmpty,

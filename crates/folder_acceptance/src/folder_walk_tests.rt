@@ -54,7 +54,7 @@ const REFUSED: &[Refused] = &[
     Refused("pc1", Odd::Name(b"\xff"), "NotUtf8"),
     Refused("pc1", Odd::Name(LONG), "LongComponent"),
     Refused("pc1", Odd::Link, "BadTarget"),
-    Refused("pc1", Odd::Large(67_108_865), "FileTooLarge"),
+    Refused("pc1", Odd::Large(1_099_511_627_776), "FileTooLarge"),
 ];
 
 /// How a dump of a folder with something odd in it is refused.
@@ -126,17 +126,25 @@ fn dump_ends_at_each_call_of_the_folder_that_fails(rt: HostRuntime) -> Result<()
 }
 
 /// Dumps a folder of mixed entries and a file that has gone.
-fn dump_gone(alloc: Global, host: &mut Host) -> Result<Told, Fail> {
-    let mut folder = new_strange(folder(alloc, mixed())?, Odd::Gone);
+fn dump_gone(alloc: Global, host: &mut Host, gone: Odd) -> Result<Told, Fail> {
+    let mut folder = new_strange(folder(alloc, mixed())?, gone);
     let mut told = told_nothing();
     dump_telling(alloc, host, &mut folder, Kind::Full, &mut told)?;
     Ok(told)
 }
 
+/// A file that has gone is passed over and told, and the others are the backup.
+fn expect_passed_over(alloc: Global, gone: Odd) -> Result<(), Fail> {
+    let mut host = new_host(alloc, "pc1")?;
+    let told = dump_gone(alloc, &mut host, gone)?;
+    expect_mixed(told, 1)?;
+    expect_restored(alloc, &mut host, &Backup(0, Kind::Full, mixed(), 1))
+}
+
 #[test]
 fn file_that_has_gone_is_passed_over_and_told(rt: HostRuntime) -> Result<(), Fail> {
-    let mut host = new_host(rt.alloc(), "pc1")?;
-    let told = dump_gone(rt.alloc(), &mut host)?;
-    expect_mixed(told, 1)?;
-    expect_restored(rt.alloc(), &mut host, &Backup(0, Kind::Full, mixed(), 1))
+    for gone in [Odd::Gone, Odd::Large(67_108_865)] {
+        expect_passed_over(rt.alloc(), gone)?;
+    }
+    Ok(())
 }

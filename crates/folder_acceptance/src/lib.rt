@@ -13,6 +13,10 @@ mod folders;
 #[cfg(test)]
 mod hosts;
 #[cfg(test)]
+mod large_file_tests;
+#[cfg(test)]
+mod real_folder_tests;
+#[cfg(test)]
 mod strange;
 #[cfg(test)]
 mod told;

@@ -16,9 +16,11 @@ pub(crate) enum Odd {
     Name(&'static [u8]),
     /// A link without a target.
     Link,
-    /// A file of so many bytes, which is never read.
+    /// A file of so many bytes that has gone.
     Large(u64),
-    /// A file that has gone.
+    /// A file of so many bytes, which is there.
+    There(u64),
+    /// A file of one byte that has gone.
     Gone,
 }
 
@@ -67,8 +69,21 @@ fn found(alloc: Global, odd: Odd) -> Option<(&'static [u8], FoundNode)> {
                 target: Bytes::from_vec(Vec::new(alloc)),
             }),
         )),
-        Odd::Large(size) => Some((ODD, sized(size))),
+        Odd::Large(size) | Odd::There(size) => Some((ODD, sized(size))),
         Odd::Gone => Some((ODD, sized(1))),
+    }
+}
+
+/// A piece of what is odd, if it is there.
+fn piece(alloc: Global, odd: Odd, from: u64, room: usize) -> Result<Option<Bytes>, AllocError> {
+    match odd {
+        Odd::There(size) => {
+            let left = size.saturating_sub(from).min(room as u64);
+            let mut bytes = Vec::new(alloc);
+            bytes.resize(left as usize, b'x')?;
+            Ok(Some(Bytes::from_vec(bytes)))
+        }
+        _ => Ok(None),
     }
 }
 
@@ -103,6 +118,19 @@ impl Folder for Strange {
             return Ok(None);
         }
         self.inside.read(alloc, path)
+    }
+
+    fn read_at(
+        &mut self,
+        alloc: Global,
+        path: &PathName,
+        from: u64,
+        room: usize,
+    ) -> Result<Option<Bytes>, FolderFault> {
+        if path.as_slice() == ODD {
+            return Ok(piece(alloc, self.odd, from, room)?);
+        }
+        self.inside.read_at(alloc, path, from, room)
     }
 
     fn make(&mut self, alloc: Global, path: &PathName, item: &Item) -> Result<(), FolderFault> {

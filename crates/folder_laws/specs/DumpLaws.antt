@@ -1,41 +1,42 @@
 -- In each legal history of its calls a dump of a tree becomes a backup that is this tree.
 use Rattle.std.specs.Prelude.{◌≡◌, ℕ, List, [], ◌∷◌, ◌++◌, Ok}
-use Rattle.std.proofs.Common.{sym, subst}
+use Rattle.std.proofs.Common.{sym, ap, ◌∙◌, subst, append_assoc}
 use Rattle.attr_records.specs.Items.{Tree}
 use Rattle.backup_rules.specs.declared.lines.Kind.TheVariants.{Full}
 use Rattle.office_model.specs.declared.session.SessionName.{SessionName}
 use Rattle.office_model.specs.declared.event.Event.TheVariants as E
-use Rattle.office_model.specs.declared.event.PutItem.TheVariants.{Whole}
 use Rattle.office_model.specs.declared.answer.Answer.TheVariants as A
 use Rattle.office_model.specs.Office.{Office, Names, IsSound}
 use Rattle.office_model.specs.Step.{Call, State, Running}
 use Rattle.office_model.specs.History.{Leads}
 use Rattle.office_model.specs.Meaning.{Judged}
 use Rattle.call_scripts.specs.FirstCalls.{answered, none_left}
-use Rattle.folder_laws.specs.Calls.{open_call, put_calls, commit_call}
+use Rattle.folder_laws.specs.Calls.{open_call, item_calls, ArePuts, commit_call}
 use Rattle.folder_laws.specs.Replays.{with_all}
-use Rattle.folder_laws.specs.OfficeLaws.{HasDump, Shows, opened, put_step, commit_step}
+use Rattle.folder_laws.specs.OfficeLaws.{HasDump, Shows, opened, commit_step}
+use Rattle.folder_laws.specs.StagingLaws.{AfterPuts, after_item}
 
 -- ---- puts
 
-pub record AfterPuts (dump : SessionName) (name : List ℕ) (tree : Tree) (more : List Call) (state' : State) (faults' : ℕ) : Type 0 where
-  pub office : Office
-  pub names : Names
-  pub faults : ℕ
-  pub sound : IsSound office
-  pub has : HasDump office dump name tree
-  pub rest : Leads (Running office names) faults more state' faults'
-
-pub after_puts : (rows : Tree) (office : Office) (names : Names) (faults : ℕ) (dump : SessionName) (name : List ℕ) (tree : Tree) (more : List Call)
-    (state' : State) (faults' : ℕ) → IsSound office → HasDump office dump name tree
-    → Leads (Running office names) faults (put_calls dump rows ++ more) state' faults'
+pub after_puts : (rows : Tree) (office : Office) (names : Names) (faults : ℕ) (dump : SessionName) (name : List ℕ) (tree : Tree) (calls more : List Call)
+    (state' : State) (faults' : ℕ) → IsSound office → HasDump office dump name tree → ArePuts dump rows calls
+    → Leads (Running office names) faults (calls ++ more) state' faults'
     → AfterPuts dump name (with_all tree rows) more state' faults'
-after_puts [] office names faults dump name tree more state' faults' sound has leads =
-    record { office = office; names = names; faults = faults; sound = sound; has = has; rest = leads }
-after_puts (row ∷ rows) office names faults dump name tree more state' faults' sound has leads =
-    let a = answered office names faults (E.Put dump row.0 (Whole row.1)) A.Done (put_calls dump rows ++ more) state' faults' leads in
-    after_puts rows a.after a.after_names a.faults dump name _ more state' faults' a.sound
-    (put_step office names dump name tree row.0 row.1 A.Done a.after sound has a.carried) a.rest
+after_puts [] office names faults dump name tree calls more state' faults' sound has are leads = record {
+  office = office;
+  names = names;
+  faults = faults;
+  sound = sound;
+  has = has;
+  rest = subst (λ cs. Leads (Running office names) faults (cs ++ more) state' faults') are leads;
+}
+after_puts (row ∷ rows) office names faults dump name tree calls more state' faults' sound has are leads =
+    let stage : ℕ = are.2.0 in
+    let split : calls ++ more ≡ item_calls dump row.0 row.1 stage ++ (are.1 ++ more) =
+    ap (λ cs. cs ++ more) are.3 ∙ append_assoc are.0 are.1 more ∙ ap (λ cs. cs ++ (are.1 ++ more)) are.2.1 in
+    let a = after_item office names faults dump name tree row.0 (are.1 ++ more) state' faults' sound has row.1 stage
+    (subst (λ cs. Leads (Running office names) faults cs state' faults') split leads) in
+    after_puts rows a.office a.names a.faults dump name _ are.1 more state' faults' a.sound a.has are.4 a.rest
 
 -- ---- a full dump
 
@@ -79,11 +80,11 @@ opened_full office names faults host now dump more state' faults' leads =
     }
 
 -- puts of a tree that replace all of a dump's tree, and a commit
-pub filled : (office : Office) (names : Names) (faults : ℕ) (host : List ℕ) (dump : SessionName) (base tree : Tree) (later number : ℕ)
-    (state' : State) (faults' : ℕ) → IsSound office → HasDump office dump host base → with_all base tree ≡ tree
-    → Leads (Running office names) faults (put_calls dump tree ++ commit_call dump later number ∷ []) state' faults'
+pub filled : (office : Office) (names : Names) (faults : ℕ) (host : List ℕ) (dump : SessionName) (base tree : Tree) (puts : List Call)
+    (later number : ℕ) (state' : State) (faults' : ℕ) → IsSound office → HasDump office dump host base → ArePuts dump tree puts
+    → with_all base tree ≡ tree → Leads (Running office names) faults (puts ++ commit_call dump later number ∷ []) state' faults'
     → Committed host number tree state'
-filled office names faults host dump base tree later number state' faults' sound has whole leads =
-    let p = after_puts tree office names faults dump host base (commit_call dump later number ∷ []) state' faults' sound has leads in
+filled office names faults host dump base tree puts later number state' faults' sound has are whole leads =
+    let p = after_puts tree office names faults dump host base puts (commit_call dump later number ∷ []) state' faults' sound has are leads in
     committed p.office p.names p.faults dump host tree later number state' faults' p.sound
     (subst (λ t. HasDump p.office dump host t) whole p.has) p.rest

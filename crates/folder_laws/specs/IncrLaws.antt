@@ -43,7 +43,7 @@ use Rattle.folder_laws.specs.Calls.{open_call, remove_calls}
 use Rattle.folder_laws.specs.Lists.{is_dir_node, named_in, leaves, known_at, gone_from, known_from, AreLists, backups_call, last_line}
 use Rattle.folder_laws.specs.OfficeLaws.{HasDump, opened, retreed, asked_dump, after_of, answer_of, some_is, shown}
 use Rattle.call_scripts.specs.FirstCalls.{answered}
-use Rattle.folder_laws.specs.DumpLaws.{AfterPuts}
+use Rattle.folder_laws.specs.StagingLaws.{AfterPuts}
 
 -- ---- a listing of a tree has the paths of the directory
 

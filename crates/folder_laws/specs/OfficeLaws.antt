@@ -84,6 +84,24 @@ retreed office session name tree tree' has = record {
   host_name = has.host_name;
 }
 
+-- dumps in one of which an item was put
+pub put_dumps : (large : Item → Bool) (full : Bool) (office : Office) (session : SessionName) (name : List ℕ) (tree : Tree) (path : List ℕ)
+    (item : Item) (dumps : List Dump) → IsSound office → HasDump office session name tree
+    → PutEvent.with_put large session path item full office.dumps ≡ Ok dumps
+    → HasDump (with_dumps office dumps) session name (with_node tree path item)
+put_dumps large full office session name tree path item dumps sound has e =
+    let a = bound (dump_at office.dumps session) _ dumps e in
+    let same = asked_dump office session name tree sound has a.0 a.1 in
+    let b = kept (option_map PutRule (Trees.broken_put is_dir large a.0.value.tree path item)) _ dumps a.2 in
+    let c : (full ≡ false) × (Ok (slice_set office.dumps a.0.index (PutEvent.with_item a.0.value path item)) ≡ Ok dumps) = passed _ _ _ _ b.1 in
+    let dumps_are : slice_set office.dumps a.0.index (PutEvent.with_item a.0.value path item) ≡ dumps = let f = c.1 in cc in
+    let here : slice_set office.dumps has.index (record has.dump { tree = with_node has.dump.tree path item }) ≡ dumps =
+    subst (λ i. slice_set office.dumps i (PutEvent.with_item has.dump path item) ≡ dumps) same.0
+    (subst (λ (d : Dump). slice_set office.dumps a.0.index (PutEvent.with_item d path item) ≡ dumps) same.1 dumps_are) in
+    subst (λ ds. HasDump (with_dumps office ds) session name (with_node tree path item)) here
+    (subst (λ t. HasDump (with_dumps office (slice_set office.dumps has.index (record has.dump { tree = with_node has.dump.tree path item }))) session name (with_node t path item)) has.tree_is
+    (retreed office session name tree (with_node has.dump.tree path item) has))
+
 -- a put that was answered
 pub put_step : (office : Office) (names : Names) (session : SessionName) (name : List ℕ) (tree : Tree) (path : List ℕ) (item : Item)
     (answer : Answer) (after : Office) → IsSound office → HasDump office session name tree
@@ -92,19 +110,8 @@ pub put_step : (office : Office) (names : Names) (session : SessionName) (name :
 put_step office names session name tree path item answer after sound has e =
     let full : Bool = PutEvent.is_chain_full office.pool office.dumps names (content_of item) in
     let w = bound (PutEvent.with_put is_large session path item full office.dumps) (λ dumps. Ok (record { answer = A.Done; after = with_dumps office dumps })) _ e in
-    let a = bound (dump_at office.dumps session) _ w.0 w.1 in
-    let same = asked_dump office session name tree sound has a.0 a.1 in
-    let b = kept (option_map PutRule (Trees.broken_put is_dir is_large a.0.value.tree path item)) _ w.0 a.2 in
-    let c : (full ≡ false) × (Ok (slice_set office.dumps a.0.index (PutEvent.with_item a.0.value path item)) ≡ Ok w.0) = passed _ _ _ _ b.1 in
-    let dumps_are : slice_set office.dumps a.0.index (PutEvent.with_item a.0.value path item) ≡ w.0 = let f = c.1 in cc in
-    let here : slice_set office.dumps has.index (record has.dump { tree = with_node has.dump.tree path item }) ≡ w.0 =
-    subst (λ i. slice_set office.dumps i (PutEvent.with_item has.dump path item) ≡ w.0) same.0
-    (subst (λ (d : Dump). slice_set office.dumps a.0.index (PutEvent.with_item d path item) ≡ w.0) same.1 dumps_are) in
-    let after_is : with_dumps office w.0 ≡ after = after_of A.Done answer (with_dumps office w.0) after w.2 in
-    subst (λ (o : Office). HasDump o session name (with_node tree path item)) after_is
-    (subst (λ ds. HasDump (with_dumps office ds) session name (with_node tree path item)) here
-    (subst (λ t. HasDump (with_dumps office (slice_set office.dumps has.index (record has.dump { tree = with_node has.dump.tree path item }))) session name (with_node t path item)) has.tree_is
-    (retreed office session name tree (with_node has.dump.tree path item) has)))
+    subst (λ (o : Office). HasDump o session name (with_node tree path item)) (after_of A.Done answer (with_dumps office w.0) after w.2)
+    (put_dumps is_large full office session name tree path item w.0 sound has w.1)
 
 -- ---- opening
 

@@ -10,7 +10,7 @@ use Rattle.office_model.specs.declared.session.SessionName.{SessionName}
 use Rattle.office_model.specs.Office.{Office, Names, IsSound}
 use Rattle.office_model.specs.History.{Leads}
 use Rattle.office_model.specs.Step.{Call, State, Running}
-use Rattle.folder_laws.specs.Calls.{open_call, put_calls, remove_calls, commit_call, dump_calls}
+use Rattle.folder_laws.specs.Calls.{open_call, ArePuts, remove_calls, commit_call, dump_calls}
 use Rattle.folder_laws.specs.Replays.{without_all}
 use Rattle.folder_laws.specs.ReplayLaws.{replayed}
 use Rattle.folder_laws.specs.Compares.{root}
@@ -19,10 +19,11 @@ use Rattle.folder_laws.specs.Lists.{last_line, AreLists, AreRemovals, IsBase}
 use Rattle.folder_laws.specs.DumpLaws.{Committed, opened_full, filled}
 use Rattle.folder_laws.specs.IncrLaws.{OpenedIncr, opened_incr, after_lists, after_removes}
 
-module _ (host : List ℕ) (later : ℕ) (dump : SessionName) (number : ℕ) (tree : Tree) (state' : State) (faults' : ℕ) (is_tree : IsTree is_dir tree) where
+module _ (host : List ℕ) (later : ℕ) (dump : SessionName) (number : ℕ) (tree : Tree) (puts : List Call) (are_puts : ArePuts dump tree puts)
+    (state' : State) (faults' : ℕ) (is_tree : IsTree is_dir tree) where
   -- the calls behind the base
   abbrev ending : List Call
-  ending = put_calls dump tree ++ commit_call dump later number ∷ []
+  ending = puts ++ commit_call dump later number ∷ []
 
   -- the lists of the backup of this line
   abbrev AreListed : Option Line → List Call → List (List ℕ) → Type 0
@@ -45,17 +46,17 @@ module _ (host : List ℕ) (later : ℕ) (dump : SessionName) (number : ℕ) (tr
       (remove_calls dump gone ++ ending) state' faults' at.found listed
       (subst (λ calls. Leads (Running at.office at.names) at.faults calls state' faults') calls_are at.rest) in
       let r = after_removes gone at.office l.names l.faults dump host at.backup.tree ending state' faults' at.sound at.has l.rest in
-      filled r.office r.names r.faults host dump (without_all at.backup.tree gone) tree later number state' faults' r.sound r.has
+      filled r.office r.names r.faults host dump (without_all at.backup.tree gone) tree puts later number state' faults' r.sound r.has are_puts
       (replayed_dump tree at.backup.tree at.base_is l.visits gone is_tree l.compares) r.rest
 
   -- a dump of either kind
   pub dump_shows : (kind : Kind) (now : ℕ) (base : List Call) (office : Office) (names : Names) (faults : ℕ) → IsSound office
-      → IsBase kind tree host dump base → Leads (Running office names) faults (dump_calls host kind now later dump number base tree) state' faults'
+      → IsBase kind tree host dump base → Leads (Running office names) faults (dump_calls host kind now later dump number base puts) state' faults'
       → Committed host number tree state'
   dump_shows Full now base office names faults sound is leads =
       let o = opened_full office names faults host now dump ending state' faults'
       (subst (λ calls. Leads (Running office names) faults (open_call host Full now dump ∷ (calls ++ ending)) state' faults') is leads) in
-      filled o.office o.names o.faults host dump [] tree later number state' faults' o.sound o.has
+      filled o.office o.names o.faults host dump [] tree puts later number state' faults' o.sound o.has are_puts
       (replayed [] tree tt is_tree.in_order (λ q none. refl)) o.rest
   dump_shows Incr now base office names faults sound is leads =
       let o = opened_incr office names faults host now dump is.0 is.1 is.2 (is.3 ++ ending) state' faults' sound

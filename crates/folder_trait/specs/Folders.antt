@@ -1,8 +1,8 @@
 -- What a folder says of its tree, and what its calls make of it.
---     IsListing, IsReading, IsEmptiness      what is told of a directory, a file, all
+--     IsListing, IsReading, IsPieceRead, IsEmptiness      what is told of a directory, a file, a piece of a file, all
 --     IsFree      nothing is at a path
 --     with_made, with_linked, with_finished      what a call that was carried out leaves, where it is told
-use Rattle.std.specs.Prelude.{◌≡◌, ℕ, ◌+◌, Bool, List, [], ◌∷◌, ◌++◌, length, drop, map, pos, Option, Some, None, is_some, true, false, bytes_eq}
+use Rattle.std.specs.Prelude.{◌≡◌, ℕ, ◌+◌, Bool, List, [], ◌∷◌, ◌++◌, length, take, drop, map, pos, Option, Some, None, is_some, true, false, bytes_eq}
 use Rattle.std.specs.List.{filter}
 use Rattle.std.specs.Option.{option_eq, option_map}
 use Rattle.attr_records.specs.declared.nodes.Item.{Item}
@@ -59,6 +59,10 @@ file_bytes (Some (I.Link link)) = None
 -- the bytes of the file at a path; if there is one, it hasn't gone
 pub record IsReading (tree : Tree) (path : List ℕ) (bytes : Option (List ℕ)) : Type 0 where
   pub found : (file : File) → node_at tree path ≡ Some (I.File file) → bytes ≡ Some file.bytes
+
+-- so many bytes of the file at a path from a place, or all that are left; if there is one, it hasn't gone
+pub record IsPieceRead (tree : Tree) (path : List ℕ) (from room : ℕ) (bytes : Option (List ℕ)) : Type 0 where
+  pub found : (file : File) → node_at tree path ≡ Some (I.File file) → bytes ≡ Some (take room (drop from file.bytes))
 
 abbrev pub is_bare : Tree → Bool
 is_bare [] = true

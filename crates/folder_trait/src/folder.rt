@@ -5,7 +5,7 @@ ghost use Rattle.std.specs.Option.{ForSome, option_copied};
 ghost use Rattle.fault_counts.specs.Counts.{Counted};
 ghost use Rattle.attr_records.specs.Items.{Tree, is_dir};
 ghost use Rattle.attr_records.specs.Trees.{IsTree};
-ghost use Rattle.folder_trait.specs.Folders.{IsListing, IsReading, IsEmptiness, IsFree, with_made, with_linked, with_finished};
+ghost use Rattle.folder_trait.specs.Folders.{IsListing, IsReading, IsPieceRead, IsEmptiness, IsFree, with_made, with_linked, with_finished};
 
 use crate::found::Found;
 use attr_records::{Dir, Item, PathName};
@@ -82,6 +82,19 @@ pub trait Folder {
     /// The bytes of a file; `None` if it has gone since it was listed. `Failed` also if something else is there.
     fn read(&mut self, alloc: Global, path: &PathName) -> Result<Option<Bytes>, FolderFault>
         ensures found { IfOk result (λ found. ForSome (tree self.old) (λ all. IsReading all path.now found)) }
+        ensures same { tree self.new ≡ tree self.old }
+        ensures counted { Counted (fault_count self.old) (fault_count self.new) (IsErrOf result FolderFault.Failed) };
+
+    /// So many bytes of a file from a place, or all that are left; `None` if it has gone since it was listed. `Failed` also if something
+    /// else is there. What is asked for piece by piece, from 0 on, is one file's, whatever comes into its place meanwhile.
+    fn read_at(
+        &mut self,
+        alloc: Global,
+        path: &PathName,
+        from: u64,
+        room: usize,
+    ) -> Result<Option<Bytes>, FolderFault>
+        ensures found { IfOk result (λ found. ForSome (tree self.old) (λ all. IsPieceRead all path.now from room found)) }
         ensures same { tree self.new ≡ tree self.old }
         ensures counted { Counted (fault_count self.old) (fault_count self.new) (IsErrOf result FolderFault.Failed) };
 

@@ -3,6 +3,7 @@
 ghost use Rattle.std.specs.Prelude.{◌≡◌, ◌∷◌, ◌++◌, [], ◌+◌, true, Some, None, drop, length, is_some, bytes_eq, IfOk, IfSome, OnOk, IsTrue, IsErrOf};
 ghost use Rattle.std.specs.Option.{option_copied, option_eq};
 ghost use Rattle.fault_counts.specs.Counts.{Counted};
+ghost use Rattle.disk_trait.specs.Files.{piece};
 ghost use Rattle.attr_records.specs.Items.{is_dir, is_large};
 ghost use Rattle.attr_records.specs.Paths.{parent};
 ghost use Rattle.attr_records.specs.Trees.{IsTree, node_at, with_node};
@@ -213,6 +214,22 @@ impl MemoryFolder {
         }
     }
 
+    /// So many of the bytes of the file at a path from a place, where there is one; or want of memory.
+    fn piece_at(
+        &self,
+        alloc: Global,
+        path: &PathName,
+        from: u64,
+        room: usize,
+    ) -> Result<Option<Bytes>, AllocError>
+        ensures { IfOk result (λ found. found ≡ piece (file_bytes (node_at self.now.tree.entries path.now)) from room) }
+    {
+        match self.tree.get(path) {
+            Some(Item::File(file)) => Ok(Some(file.bytes.piece(alloc, from, room)?)),
+            Some(Item::Dir(_) | Item::Link(_)) | None => Ok(None),
+        }
+    }
+
     /// The file at a path once more, where there is one; or want of memory.
     fn file_at(&self, alloc: Global, path: &PathName) -> Result<Option<Item>, AllocError>
         ensures { IfOk result (λ found. IfSome found (λ item. node_at self.now.tree.entries path.now ≡ Some item)) }
@@ -280,6 +297,22 @@ impl Folder for MemoryFolder {
             return Err(FolderFault::Failed);
         }
         match self.bytes_at(alloc, path)? {
+            Some(bytes) => Ok(Some(bytes)),
+            None => Err(self.fault()),
+        }
+    }
+
+    fn read_at(
+        &mut self,
+        alloc: Global,
+        path: &PathName,
+        from: u64,
+        room: usize,
+    ) -> Result<Option<Bytes>, FolderFault> {
+        if self.has_failed() {
+            return Err(FolderFault::Failed);
+        }
+        match self.piece_at(alloc, path, from, room)? {
             Some(bytes) => Ok(Some(bytes)),
             None => Err(self.fault()),
         }

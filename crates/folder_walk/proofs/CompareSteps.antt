@@ -8,12 +8,11 @@ use Rattle.attr_records.specs.Items.{Tree, is_dir}
 use Rattle.attr_records.specs.Trees.{IsTree}
 use Rattle.office_model.specs.declared.session.SessionName.{SessionName}
 use Rattle.office_model.specs.declared.answer.NamedNode.{NamedNode}
-use Rattle.office_model.specs.declared.event.Event.{Event}
 use Rattle.office_model.specs.declared.event.Event.TheVariants as E
 use Rattle.office_model.specs.declared.answer.Answer.TheVariants as A
 use Rattle.office_model.specs.declared.refusal.Refusal.{Refusal}
 use Rattle.office_model.specs.Step.{Call}
-use Rattle.call_scripts.specs.Scripts.{Begins}
+use Rattle.call_scripts.specs.Scripts.{Script, Begins}
 use Rattle.call_scripts.specs.ScriptLaws.{AreAnswered-append}
 use Rattle.folder_laws.specs.declared.known.Known.{Known}
 use Rattle.folder_laws.specs.Compares.{root}
@@ -151,15 +150,15 @@ module _ {P : Type 0} (moves : P → List Call → P → Type 0) (old new : P) (
 -- ---- all directories
 
 -- the calls of a listing that failed begin the script of the directories that are pending
-list_begins : (seen : Tree) (host : List ℕ) (number : ℕ) (dump : SessionName) (events : List Event) (known : Known) (rest : List Known)
+list_begins : (seen : Tree) (host : List ℕ) (number : ℕ) (dump : SessionName) (next : Script) (known : Known) (rest : List Known)
     (gone : List (List ℕ)) (calls : List Call) (o : Option Refusal) → ListFails host number known calls o
-    → Begins (list_script seen host number dump events (known ∷ rest) gone) calls
-list_begins seen host number dump events known rest gone calls None (inl none) =
-    subst (λ cs. Begins (list_script seen host number dump events (known ∷ rest) gone) cs) (sym none) tt
-list_begins seen host number dump events known rest gone calls None (inr one) =
-    subst (λ cs. Begins (list_script seen host number dump events (known ∷ rest) gone) cs) (sym one.1) (refl, tt)
-list_begins seen host number dump events known rest gone calls (Some refusal) refused =
-    subst (λ cs. Begins (list_script seen host number dump events (known ∷ rest) gone) cs) (sym refused) (refl, tt)
+    → Begins (list_script seen host number dump next (known ∷ rest) gone) calls
+list_begins seen host number dump next known rest gone calls None (inl none) =
+    subst (λ cs. Begins (list_script seen host number dump next (known ∷ rest) gone) cs) (sym none) tt
+list_begins seen host number dump next known rest gone calls None (inr one) =
+    subst (λ cs. Begins (list_script seen host number dump next (known ∷ rest) gone) cs) (sym one.1) (refl, tt)
+list_begins seen host number dump next known rest gone calls (Some refusal) refused =
+    subst (λ cs. Begins (list_script seen host number dump next (known ∷ rest) gone) cs) (sym refused) (refl, tt)
 
 module _ {P : Type 0} (moves : P → List Call → P → Type 0) (joined : (p q r : P) (xs ys : List Call) → moves p xs q → moves q ys r → moves p (xs ++ ys) r)
     (none : (p : P) → moves p [] p) (told : Option Tree) (host : List ℕ) (number : ℕ) where
@@ -218,10 +217,10 @@ module _ {P : Type 0} (moves : P → List Call → P → Type 0) (joined : (p q 
     calls = so_far.calls ++ one.calls;
     moved = joined old mid new so_far.calls one.calls so_far.moved one.moved;
     so = AnsweredOr-behind (refusal_of fault) so_far.calls one.calls so_far.answered one.so;
-    begins = λ tree is is_tree dump events.
-        begins_lists tree host number dump events so_far.calls (root ∷ []) [] (known ∷ reverse front) gone one.calls
+    begins = λ tree is is_tree dump next.
+        begins_lists tree host number dump next so_far.calls (root ∷ []) [] (known ∷ reverse front) gone one.calls
         (subst (λ ks. AreLists tree host number (root ∷ []) [] so_far.calls ks gone) (next_first items front known taken) (so_far.are tree is is_tree))
-        (list_begins tree host number dump events known (reverse front) gone one.calls (refusal_of fault) one.ends);
+        (list_begins tree host number dump next known (reverse front) gone one.calls (refusal_of fault) one.ends);
   }
 
   -- past the last turn
@@ -231,10 +230,10 @@ module _ {P : Type 0} (moves : P → List Call → P → Type 0) (joined : (p q 
     calls = so_far.calls;
     moved = so_far.moved;
     so = so_far.answered;
-    begins = λ tree is is_tree dump events.
-        subst (λ cs. Begins (list_script tree host number dump events (root ∷ []) []) cs) (append-nil so_far.calls)
-        (begins_lists tree host number dump events so_far.calls (root ∷ []) [] (reverse items) gone [] (so_far.are tree is is_tree) tt);
+    begins = λ tree is is_tree dump next.
+        subst (λ cs. Begins (list_script tree host number dump next (root ∷ []) []) cs) (append-nil so_far.calls)
+        (begins_lists tree host number dump next so_far.calls (root ∷ []) [] (reverse items) gone [] (so_far.are tree is is_tree) tt);
   }
 
   pub lists_nothing : (port : P) → ListsStop moves port port told host number D.Memory
-  lists_nothing port = record { calls = []; moved = none port; so = tt; begins = λ tree is is_tree dump events. tt }
+  lists_nothing port = record { calls = []; moved = none port; so = tt; begins = λ tree is is_tree dump next. tt }

@@ -2,77 +2,46 @@
 use Rattle.std.specs.Prelude.{◌≡◌, ℕ, List, [], ◌∷◌, ◌++◌, Option, Some, None, Ok, Err}
 use Rattle.std.proofs.Common.{refl, sym, ap, ◌∙◌, subst, append_assoc}
 use Rattle.std.proofs.lemmas.List.{append-nil, map-append}
-use Rattle.attr_records.specs.declared.nodes.Item.{Item}
 use Rattle.attr_records.specs.Items.{Tree}
 use Rattle.backup_rules.specs.declared.lines.Line.{Line}
 use Rattle.backup_rules.specs.declared.lines.Kind.{Kind}
 use Rattle.backup_rules.specs.declared.lines.Kind.TheVariants.{Full, Incr}
 use Rattle.stream_traits.specs.Moments.{first_moment, after_reading}
 use Rattle.office_model.specs.declared.session.SessionName.{SessionName}
-use Rattle.office_model.specs.declared.event.Event.{Event}
 use Rattle.office_model.specs.declared.event.Event.TheVariants as E
-use Rattle.office_model.specs.declared.event.PutItem.TheVariants.{Whole}
 use Rattle.office_model.specs.declared.answer.Answer.TheVariants as A
 use Rattle.office_model.specs.declared.refusal.Refusal.{Refusal}
 use Rattle.office_model.specs.Meaning.{Reply}
 use Rattle.office_model.specs.Step.{Call}
-use Rattle.call_scripts.specs.Scripts.{each_of, AreAnswered, Begins, events_of}
-use Rattle.call_scripts.specs.ScriptLaws.{begins_each, begins_refused, AreAnswered-append, EndRefused-append}
+use Rattle.call_scripts.specs.Scripts.{Script, each_of, AreAnswered, Begins}
+use Rattle.call_scripts.specs.ScriptLaws.{AreAnswered-append, EndRefused-append}
 use Rattle.call_scripts.specs.Moments.{Gave}
-use Rattle.folder_laws.specs.Calls.{open_call, put_calls, remove_call, remove_calls, commit_call}
+use Rattle.folder_laws.specs.Calls.{open_call, ArePuts, remove_call, remove_calls, commit_call}
 use Rattle.folder_laws.specs.Compares.{root}
 use Rattle.folder_laws.specs.Lists.{AreLists, AreRemovals, backups_call, last_line}
-use Rattle.folder_laws.specs.DumpScript.{put_events, remove_events, list_script, removal_script, base_script}
-use Rattle.folder_laws.specs.DumpScriptLaws.{events_of-puts, AreAnswered-puts, AreAnswered-removes, begins_lists, begins_base}
+use Rattle.folder_laws.specs.DumpScript.{each_then, puts_script, remove_events, list_script, removal_script, base_script}
+use Rattle.folder_laws.specs.DumpScriptLaws.{AreAnswered-removes, begins_puts, begins_lists, begins_base}
 use Rattle.folder_walk.specs.declared.refusals.DumpRefusal.{DumpRefusal}
 use Rattle.folder_walk.specs.declared.refusals.DumpRefusal.TheVariants as D
 use Rattle.folder_walk.specs.Causes.{refusal_of}
-use Rattle.folder_walk.specs.Puts.{AnsweredOr, IsRefusedCall, IsCallFault, PutsFail, PutsOf, PutsAll}
+use Rattle.folder_walk.specs.Puts.{AnsweredOr, IsRefusedCall, IsCallFault, PutsAll}
 use Rattle.folder_walk.specs.Bases.{IsFailedWith, IsFailedCall, number_of, LastAsked, ListsDone, ListsStop, RemovesAll, MakesBase}
 use Rattle.folder_walk.specs.Dumps.{Fills, Dumped, Stopped}
 use Rattle.folder_walk.proofs.WalkSteps.{AnsweredOr-behind}
 
 -- ---- puts and removals begin their script
 
--- puts of the first rows
-pub begins_puts : (dump : SessionName) (done rest : Tree) (events : List Event) (calls : List Call) (o : Option Refusal) → PutsFail dump done rest calls o
-    → Begins (each_of (put_events dump (done ++ rest) ++ events)) calls
-begins_puts dump done rest events calls None are =
-    subst (λ cs. Begins (each_of (put_events dump (done ++ rest) ++ events)) cs) (sym are)
-    (subst (λ es. Begins (each_of es) (put_calls dump done)) events_are
-    (begins_each (put_calls dump done) (put_events dump rest ++ events) (AreAnswered-puts dump done)))
-  where
-    events_are : events_of (put_calls dump done) ++ (put_events dump rest ++ events) ≡ put_events dump (done ++ rest) ++ events
-    events_are =
-        ap (λ es. es ++ (put_events dump rest ++ events)) (events_of-puts dump done)
-        ∙ sym (append_assoc (put_events dump done) (put_events dump rest) events)
-        ∙ ap (λ es. es ++ events) (sym (map-append (λ (row : List ℕ × Item). E.Put dump row.0 (Whole row.1)) done rest))
-begins_puts dump done rest events calls (Some refusal) are =
-    subst (λ cs. Begins (each_of (put_events dump (done ++ rest) ++ events)) cs) (sym are.3)
-    (subst (λ es. Begins (each_of es) (put_calls dump done ++ (E.Put dump are.0.0 (Whole are.0.1), Err refusal) ∷ [])) events_are
-    (begins_refused (put_calls dump done) (E.Put dump are.0.0 (Whole are.0.1)) refusal (put_events dump are.1 ++ events) (AreAnswered-puts dump done)))
-  where
-    events_are : events_of (put_calls dump done) ++ E.Put dump are.0.0 (Whole are.0.1) ∷ (put_events dump are.1 ++ events)
-        ≡ put_events dump (done ++ rest) ++ events
-    events_are =
-        ap (λ es. es ++ (put_events dump (are.0 ∷ are.1) ++ events)) (events_of-puts dump done)
-        ∙ sym (append_assoc (put_events dump done) (put_events dump (are.0 ∷ are.1)) events)
-        ∙ ap (λ es. es ++ events) (sym (map-append (λ (row : List ℕ × Item). E.Put dump row.0 (Whole row.1)) done (are.0 ∷ are.1)))
-        ∙ ap (λ rows. put_events dump (done ++ rows) ++ events) (sym are.2)
-
 -- all puts, and a commit that was refused
-pub begins_commit : (dump : SessionName) (tree : Tree) (moment : ℕ) (refusal : Refusal)
-    → Begins (each_of (put_events dump tree ++ E.Commit dump moment ∷ [])) (put_calls dump tree ++ (E.Commit dump moment, Err refusal) ∷ [])
-begins_commit dump tree moment refusal =
-    subst (λ es. Begins (each_of (es ++ E.Commit dump moment ∷ [])) (put_calls dump tree ++ (E.Commit dump moment, Err refusal) ∷ []))
-    (events_of-puts dump tree)
-    (begins_refused (put_calls dump tree) (E.Commit dump moment) refusal [] (AreAnswered-puts dump tree))
+begins_commit : (dump : SessionName) (tree : Tree) (puts : List Call) (moment : ℕ) (refusal : Refusal) → ArePuts dump tree puts
+    → Begins (puts_script dump tree (each_of (E.Commit dump moment ∷ []))) (puts ++ (E.Commit dump moment, Err refusal) ∷ [])
+begins_commit dump tree puts moment refusal are =
+    begins_puts dump tree puts (each_of (E.Commit dump moment ∷ [])) ((E.Commit dump moment, Err refusal) ∷ []) are (refl, tt)
 
 -- removals of the first paths, and one that was refused
-begins_removes : (dump : SessionName) (done : List (List ℕ)) (path : List ℕ) (more : List (List ℕ)) (refusal : Refusal) (events : List Event)
-    → Begins (each_of (remove_events dump (done ++ path ∷ more) ++ events)) (remove_calls dump done ++ (E.Remove dump path, Err refusal) ∷ [])
-begins_removes dump [] path more refusal events = (refl, tt)
-begins_removes dump (first ∷ done) path more refusal events = (refl, begins_removes dump done path more refusal events)
+begins_removes : (dump : SessionName) (done : List (List ℕ)) (path : List ℕ) (more : List (List ℕ)) (refusal : Refusal) (next : Script)
+    → Begins (each_then (remove_events dump (done ++ path ∷ more)) next) (remove_calls dump done ++ (E.Remove dump path, Err refusal) ∷ [])
+begins_removes dump [] path more refusal next = (refl, tt)
+begins_removes dump (first ∷ done) path more refusal next = (refl, begins_removes dump done path more refusal next)
 
 module _ {P : Type 0} (moves : P → List Call → P → Type 0) (joined : (p q r : P) (xs ys : List Call) → moves p xs q → moves q ys r → moves p (xs ++ ys) r)
     (dump : SessionName) where
@@ -124,13 +93,13 @@ module _ {P : Type 0} (moves : P → List Call → P → Type 0) (joined : (p q 
         calls = [];
         moved = moved;
         so = subst (λ (r : Option Refusal). AnsweredOr r []) (sym is) tt;
-        ends = λ tree here is_tree events. tt;
+        ends = λ tree here is_tree next. tt;
       }
       step (Some refusal) is moved = record {
         calls = (E.Backups host, Err refusal) ∷ [];
         moved = moved;
         so = subst (λ (r : Option Refusal). AnsweredOr r ((E.Backups host, Err refusal) ∷ [])) (sym is) (refl, refl);
-        ends = λ tree here is_tree events. (refl, tt);
+        ends = λ tree here is_tree next. (refl, tt);
       }
 
   -- there is no last backup
@@ -147,17 +116,17 @@ module _ {P : Type 0} (moves : P → List Call → P → Type 0) (joined : (p q 
       step tree (Some line) e = absurd (cc)
 
   -- what begins the script of a base whose last backup has this number
-  begins_asked : (tree : Tree) (lines : List Line) (next : ℕ) (other : Option SessionName) (number : ℕ) (calls : List Call) (events : List Event)
+  begins_asked : (tree : Tree) (lines : List Line) (following : ℕ) (other : Option SessionName) (number : ℕ) (calls : List Call) (next : Script)
       → Some number ≡ number_of (last_line lines)
-      → Begins (list_script tree host number dump events (root ∷ []) []) calls
-      → Begins (base_script Incr tree host dump events) (backups_call host lines next other ∷ calls)
-  begins_asked tree lines next other number calls events is begins = (refl, step (last_line lines) is)
+      → Begins (list_script tree host number dump next (root ∷ []) []) calls
+      → Begins (base_script Incr tree host dump next) (backups_call host lines following other ∷ calls)
+  begins_asked tree lines following other number calls next is begins = (refl, step (last_line lines) is)
     where
-      step : (o : Option Line) → Some number ≡ number_of o → Begins (removal_script tree host dump events o) calls
+      step : (o : Option Line) → Some number ≡ number_of o → Begins (removal_script tree host dump next o) calls
       step None e = absurd (cc)
       step (Some line) e =
           let same : number ≡ line.number = cc in
-          subst (λ n. Begins (list_script tree host n dump events (root ∷ []) []) calls) same begins
+          subst (λ n. Begins (list_script tree host n dump next (root ∷ []) []) calls) same begins
 
   -- the listings stopped
   pub base_unlisted : (old mid new : P) (number : ℕ) (fault : DumpRefusal) → LastAsked moves old mid host (Some number)
@@ -166,8 +135,8 @@ module _ {P : Type 0} (moves : P → List Call → P → Type 0) (joined : (p q 
     calls = backups_call host asked.lines asked.next asked.dump ∷ stop.calls;
     moved = joined old mid new (backups_call host asked.lines asked.next asked.dump ∷ []) stop.calls asked.moved stop.moved;
     so = AnsweredOr-behind (refusal_of fault) (backups_call host asked.lines asked.next asked.dump ∷ []) stop.calls tt stop.so;
-    ends = λ tree is is_tree events.
-        begins_asked tree asked.lines asked.next asked.dump number stop.calls events asked.last_is (stop.begins tree is is_tree dump events);
+    ends = λ tree is is_tree next.
+        begins_asked tree asked.lines asked.next asked.dump number stop.calls next asked.last_is (stop.begins tree is is_tree dump next);
   }
 
   pub base_removed : (old mid listed new : P) (number : ℕ) (gone : List (List ℕ)) → LastAsked moves old mid host (Some number)
@@ -212,12 +181,12 @@ module _ {P : Type 0} (moves : P → List Call → P → Type 0) (joined : (p q 
             (subst (λ (r : Option Refusal). AnsweredOr r removes.calls) (sym is)
             (subst (λ cs. AnsweredOr (Some refusal) cs) (sym calls_are)
             (EndRefused-append (remove_calls dump done) ((E.Remove dump path, Err refusal) ∷ []) refusal (AreAnswered-removes dump done) (refl, refl)))));
-        ends = λ tree here is_tree events.
-            begins_asked tree asked.lines asked.next asked.dump number (lists.calls ++ removes.calls) events asked.last_is
-            (begins_lists tree host number dump events lists.calls (root ∷ []) [] [] gone removes.calls (lists.are tree here is_tree)
-            (subst (λ cs. Begins (each_of (remove_events dump gone ++ events)) cs) (sym calls_are)
-            (subst (λ paths. Begins (each_of (remove_events dump paths ++ events)) (remove_calls dump done ++ (E.Remove dump path, Err refusal) ∷ []))
-            (sym split) (begins_removes dump done path more refusal events))));
+        ends = λ tree here is_tree next.
+            begins_asked tree asked.lines asked.next asked.dump number (lists.calls ++ removes.calls) next asked.last_is
+            (begins_lists tree host number dump next lists.calls (root ∷ []) [] [] gone removes.calls (lists.are tree here is_tree)
+            (subst (λ cs. Begins (each_then (remove_events dump gone) next) cs) (sym calls_are)
+            (subst (λ paths. Begins (each_then (remove_events dump paths) next) (remove_calls dump done ++ (E.Remove dump path, Err refusal) ∷ []))
+            (sym split) (begins_removes dump done path more refusal next))));
       }
 
   -- ---- an open dump
@@ -231,7 +200,7 @@ module _ {P : Type 0} (moves : P → List Call → P → Type 0) (joined : (p q 
       clock = refl;
       moved = base.moved;
       so = base.so;
-      ends = λ tree is is_tree. base.ends tree is is_tree (put_events dump tree ++ []);
+      ends = λ tree is is_tree. base.ends tree is is_tree (puts_script dump tree (each_of []));
     }
 
     pub unput : (old based new : P) (fault : DumpRefusal) → MakesBase moves old based told kind host dump (Ok tt)
@@ -243,16 +212,9 @@ module _ {P : Type 0} (moves : P → List Call → P → Type 0) (joined : (p q 
       moved = joined old based new base.calls puts.calls base.moved puts.moved;
       so = AnsweredOr-behind (refusal_of fault) base.calls puts.calls base.so puts.so;
       ends = λ tree is is_tree.
-          let p : PutsOf dump tree puts.calls (Err fault) = puts.puts tree is is_tree in
-          begins_base kind tree host dump (put_events dump tree ++ []) base.calls puts.calls (base.ends tree is is_tree)
-          (subst (λ t. Begins (each_of (put_events dump t ++ [])) puts.calls) (sym p.split)
-          (begins_puts dump p.done p.rest [] puts.calls (refusal_of fault) p.ends));
+          begins_base kind tree host dump (puts_script dump tree (each_of [])) base.calls puts.calls (base.ends tree is is_tree)
+          (puts.puts tree is is_tree (each_of []));
     }
-
-    -- all rows were put
-    all_put : (tree : Tree) (calls : List Call) → PutsOf dump tree calls (Ok tt) → calls ≡ put_calls dump tree
-    all_put tree calls p =
-        p.ends.1 ∙ ap (put_calls dump) (sym (append-nil p.done) ∙ ap (λ rows. p.done ++ rows) (sym p.ends.0) ∙ sym p.split)
 
     pub uncommitted : (old based filled new : P) (moment : ℕ) (moments' : Option (List ℕ)) (fault : DumpRefusal)
         → MakesBase moves old based told kind host dump (Ok tt) → PutsAll moves based filled told dump (Ok tt)
@@ -273,10 +235,9 @@ module _ {P : Type 0} (moves : P → List Call → P → Type 0) (joined : (p q 
               (AnsweredOr-behind (refusal_of fault) puts.calls ((E.Commit dump moment, Err refusal) ∷ []) puts.so
               (subst (λ (r : Option Refusal). AnsweredOr r ((E.Commit dump moment, Err refusal) ∷ [])) (sym is) (refl, refl)));
           ends = λ tree here is_tree.
-              begins_base kind tree host dump (put_events dump tree ++ E.Commit dump moment ∷ []) base.calls
+              begins_base kind tree host dump (puts_script dump tree (each_of (E.Commit dump moment ∷ []))) base.calls
               (puts.calls ++ (E.Commit dump moment, Err refusal) ∷ []) (base.ends tree here is_tree)
-              (subst (λ cs. Begins (each_of (put_events dump tree ++ E.Commit dump moment ∷ [])) (cs ++ (E.Commit dump moment, Err refusal) ∷ []))
-              (sym (all_put tree puts.calls (puts.puts tree here is_tree))) (begins_commit dump tree moment refusal));
+              (begins_commit dump tree puts.calls moment refusal (puts.puts tree here is_tree));
         }
 
     pub filled_up : (old based filled new : P) (moment number : ℕ) (moments' : Option (List ℕ))
@@ -291,13 +252,7 @@ module _ {P : Type 0} (moves : P → List Call → P → Type 0) (joined : (p q 
           (joined based filled new puts.calls (commit_call dump moment number ∷ []) puts.moved moved);
       so = AreAnswered-append base.calls (puts.calls ++ commit_call dump moment number ∷ []) base.so
           (AreAnswered-append puts.calls (commit_call dump moment number ∷ []) puts.so tt);
-      ends = λ tree is is_tree. (
-        base.calls,
-        moment,
-        base.ends tree is is_tree,
-        refl,
-        ap (λ cs. base.calls ++ (cs ++ commit_call dump moment number ∷ [])) (all_put tree puts.calls (puts.puts tree is is_tree)),
-      );
+      ends = λ tree is is_tree. (base.calls, puts.calls, moment, base.ends tree is is_tree, puts.puts tree is is_tree, refl, refl);
     }
 
 -- ---- the whole
@@ -319,12 +274,14 @@ module _ {P : Type 0} (moves : P → List Call → P → Type 0) (joined : (p q 
     whole = λ tree is is_tree.
         let e = fills.ends tree is is_tree in
         record {
-          moment = e.1;
+          moment = e.2;
           dump = dump;
           base = e.0;
-          is_base = e.2;
-          later_is = e.3;
-          calls_are = ap (λ cs. open_call host kind now dump ∷ cs) e.4;
+          puts = e.1;
+          is_base = e.3;
+          are_puts = e.4;
+          later_is = e.5;
+          calls_are = ap (λ cs. open_call host kind now dump ∷ cs) e.6;
         };
   }
 

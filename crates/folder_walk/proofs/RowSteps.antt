@@ -1,8 +1,8 @@
 -- The step of a walk at a row: its put, and what lies in it.
-use Rattle.std.specs.Prelude.{◌≡◌, ℕ, Bool, true, false, cond, List, [], ◌∷◌, ◌++◌, map, reverse, Option, Some, None, Ok, Err, is_some, bytes_eq}
+use Rattle.std.specs.Prelude.{◌≡◌, ℕ, Bool, true, false, cond, List, [], ◌∷◌, ◌++◌, map, reverse, Option, Some, None, Ok, Err, ⊤, is_some, bytes_eq}
 use Rattle.std.specs.List.{filter}
 use Rattle.std.specs.Option.{option_eq}
-use Rattle.std.proofs.Common.{refl, sym, ap, ◌∙◌, subst, inr, append_assoc}
+use Rattle.std.proofs.Common.{refl, sym, ap, ◌∙◌, subst, append_assoc}
 use Rattle.std.proofs.lemmas.Bool.{true≢false}
 use Rattle.std.proofs.lemmas.List.{append-nil}
 use Rattle.std.proofs.lemmas.Slice.Eq.{bytes_eq-Decides}
@@ -18,6 +18,9 @@ use Rattle.folder_laws.specs.Walks.{children}
 use Rattle.folder_laws.specs.WalkLaws.{node_between}
 use Rattle.office_model.specs.declared.session.SessionName.{SessionName}
 use Rattle.office_model.specs.Step.{Call}
+use Rattle.call_scripts.specs.Scripts.{Begins}
+use Rattle.folder_laws.specs.DumpScript.{item_script}
+use Rattle.folder_laws.specs.DumpScriptLaws.{begins_put}
 use Rattle.folder_walk.specs.declared.rows.Row.{Row}
 use Rattle.folder_walk.specs.declared.refusals.DumpRefusal.{DumpRefusal}
 use Rattle.folder_walk.specs.declared.refusals.DumpRefusal.TheVariants as D
@@ -25,7 +28,7 @@ use Rattle.office_model.specs.declared.event.Event.{Event}
 use Rattle.office_model.specs.declared.refusal.Refusal.{Refusal}
 use Rattle.folder_walk.specs.Rows.{row_found, rows_found, is_dir_node}
 use Rattle.folder_walk.specs.Causes.{IsNoRefusal, IsListFault, IsRowCause}
-use Rattle.folder_walk.specs.Puts.{AnsweredOr, IsCallFault, PutFails, PutsEntry, PutsRow}
+use Rattle.folder_walk.specs.Puts.{AnsweredOr, IsCallFault, PutsEntry, PutsRow}
 
 is_child-parent : (d q : List ℕ) → is_child (Some d) q ≡ true → parent q ≡ Some d
 is_child-parent d q e = step (parent q) e
@@ -80,7 +83,7 @@ call_cause moves old new told node event D.Folder refused = absurd refused
 call_cause moves old new told node event D.Memory refused = absurd refused
 
 module _ {P : Type 0} (moves : P → List Call → P → Type 0) (old new : P) (told : Option Tree) (dump : SessionName) (row : Row) where
-  pub row_failed : (pending pending' : List Row) (fault : DumpRefusal) → PutsEntry moves old new told dump row.path row.node (Err fault)
+  pub row_failed : (pending pending' : List Row) (fault : DumpRefusal) → PutsEntry {A = ⊤} moves old new told dump row.path row.node (Err fault)
       → PutsRow moves old new told dump row pending pending' (Err fault)
   row_failed pending pending' fault put = record {
     calls = put.calls;
@@ -90,7 +93,7 @@ module _ {P : Type 0} (moves : P → List Call → P → Type 0) (old new : P) (
     grows = λ tree is is_tree item at found. tt;
   }
 
-  pub row_leaf : (pending : List Row) → PutsEntry moves old new told dump row.path row.node (Ok tt) → is_dir_node row.node ≡ false
+  pub row_leaf : (pending : List Row) → PutsEntry {A = ⊤} moves old new told dump row.path row.node (Ok tt) → is_dir_node row.node ≡ false
       → PutsRow moves old new told dump row pending pending (Ok tt)
   row_leaf pending put leaf = record {
     calls = put.calls;
@@ -103,7 +106,7 @@ module _ {P : Type 0} (moves : P → List Call → P → Type 0) (old new : P) (
         (sym (no_children tree row.path item is_tree at (sym (kind_of_found item) ∙ ap is_dir_node (sym found) ∙ leaf)));
   }
 
-  pub row_dir : (pending pending' : List Row) → PutsEntry moves old new told dump row.path row.node (Ok tt)
+  pub row_dir : (pending pending' : List Row) → PutsEntry {A = ⊤} moves old new told dump row.path row.node (Ok tt)
       → ((tree : Tree) → told ≡ Some tree → pending' ≡ pending ++ reverse (rows_found tree (Some row.path)))
       → PutsRow moves old new told dump row pending pending' (Ok tt)
   row_dir pending pending' put pushed = record {
@@ -114,13 +117,14 @@ module _ {P : Type 0} (moves : P → List Call → P → Type 0) (old new : P) (
     grows = λ tree is is_tree item at found. pushed tree is;
   }
 
-  pub row_unlisted : (pending pending' : List Row) (fault : DumpRefusal) → PutsEntry moves old new told dump row.path row.node (Ok tt)
+  pub row_unlisted : (pending pending' : List Row) (fault : DumpRefusal) → PutsEntry {A = ⊤} moves old new told dump row.path row.node (Ok tt)
       → IsNoRefusal fault → PutsRow moves old new told dump row pending pending' (Err fault)
   row_unlisted pending pending' fault put unrefused = record {
     calls = put.calls;
     moved = put.moved;
     so = subst (λ (r : Option Refusal). AnsweredOr r put.calls) (sym unrefused) put.so;
-    ends = λ tree is item at found.
-        subst (λ (r : Option Refusal). PutFails dump (row.path, item) put.calls r) (sym unrefused) (inr (put.ends tree is item at found));
+    ends = λ tree is item at found next.
+        subst (λ cs. Begins (item_script dump row.path item next) cs) (append-nil put.calls)
+        (begins_put dump (row.path, item) put.calls next [] (put.ends tree is item at found) tt);
     grows = λ tree is is_tree item at found. tt;
   }

@@ -1,7 +1,7 @@
--- The steps of a walk: one put each, in the order of the tree.
-use Rattle.std.specs.Prelude.{◌≡◌, ℕ, cond, List, [], ◌∷◌, ◌++◌, map, reverse, take, ◌-◌, ◌<◌, length, Option, Some, None, Ok, Err}
+-- The steps of a walk: a row is put in each, in the order of the tree.
+use Rattle.std.specs.Prelude.{◌≡◌, ℕ, cond, List, [], ◌∷◌, ◌++◌, map, reverse, take, ◌-◌, ◌<◌, length, Option, Some, None, Ok, Err, ⊤}
 use Rattle.std.specs.List.{filter}
-use Rattle.std.proofs.Common.{refl, sym, ap, ◌∙◌, subst, inl, inr, append_assoc}
+use Rattle.std.proofs.Common.{refl, sym, ap, ◌∙◌, subst, append_assoc}
 use Rattle.std.proofs.lemmas.List.{reverse-append, reverse-reverse, map-append, append-nil}
 use Rattle.attr_records.specs.declared.nodes.Item.{Item}
 use Rattle.attr_records.specs.Items.{Tree, is_dir}
@@ -13,23 +13,23 @@ use Rattle.folder_trait.specs.declared.found.FoundNode.TheVariants as N
 use Rattle.folder_trait.specs.declared.found.FoundFile.{FoundFile}
 use Rattle.folder_trait.specs.declared.found.FoundLink.{FoundLink}
 use Rattle.folder_trait.specs.Folders.{found_of}
-use Rattle.call_scripts.specs.Scripts.{AreAnswered}
+use Rattle.call_scripts.specs.Scripts.{Script, Begins, AreAnswered}
 use Rattle.call_scripts.specs.ScriptLaws.{AreAnswered-append, EndRefused-append}
 use Rattle.folder_laws.specs.CompareLaws.{stands_at}
 use Rattle.office_model.specs.declared.refusal.Refusal.{Refusal}
 use Rattle.folder_laws.specs.Walks.{children, is_open}
 use Rattle.folder_laws.specs.WalkLaws.{first_open, open_more, open_first, node_between}
-use Rattle.folder_laws.specs.Calls.{put_call, put_calls}
+use Rattle.folder_laws.specs.Calls.{IsPut, ArePuts}
+use Rattle.folder_laws.specs.DumpScript.{item_script, puts_script}
+use Rattle.folder_laws.specs.DumpScriptLaws.{begins_some_puts, ArePuts-more}
 use Rattle.office_model.specs.declared.session.SessionName.{SessionName}
-use Rattle.office_model.specs.declared.event.Event.TheVariants as E
-use Rattle.office_model.specs.declared.event.PutItem.TheVariants.{Whole}
 use Rattle.office_model.specs.Step.{Call}
 use Rattle.folder_walk.specs.declared.rows.Row.{Row}
 use Rattle.folder_walk.specs.declared.refusals.DumpRefusal.{DumpRefusal}
 use Rattle.folder_walk.specs.declared.refusals.DumpRefusal.TheVariants as D
 use Rattle.folder_walk.specs.Rows.{row_found, rows_found}
 use Rattle.folder_walk.specs.Causes.{refusal_of, IsNoRefusal, HasBadTarget, HasLargeFile, IsListFault, IsRowCause, IsCauseIn, IsDumpCause}
-use Rattle.folder_walk.specs.Puts.{AnsweredOr, PutFails, PutEnds, Grows, PutsRow, Walked, PutsSoFar, PutsFail, PutsOf, PutsAll}
+use Rattle.folder_walk.specs.Puts.{AnsweredOr, PutEnds, Grows, PutsRow, Walked, PutsSoFar, PutsOf, PutsAll}
 
 link_targets : (a b : FoundLink) → N.Link a ≡ N.Link b → a.target ≡ b.target
 link_targets a b e = let same : a ≡ b = cc in ap (λ (l : FoundLink). l.target) same
@@ -64,9 +64,6 @@ none_left done (e ∷ rest) is_tree stack =
 snoc : {X : Type 0} (xs : List X) (x : X) (ys : List X) → xs ++ x ∷ ys ≡ (xs ++ x ∷ []) ++ ys
 snoc xs x ys = sym (append_assoc xs (x ∷ []) ys)
 
-put_calls-more : (dump : SessionName) (done : Tree) (e : List ℕ × Item) → put_calls dump done ++ put_call dump e ∷ [] ≡ put_calls dump (done ++ e ∷ [])
-put_calls-more dump done e = sym (map-append (put_call dump) done (e ∷ []))
-
 module _ (dump : SessionName) (tree : Tree) (is_tree : IsTree is_dir tree) where
   -- the next row, with what the folder says of it
   pub record Next (calls : List Call) (front : List Row) (row : Row) : Type 0 where
@@ -74,7 +71,7 @@ module _ (dump : SessionName) (tree : Tree) (is_tree : IsTree is_dir tree) where
     pub next : List ℕ × Item
     pub later : Tree
     pub split : tree ≡ done ++ next ∷ later
-    pub asked : calls ≡ put_calls dump done
+    pub asked : ArePuts dump done calls
     pub row_is : row ≡ row_found next
     pub front_is : reverse front ≡ map row_found (filter (is_open done) later)
     pub at : node_at tree row.path ≡ Some next.1
@@ -99,21 +96,21 @@ module _ (dump : SessionName) (tree : Tree) (is_tree : IsTree is_dir tree) where
 
   -- one more put
   pub walked_more : (calls more : List Call) (front pending : List Row) (row : Row) → Walked dump tree calls (front ++ row ∷ [])
-      → ((item : Item) → node_at tree row.path ≡ Some item → row.node ≡ found_of item → PutEnds dump (row.path, item) more (Ok tt))
+      → ((item : Item) → node_at tree row.path ≡ Some item → row.node ≡ found_of item → PutEnds {A = ⊤} dump (row.path, item) more (Ok tt))
       → ((item : Item) → node_at tree row.path ≡ Some item → row.node ≡ found_of item → Grows tree row.path front pending (Ok tt))
       → Walked dump tree (calls ++ more) pending
   walked_more calls more front pending row w ends grows =
       let n = next_row calls front row w in
       let path_is : row.path ≡ n.next.0 = ap (λ (r : Row). r.path) n.row_is in
       let whole : IsTree is_dir (n.done ++ n.next ∷ n.later) = subst (λ t. IsTree is_dir t) n.split is_tree in
-      let put : more ≡ put_call dump n.next ∷ [] = ends n.next.1 n.at n.found ∙ ap (λ p. put_call dump (p, n.next.1) ∷ []) path_is in
+      let put : IsPut dump n.next more = subst (λ p. IsPut dump (p, n.next.1) more) path_is (ends n.next.1 n.at n.found) in
       let grown : pending ≡ front ++ reverse (rows_found tree (Some n.next.0)) =
       grows n.next.1 n.at n.found ∙ ap (λ p. front ++ reverse (rows_found tree (Some p))) path_is in
       record {
         done = n.done ++ n.next ∷ [];
         rest = n.later;
         split = n.split ∙ snoc n.done n.next n.later;
-        asked = (λ i. n.asked i ++ put i) ∙ put_calls-more dump n.done n.next;
+        asked = ArePuts-more dump n.done n.next calls more n.asked put;
         stack = ap reverse grown ∙ reverse-append front (reverse (rows_found tree (Some n.next.0)))
             ∙ (λ i. reverse-reverse (rows_found tree (Some n.next.0)) i ++ n.front_is i)
             ∙ sym (map-append row_found (children tree (Some n.next.0)) (filter (is_open n.done) n.later))
@@ -130,55 +127,31 @@ module _ (dump : SessionName) (tree : Tree) (is_tree : IsTree is_dir tree) where
     stack = ap reverse are ∙ reverse-reverse (rows_found tree None) ∙ ap (map row_found) (sym (open_first tree));
   }
 
-  pub walked_all : (calls : List Call) → Walked dump tree calls [] → PutsOf dump tree calls (Ok tt)
-  walked_all calls w = record {
-    done = w.done;
-    rest = w.rest;
-    split = w.split;
-    ends = (none_left w.done w.rest (subst (λ t. IsTree is_dir t) w.split is_tree) w.stack, w.asked);
-  }
+  pub walked_all : (calls : List Call) → Walked dump tree calls [] → ArePuts dump tree calls
+  walked_all calls w =
+      let bare : w.rest ≡ [] = none_left w.done w.rest (subst (λ t. IsTree is_dir t) w.split is_tree) w.stack in
+      subst (λ rows. ArePuts dump rows calls) (sym (append-nil w.done) ∙ ap (λ rows. w.done ++ rows) (sym bare) ∙ sym w.split) w.asked
+
+  -- rows were put, and behind them what begins the script of the others
+  begun : (calls more : List Call) (done rest : Tree) (next : Script) → ArePuts dump done calls → tree ≡ done ++ rest
+      → Begins (puts_script dump rest next) more → Begins (puts_script dump tree next) (calls ++ more)
+  begun calls more done rest next asked split begins =
+      subst (λ t. Begins (puts_script dump t next) (calls ++ more)) (sym split) (begins_some_puts dump done rest calls next more asked begins)
 
   pub walked_memory : (calls : List Call) (pending : List Row) → Walked dump tree calls pending → PutsOf dump tree calls (Err D.Memory)
-  walked_memory calls pending w = record { done = w.done; rest = w.rest; split = w.split; ends = w.asked }
+  walked_memory calls pending w next =
+      subst (λ cs. Begins (puts_script dump tree next) cs) (append-nil calls) (begun calls [] w.done w.rest next w.asked w.split tt)
 
   -- the walk ended at a row
   pub walked_failed : (calls more : List Call) (front : List Row) (row : Row) (fault : DumpRefusal) → Walked dump tree calls (front ++ row ∷ [])
-      → ((item : Item) → node_at tree row.path ≡ Some item → row.node ≡ found_of item → PutEnds dump (row.path, item) more (Err fault))
+      → ((item : Item) → node_at tree row.path ≡ Some item → row.node ≡ found_of item → PutEnds {A = ⊤} dump (row.path, item) more (Err fault))
       → PutsOf dump tree (calls ++ more) (Err fault)
-  walked_failed calls more front row fault w ends = step (refusal_of fault) refl (ends n.next.1 n.at n.found)
-    where
-      n : Next calls front row
-      n = next_row calls front row w
-
-      path_is : row.path ≡ n.next.0
-      path_is = ap (λ (r : Row). r.path) n.row_is
-
-      before : more ≡ [] → calls ++ more ≡ put_calls dump n.done
-      before none = ap (λ xs. calls ++ xs) none ∙ append-nil calls ∙ n.asked
-
-      behind : more ≡ put_call dump (row.path, n.next.1) ∷ [] → calls ++ more ≡ put_calls dump (n.done ++ n.next ∷ [])
-      behind one = (λ i. n.asked i ++ (one ∙ ap (λ p. put_call dump (p, n.next.1) ∷ []) path_is) i) ∙ put_calls-more dump n.done n.next
-
-      step : (o : Option Refusal) → refusal_of fault ≡ o → PutFails dump (row.path, n.next.1) more o → PutsOf dump tree (calls ++ more) (Err fault)
-      step None is (inl unput) = record {
-        done = n.done;
-        rest = n.next ∷ n.later;
-        split = n.split;
-        ends = subst (λ (r : Option Refusal). PutsFail dump n.done (n.next ∷ n.later) (calls ++ more) r) (sym is) (before unput);
-      }
-      step None is (inr one) = record {
-        done = n.done ++ n.next ∷ [];
-        rest = n.later;
-        split = n.split ∙ snoc n.done n.next n.later;
-        ends = subst (λ (r : Option Refusal). PutsFail dump (n.done ++ n.next ∷ []) n.later (calls ++ more) r) (sym is) (behind one);
-      }
-      step (Some refusal) is e = record {
-        done = n.done;
-        rest = n.next ∷ n.later;
-        split = n.split;
-        ends = subst (λ (r : Option Refusal). PutsFail dump n.done (n.next ∷ n.later) (calls ++ more) r) (sym is)
-            (n.next, n.later, refl, (λ i. n.asked i ++ (e ∙ ap (λ p. (E.Put dump p (Whole n.next.1), Err refusal) ∷ []) path_is) i));
-      }
+  walked_failed calls more front row fault w ends next =
+      let n = next_row calls front row w in
+      let path_is : row.path ≡ n.next.0 = ap (λ (r : Row). r.path) n.row_is in
+      begun calls more n.done (n.next ∷ n.later) next n.asked n.split
+      (subst (λ p. Begins (item_script dump p n.next.1 (puts_script dump n.later next)) more) path_is
+      (ends n.next.1 n.at n.found (puts_script dump n.later next)))
 
 -- answered calls come before
 pub AnsweredOr-behind : (o : Option Refusal) (xs ys : List Call) → AreAnswered xs → AnsweredOr o ys → AnsweredOr o (xs ++ ys)
@@ -210,7 +183,7 @@ caused_at told tree node path item D.FileTooLarge is at found cause = step item 
       path = path;
       file = f;
       stands = stands_at tree path (I.File f) at;
-      large = subst (λ n. 67108864 < n) (file_sizes cause.0 (record { attr = f.attr; group = f.group; size = length f.bytes }) is) cause.2;
+      large = subst (λ n. 1099511627775 < n) (file_sizes cause.0 (record { attr = f.attr; group = f.group; size = length f.bytes }) is) cause.2;
     }
     step (I.Dir d) at is = absurd (cc)
     step (I.Link l) at is = absurd (cc)
@@ -272,12 +245,7 @@ module _ {P : Type 0} (moves : P → List Call → P → Type 0) (joined : (p q 
     calls = [];
     moved = none port;
     so = subst (λ (r : Option Refusal). AnsweredOr r []) (sym unrefused) tt;
-    puts = λ tree is is_tree. record {
-      done = [];
-      rest = tree;
-      split = refl;
-      ends = subst (λ (r : Option Refusal). PutsFail dump [] tree [] r) (sym unrefused) refl;
-    };
+    puts = λ tree is is_tree next. tt;
   }
 
   -- the same as a loop's turn has it: what is told, and the stack before its last row was taken

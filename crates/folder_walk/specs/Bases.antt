@@ -14,7 +14,7 @@ use Rattle.office_model.specs.declared.event.Event.{Event}
 use Rattle.office_model.specs.declared.event.Event.TheVariants as E
 use Rattle.office_model.specs.declared.refusal.Refusal.{Refusal}
 use Rattle.office_model.specs.Step.{Call}
-use Rattle.call_scripts.specs.Scripts.{AreAnswered, Begins}
+use Rattle.call_scripts.specs.Scripts.{Script, AreAnswered, Begins}
 use Rattle.folder_laws.specs.declared.known.Known.{Known}
 use Rattle.folder_laws.specs.Calls.{remove_calls}
 use Rattle.folder_laws.specs.Compares.{root}
@@ -107,7 +107,7 @@ pub record ListsDone {P : Type 0} (moves : P → List Call → P → Type 0) (ol
 -- the calls begin the script of the listings, whatever is called behind it
 abbrev pub BeginsLists : Tree → List ℕ → ℕ → List Call → Type 0
 BeginsLists tree host number calls =
-    (dump : SessionName) (events : List Event) → Begins (list_script tree host number dump events (root ∷ []) []) calls
+    (dump : SessionName) (next : Script) → Begins (list_script tree host number dump next (root ∷ []) []) calls
 
 pub record ListsStop {P : Type 0} (moves : P → List Call → P → Type 0) (old new : P) (told : Option Tree) (host : List ℕ) (number : ℕ)
     (fault : DumpRefusal) : Type 0 where
@@ -136,7 +136,7 @@ pub record RemovesAll {P : Type 0} (moves : P → List Call → P → Type 0) (o
 -- the base is ready; or the calls begin its script, whatever is called behind it
 abbrev pub BaseEnds : Kind → Tree → List ℕ → SessionName → List Call → Result ⊤ DumpRefusal → Type 0
 BaseEnds kind tree host dump calls (Ok _) = IsBase kind tree host dump calls
-BaseEnds kind tree host dump calls (Err fault) = (events : List Event) → Begins (base_script kind tree host dump events) calls
+BaseEnds kind tree host dump calls (Err fault) = (next : Script) → Begins (base_script kind tree host dump next) calls
 
 pub record MakesBase {P : Type 0} (moves : P → List Call → P → Type 0) (old new : P) (told : Option Tree) (kind : Kind) (host : List ℕ)
     (dump : SessionName) (result : Result ⊤ DumpRefusal) : Type 0 where

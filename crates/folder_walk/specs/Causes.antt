@@ -47,12 +47,12 @@ pub record HasBadTarget (tree : Tree) : Type 0 where
   pub stands : Stands tree (path, I.Link link)
   pub broken : is_link_target link.target ≡ false
 
--- a file of the tree has more than 67,108,864 bytes
+-- a file of the tree has more bytes than a content may have
 pub record HasLargeFile (tree : Tree) : Type 0 where
   pub path : List ℕ
   pub file : File
   pub stands : Stands tree (path, I.File file)
-  pub large : 67108864 < length file.bytes
+  pub large : 1099511627775 < length file.bytes
 
 -- a row has a path that breaks this rule first
 pub record HasBadRow (rule : BadPath) (rows : List Row) : Type 0 where
@@ -92,7 +92,7 @@ abbrev pub IsRowCause : Option Tree → FoundNode → DumpRefusal → Type 0
 IsRowCause told node (D.Refused refusal) = ⊤
 IsRowCause told node (D.BadPath rule) = ForSome told (HasBadPath rule)
 IsRowCause told node D.BadTarget = (link : FoundLink) × (node ≡ N.Link link) × (is_link_target link.target ≡ false)
-IsRowCause told node D.FileTooLarge = (file : FoundFile) × (node ≡ N.File file) × (67108864 < file.size)
+IsRowCause told node D.FileTooLarge = (file : FoundFile) × (node ≡ N.File file) × (1099511627775 < file.size)
 IsRowCause told node D.Folder = ⊤
 IsRowCause told node D.Memory = ⊤
 

@@ -10,24 +10,25 @@ use Rattle.office_model.specs.declared.event.Event.TheVariants as E
 use Rattle.office_model.specs.declared.answer.Answer.TheVariants as A
 use Rattle.office_model.specs.Meaning.{Reply}
 use Rattle.office_model.specs.Step.{Call}
-use Rattle.call_scripts.specs.Scripts.{AreAnswered, Begins}
+use Rattle.call_scripts.specs.Scripts.{each_of, AreAnswered, Begins}
 use Rattle.call_scripts.specs.Moments.{Gave}
-use Rattle.folder_laws.specs.Calls.{put_calls, commit_call, dump_calls}
+use Rattle.folder_laws.specs.Calls.{ArePuts, commit_call, dump_calls}
 use Rattle.folder_laws.specs.Lists.{IsBase}
-use Rattle.folder_laws.specs.DumpScript.{put_events, base_script, dump_script}
+use Rattle.folder_laws.specs.DumpScript.{puts_script, base_script, dump_script}
 use Rattle.folder_walk.specs.declared.refusals.DumpRefusal.{DumpRefusal}
 use Rattle.folder_walk.specs.Causes.{refusal_of}
 use Rattle.folder_walk.specs.Puts.{AnsweredOr, EndSo}
 
 -- ---- an open dump
 
--- its base, a put for each row, and the commit as the backup of this number; or what begins this
+-- its base, the puts of all rows, and the commit as the backup of this number; or what begins this
 abbrev pub FillEnds : Kind → Tree → List ℕ → SessionName → List ℕ → List Call → Result ℕ DumpRefusal → Type 0
 FillEnds kind tree host dump later calls (Ok number) =
-    (base : List Call) × (moment : ℕ) × IsBase kind tree host dump base × (later ≡ moment ∷ [])
-    × (calls ≡ base ++ (put_calls dump tree ++ commit_call dump moment number ∷ []))
+    (base : List Call) × (puts : List Call) × (moment : ℕ)
+    × IsBase kind tree host dump base × ArePuts dump tree puts × (later ≡ moment ∷ [])
+    × (calls ≡ base ++ (puts ++ commit_call dump moment number ∷ []))
 FillEnds kind tree host dump later calls (Err fault) =
-    Begins (base_script kind tree host dump (put_events dump tree ++ map (E.Commit dump) later)) calls
+    Begins (base_script kind tree host dump (puts_script dump tree (each_of (map (E.Commit dump) later)))) calls
 
 pub record Fills {P : Type 0} (moves : P → List Call → P → Type 0) (old new : P) (told : Option Tree) (moments moments' : Option (List ℕ))
     (kind : Kind) (host : List ℕ) (dump : SessionName) (result : Result ℕ DumpRefusal) : Type 0 where
@@ -45,9 +46,11 @@ pub record IsDump (kind : Kind) (tree : Tree) (host : List ℕ) (now : ℕ) (lat
   pub moment : ℕ
   pub dump : SessionName
   pub base : List Call
+  pub puts : List Call
   pub is_base : IsBase kind tree host dump base
+  pub are_puts : ArePuts dump tree puts
   pub later_is : later ≡ moment ∷ []
-  pub calls_are : calls ≡ dump_calls host kind now moment dump number base tree
+  pub calls_are : calls ≡ dump_calls host kind now moment dump number base puts
 
 -- A dump was committed as the backup of this number. The clock was read as it began and as it was committed. The calls lead from the
 -- port's state before to that after, each was answered, and where the folder tells its tree, they are those of a dump of it.

@@ -1,9 +1,10 @@
 -- What a folder lists, by whole paths.
-use Rattle.std.specs.Prelude.{ℕ, List, Option, map, Bool, true, false}
+use Rattle.std.specs.Prelude.{◌≡◌, ℕ, List, Option, Some, None, map, Bool, true, false, nat_lt}
 use Rattle.attr_records.specs.declared.nodes.Item.{Item}
 use Rattle.attr_records.specs.Items.{Tree}
 use Rattle.folder_trait.specs.Folders.{found_of, path_in}
 use Rattle.folder_trait.specs.declared.found.Found.{Found}
+use Rattle.folder_trait.specs.declared.found.FoundFile.{FoundFile}
 use Rattle.folder_trait.specs.declared.found.FoundNode.{FoundNode}
 use Rattle.folder_trait.specs.declared.found.FoundNode.TheVariants as N
 use Rattle.folder_laws.specs.Walks.{children}
@@ -25,3 +26,14 @@ abbrev pub is_dir_node : FoundNode → Bool
 is_dir_node (N.File file) = false
 is_dir_node (N.Dir dir) = true
 is_dir_node (N.Link link) = false
+
+-- a file of more than 67,108,864 bytes
+abbrev pub is_large_node : FoundNode → Bool
+is_large_node (N.File file) = nat_lt 67108864 file.size
+is_large_node (N.Dir dir) = false
+is_large_node (N.Link link) = false
+
+-- a large file, if it is one
+abbrev pub IsLargeFile : FoundNode → Option FoundFile → Type 0
+IsLargeFile node None = is_large_node node ≡ false
+IsLargeFile node (Some file) = (node ≡ N.File file) × (is_large_node node ≡ true)

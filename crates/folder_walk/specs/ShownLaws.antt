@@ -19,5 +19,5 @@ pub committed_tree : {P : Type 0} (moves : P → List Call → P → Type 0) (ol
     → Committed host number tree state'
 committed_tree moves old new told moments moments' kind host number tree office names faults state' faults' legal sound is_tree is dumped =
     let d : IsDump kind tree host dumped.now dumped.later number dumped.calls = dumped.whole tree is is_tree in
-    dump_shows host d.moment d.dump number tree state' faults' is_tree kind dumped.now d.base office names faults sound d.is_base
+    dump_shows host d.moment d.dump number tree d.puts d.are_puts state' faults' is_tree kind dumped.now d.base office names faults sound d.is_base
     (subst (λ calls. Leads (Running office names) faults calls state' faults') d.calls_are (legal dumped.calls dumped.moved))

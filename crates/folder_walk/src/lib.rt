@@ -7,7 +7,8 @@
 //! | [`dump_folder`] | makes a folder the next backup, `Dumped` and `Stopped` of specs/Dumps |
 //! | [`DumpRefusal`] | why it wasn't; what it means is in specs/Causes |
 //!
-//! It goes over one directory and one file at a time, and doesn't recurse; a `Progress` is told how far it is.
+//! It goes over one directory and one file at a time, and doesn't recurse; a `Progress` is told how far it is. A file of more than
+//! 67,108,864 bytes goes by a stage, so no more of it is held than a piece.
 //!
 //! ```text
 //! let number = dump_folder(alloc, &mut port, &mut folder, &host, Kind::Full, &mut clock, &mut NoProgress)?;
@@ -20,6 +21,7 @@ mod dumping;
 mod putting;
 mod refusals;
 mod rows;
+mod staging;
 
 pub use dumping::dump_folder;
 pub use refusals::DumpRefusal;

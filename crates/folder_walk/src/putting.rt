@@ -1,6 +1,6 @@
 //! Each entry of a folder is put into a dump.
 
-ghost use Rattle.std.specs.Prelude.{◌≡◌, ◌≢◌, ◌++◌, ◌∷◌, [], ℕ, List, reverse, Option, Ok, Some, IfOk, IfErr, OnOk, IsErrOf};
+ghost use Rattle.std.specs.Prelude.{◌≡◌, ◌≢◌, ◌++◌, ◌∷◌, [], ℕ, List, reverse, false, Option, Ok, Some, IfOk, IfErr, OnOk, IsErrOf};
 ghost use Rattle.std.specs.Option.{ForSome};
 ghost use Rattle.fault_counts.specs.Counts.{Counted};
 ghost use Rattle.attr_records.specs.Items.{Tree};
@@ -10,18 +10,19 @@ ghost use Rattle.folder_trait.specs.Folders.{found_of};
 ghost use Rattle.office_model.specs.declared.event.Event.TheVariants as E;
 ghost use Rattle.office_model.specs.declared.event.PutItem.TheVariants.{Whole};
 ghost use Rattle.office_model.specs.declared.answer.Answer.TheVariants as A;
-ghost use Rattle.folder_walk.specs.Rows.{rows_found, is_dir_node};
+ghost use Rattle.folder_walk.specs.Rows.{rows_found, is_dir_node, is_large_node, IsLargeFile};
 ghost use Rattle.folder_walk.specs.Causes.{IsNoRefusal, IsListFault, IsRowCause, IsDumpCause};
 ghost use Rattle.folder_walk.specs.Puts.{IsCallFault, PutsRow, PutsEntry, PutsAll};
 
 use crate::refusals::DumpRefusal;
 use crate::rows::{Row, rows_in};
+use crate::staging::put_large;
 use attr_records::{BadTarget, File, Item, Link, LinkTarget, MAX_FILE_BYTES, PathName};
 use folder_trait::{Count, Folder, FolderFault, FoundFile, FoundLink, FoundNode, Progress};
 use office_model::{Event, Port, PutItem, SessionName};
 use std::alloc::{AllocError, Global};
 
-/// The file at a path of a folder, with its bytes; `None` if it has gone. Of a large one no byte is read.
+/// The file at a path of a folder, with the bytes that it had when it was listed; `None` if it has gone.
 fn read_file<F: Folder>(
     alloc: Global,
     folder: &mut F,
@@ -35,10 +36,7 @@ fn read_file<F: Folder>(
     ensures counted { Counted (F.fault_count folder.old) (F.fault_count folder.new) (IsErrOf result DumpRefusal.Folder) }
 {
     let FoundFile { attr, group, size } = file;
-    if size > MAX_FILE_BYTES {
-        return Err(DumpRefusal::FileTooLarge);
-    }
-    let found = match folder.read(alloc, path) {
+    let found = match folder.read_at(alloc, path, 0, size as usize) {
         Ok(found) => found,
         Err(FolderFault::Failed) => return Err(DumpRefusal::Folder),
         Err(FolderFault::Memory) => return Err(DumpRefusal::Memory),
@@ -130,6 +128,73 @@ fn size_of_node(node: &FoundNode) -> u64 {
     }
 }
 
+/// Puts an entry of a folder that is no large file; says whether it was there.
+fn put_small<P: Port, F: Folder>(
+    alloc: Global,
+    port: &mut P,
+    folder: &mut F,
+    dump: SessionName,
+    path: &PathName,
+    node: FoundNode,
+) -> Result<bool, DumpRefusal>
+    requires { is_large_node node ≡ false }
+    ensures puts { PutsEntry P.moves port.old port.new (F.tree folder.old) dump path.now node result }
+    ensures cause { IfErr result (IsRowCause (F.tree folder.old) node) }
+    ensures same { F.tree folder.new ≡ F.tree folder.old }
+    ensures counted { Counted (F.fault_count folder.old) (F.fault_count folder.new) (IsErrOf result DumpRefusal.Folder) }
+{
+    let found = match item_of(alloc, folder, path, node) {
+        Ok(found) => found,
+        Err(fault) => return Err(fault),
+    };
+    let item = match found {
+        Some(item) => item,
+        None => return Ok(false),
+    };
+    let Ok(path) = path.copy(alloc) else {
+        return Err(DumpRefusal::Memory);
+    };
+    match put_item(alloc, port, dump, path, item) {
+        Ok(()) => Ok(true),
+        Err(fault) => Err(fault),
+    }
+}
+
+/// The file that a node is, if it is a large one.
+fn large_file(node: &FoundNode) -> Option<FoundFile>
+    ensures { IsLargeFile node.now result }
+{
+    match node {
+        FoundNode::File(file) => {
+            if file.size > MAX_FILE_BYTES {
+                return Some(*file);
+            }
+            None
+        }
+        FoundNode::Dir(_) | FoundNode::Link(_) => None,
+    }
+}
+
+/// Puts an entry of a folder; says whether it was there.
+fn put_node<P: Port, F: Folder>(
+    alloc: Global,
+    port: &mut P,
+    folder: &mut F,
+    dump: SessionName,
+    path: &PathName,
+    node: FoundNode,
+) -> Result<bool, DumpRefusal>
+    ensures puts { PutsEntry P.moves port.old port.new (F.tree folder.old) dump path.now node result }
+    ensures cause { IfErr result (IsRowCause (F.tree folder.old) node) }
+    ensures same { F.tree folder.new ≡ F.tree folder.old }
+    ensures counted { Counted (F.fault_count folder.old) (F.fault_count folder.new) (IsErrOf result DumpRefusal.Folder) }
+{
+    match large_file(&node) {
+        Some(file) => put_large(alloc, port, folder, dump, path, file),
+        None => put_small(alloc, port, folder, dump, path, node),
+    }
+}
+
 /// Puts an entry of a folder, unless it has gone.
 fn put_entry<P: Port, F: Folder, G: Progress>(
     alloc: Global,
@@ -146,23 +211,13 @@ fn put_entry<P: Port, F: Folder, G: Progress>(
     ensures counted { Counted (F.fault_count folder.old) (F.fault_count folder.new) (IsErrOf result DumpRefusal.Folder) }
 {
     let bytes = size_of_node(&node);
-    let found = match item_of(alloc, folder, path, node) {
-        Ok(found) => found,
-        Err(fault) => return Err(fault),
-    };
-    let item = match found {
-        Some(item) => item,
-        None => {
-            count.pass_over(path);
-            return Ok(());
-        }
-    };
-    let Ok(path) = path.copy(alloc) else {
-        return Err(DumpRefusal::Memory);
-    };
-    match put_item(alloc, port, dump, path, item) {
-        Ok(()) => {
+    match put_node(alloc, port, folder, dump, path, node) {
+        Ok(true) => {
             count.add(1, bytes);
+            Ok(())
+        }
+        Ok(false) => {
+            count.pass_over(path);
             Ok(())
         }
         Err(fault) => Err(fault),

@@ -12,7 +12,7 @@ pub enum DumpRefusal {
     BadPath(BadPath),
     /// The folder lists a link whose target is none.
     BadTarget,
-    /// The folder lists a file of more than 67,108,864 bytes.
+    /// The folder lists a file of more than 1,099,511,627,775 bytes.
     FileTooLarge,
     /// The folder failed; its count of faults rose.
     Folder,

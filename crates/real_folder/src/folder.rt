@@ -10,8 +10,9 @@ use crate::fault_count::FaultCount;
 use crate::groups::Groups;
 use crate::handle::{Handle, done};
 use crate::listing::found_in;
+use crate::seen::Seen;
 use crate::told::{Place, Shown, Trouble, tell};
-use attr_records::{Attr, Dir, File, Item, Link, MAX_FILE_BYTES, PathName};
+use attr_records::{Attr, Dir, File, Item, Link, PathName};
 use disk_trait::Bytes;
 use folder_trait::{Folder, FolderFault, Found};
 use std::alloc::Global;
@@ -33,8 +34,9 @@ const SET_IDS: u16 = 0o6000;
 /// a name that is no UTF-8, which no path has, the kit's calls say only whether it is a directory, with its attributes, or a link, with
 /// its target: what else it may be is listed as a file without bytes, and attributes that aren't said are the defaults.
 ///
-/// **What is read.** A file as it is now, not as it was listed: it may have changed since, and may change while it is read. Of one
-/// that has grown past 67,108,864 bytes since only these are read.
+/// **What is read.** A file as it is now, not as it was listed: it may have changed since, and may change while it is read. A whole one
+/// is read up to the bytes that it had as it was opened. One that is read piece by piece stays open from its first piece up to its end,
+/// so that no piece is of another file that has come into its place.
 ///
 /// **What is made** is for its owner alone until it has its attributes: owner and group of users, then the mode, then the time. An owner
 /// that the system doesn't let us give (EPERM) is told once, and passed over from then on; the mode is given all the same, with the bits
@@ -54,8 +56,16 @@ pub struct RealFolder {
     /// `None` of one that isn't used.
     root: Option<Directory>,
     groups: Groups,
+    reading: Option<Reading>,
     is_owner_told: bool,
     faults: FaultCount,
+}
+
+/// A file that is read piece by piece.
+#[derive(Debug, Drop)]
+struct Reading {
+    path: PathName,
+    handle: Handle,
 }
 
 impl RealFolder {
@@ -67,6 +77,7 @@ impl RealFolder {
             name: String::from_str(alloc, path)?,
             root: Some(Directory::at(&rt, path)?),
             groups: Groups::new(alloc),
+            reading: None,
             is_owner_told: false,
             faults: FaultCount::new(),
         })
@@ -80,6 +91,7 @@ impl RealFolder {
             name: String::new(alloc),
             root: None,
             groups: Groups::new(alloc),
+            reading: None,
             is_owner_told: false,
             faults: FaultCount::new(),
         }
@@ -159,18 +171,70 @@ impl RealFolder {
         found_in(&self.rt, &mut self.groups, place, &directory, names)
     }
 
-    /// The bytes of the file at a path; `None` if it has gone.
-    fn bytes_at(&self, alloc: Global, path: &PathName) -> io::Result<Option<Vec<u8>>> {
+    /// The file at a path, to be read, with what is said of it; `None` if it has gone.
+    fn open_at(&self, path: &PathName) -> io::Result<Option<(Handle, Seen)>> {
         let (directory, name) = match self.split(path) {
             Ok(found) => found,
             Err(error) if is_gone(&error) => return Ok(None),
             Err(error) => return Err(error),
         };
-        let Some((handle, seen)) = directory.open_file(&self.rt, name)? else {
+        directory.open_file(&self.rt, name)
+    }
+
+    /// The bytes of the file at a path; `None` if it has gone.
+    fn bytes_at(&self, alloc: Global, path: &PathName) -> io::Result<Option<Vec<u8>>> {
+        let Some((handle, seen)) = self.open_at(path)? else {
             return Ok(None);
         };
         let mut bytes = Vec::with_capacity(alloc, room_for(seen.size))?;
-        handle.take(MAX_FILE_BYTES).read_to_end(&mut bytes)?;
+        handle.take(seen.size).read_to_end(&mut bytes)?;
+        Ok(Some(bytes))
+    }
+
+    /// Whether the file at a path is the one that is read piece by piece. One that is read from its beginning never is.
+    fn is_reading(&self, path: &PathName, from: u64) -> bool {
+        match &self.reading {
+            Some(reading) => from > 0 && reading.path.as_slice() == path.as_slice(),
+            None => false,
+        }
+    }
+
+    /// Makes the file at a path the one that is read piece by piece, unless it is; says whether it is there.
+    fn turn_to(&mut self, alloc: Global, path: &PathName, from: u64) -> io::Result<bool>
+        ensures { self.new.faults ≡ self.old.faults }
+    {
+        if self.is_reading(path, from) {
+            return Ok(true);
+        }
+        self.reading = None;
+        let Some((handle, _)) = self.open_at(path)? else {
+            return Ok(false);
+        };
+        let path = path.copy(alloc)?;
+        self.reading = Some(Reading { path, handle });
+        Ok(true)
+    }
+
+    /// A piece of the file at a path; `None` if it has gone. Behind the last one the file is closed.
+    fn piece_at(
+        &mut self,
+        alloc: Global,
+        path: &PathName,
+        from: u64,
+        room: usize,
+    ) -> io::Result<Option<Vec<u8>>>
+        ensures { self.new.faults ≡ self.old.faults }
+    {
+        if !self.turn_to(alloc, path, from)? {
+            return Ok(None);
+        }
+        let bytes = match &self.reading {
+            Some(reading) => reading.handle.read_at(alloc, from, room)?,
+            None => return Ok(None),
+        };
+        if bytes.len() < room {
+            self.reading = None;
+        }
         Ok(Some(bytes))
     }
 
@@ -183,8 +247,7 @@ impl RealFolder {
 
 /// Room for the bytes of a file, and for the one more with which a reader sees that none follows.
 fn room_for(size: u64) -> usize {
-    let most = size.min(MAX_FILE_BYTES).saturating_add(1);
-    usize::try_from(most).unwrap_or(0)
+    usize::try_from(size.saturating_add(1)).unwrap_or(0)
 }
 
 /// What is made.
@@ -296,6 +359,20 @@ impl Folder for RealFolder {
 
     fn read(&mut self, alloc: Global, path: &PathName) -> Result<Option<Bytes>, FolderFault> {
         match self.bytes_at(alloc, path) {
+            Ok(Some(bytes)) => Ok(Some(Bytes::from_vec(bytes))),
+            Ok(None) => Ok(None),
+            Err(error) => Err(self.fault(Some(path), Trouble::from(error))),
+        }
+    }
+
+    fn read_at(
+        &mut self,
+        alloc: Global,
+        path: &PathName,
+        from: u64,
+        room: usize,
+    ) -> Result<Option<Bytes>, FolderFault> {
+        match self.piece_at(alloc, path, from, room) {
             Ok(Some(bytes)) => Ok(Some(Bytes::from_vec(bytes))),
             Ok(None) => Ok(None),
             Err(error) => Err(self.fault(Some(path), Trouble::from(error))),

@@ -5,6 +5,7 @@ ghost use Rattle.std.specs.Prelude.{◌≤◌, IfOk};
 use crate::seen::Seen;
 use attr_records::Attr;
 use libc::types::timespec;
+use std::alloc::Global;
 use std::io::{ErrorKind, Read, Write};
 use std::{fs, io};
 
@@ -57,6 +58,17 @@ impl Handle {
         Ok(Seen::of(&fs::metadata(rt, path.as_str())?))
     }
 
+    /// So many bytes from a place, or all that are left.
+    pub(crate) fn read_at(&self, alloc: Global, from: u64, room: usize) -> io::Result<Vec<u8>> {
+        let mut bytes = Vec::with_capacity(alloc, room.saturating_add(1))?;
+        let reader = PlacedReader {
+            handle: self,
+            place: from,
+        };
+        reader.take(room as u64).read_to_end(&mut bytes)?;
+        Ok(bytes)
+    }
+
     /// Gives it its owner and its group of users; the system may take the set-user-ID bit of its mode away.
     pub(crate) fn set_owner(&self, attr: &Attr) -> io::Result<()> {
         done(libc::fchown(self.fd, attr.uid(), attr.gid()))
@@ -92,6 +104,25 @@ impl Read for Handle {
     fn read(&mut self, buf: &mut [u8]) -> io::Result<usize> {
         let answer = libc::read(self.fd, buf);
         moved(answer, buf.len())
+    }
+}
+
+/// Reads what is open from a place on.
+#[derive(Clone, Copy)]
+struct PlacedReader<'a> {
+    handle: &'a Handle,
+    place: u64,
+}
+
+impl Read for PlacedReader<'_> {
+    fn read(&mut self, buf: &mut [u8]) -> io::Result<usize> {
+        let Ok(place) = i64::try_from(self.place) else {
+            return Err(io::Error::from(ErrorKind::InvalidInput));
+        };
+        let room = buf.len();
+        let count = moved(libc::pread(self.handle.fd, buf, place), room)?;
+        self.place = self.place.saturating_add(count as u64);
+        Ok(count)
     }
 }
 

@@ -21,8 +21,6 @@ mod handle;
 mod listing;
 mod progress;
 mod seen;
-#[cfg(test)]
-mod tests;
 mod told;
 
 pub use folder::RealFolder;

@@ -1,5 +1,6 @@
-use Rattle.std.proofs.Common.{◌∙◌, arith}
-use Rattle.folder_walk.proofs.WalkSteps.{list_unrefused, puts_next, puts_broken, puts_done, puts_begun, puts_nothing, cause_of_turn}
+use Rattle.std.proofs.Common.{refl, ◌∙◌, arith}
+use Rattle.folder_walk.specs.declared.refusals.DumpRefusal.TheVariants as D
+use Rattle.folder_walk.proofs.WalkSteps.{list_unrefused, puts_next, puts_broken, puts_done, puts_begun, puts_nothing, puts_memory, cause_of_turn}
 use Rattle.folder_walk.proofs.putting.put_all.Goals as goal
 
 pub loop-turn-init : goal.loop-turn-init
@@ -41,3 +42,12 @@ pub returns-in-Err-clause-puts : goal.returns-in-Err-clause-puts
 returns-in-Err-clause-puts g c =
     puts_nothing g.P.Port.moves g.met.P.Port.joined g.met.P.Port.none (g.F.Folder.tree c.args.folder.now) c.args.dump c.args.port.now c.in-Err.fault
     (list_unrefused (g.F.Folder.tree c.args.folder.now) c.in-Err.fault c.in-Err.ensures.cause)
+
+pub returns-in-Err-push_rows-clause-puts : goal.returns-in-Err-push_rows-clause-puts
+returns-in-Err-push_rows-clause-puts g c =
+    puts_nothing g.P.Port.moves g.met.P.Port.joined g.met.P.Port.none (g.F.Folder.tree c.args.folder.now) c.args.dump c.args.port.now D.Memory refl
+
+pub returns-clause-puts : goal.returns-clause-puts
+returns-clause-puts g c =
+    puts_memory g.P.Port.moves g.met.P.Port.joined g.met.P.Port.none (g.F.Folder.tree c.args.folder.now) c.args.dump c.args.port.now c.loop-turn.port
+    c.loop-turn.pending.items c.loop-turn.invariant.puts

@@ -2,10 +2,10 @@
 
 ghost use Rattle.std.specs.Prelude.{◌≤◌};
 
-use crate::{ProgressLine, RealFolder};
 use attr_records::{Attr, Dir, File, Item, Link, LinkTarget, PathName};
 use disk_trait::Bytes;
 use folder_trait::{Folder, FolderFault, FoundNode, Progress};
+use real_folder::{ProgressLine, RealFolder};
 use std::alloc::{AllocError, Global};
 use std::os::unix::fs::symlink;
 use std::test::Fail;
@@ -142,6 +142,57 @@ fn what_has_gone_is_no_fault(rt: HostRuntime) -> Result<(), Fail> {
     line.finish();
     assert!(rt; folder.read(alloc, &path)?.is_none());
     assert!(rt; folder.list(alloc, Some(&path))?.is_empty());
+    assert_eq!(rt; folder.faults(), 0);
+    fs::remove_dir_all(&rt, name.as_str())?;
+    Ok(())
+}
+
+/// So many bytes of a file from a place.
+fn piece(
+    alloc: Global,
+    folder: &mut RealFolder,
+    path: &PathName,
+    from: u64,
+    room: usize,
+) -> Result<Option<Bytes>, Fail> {
+    Ok(folder.read_at(alloc, path, from, room)?)
+}
+
+/// It fails unless so many bytes of a file from a place are these.
+fn expect_piece(
+    alloc: Global,
+    folder: &mut RealFolder,
+    path: &PathName,
+    from: u64,
+    room: usize,
+    wanted: &[u8],
+) -> Result<(), Fail> {
+    let found = piece(alloc, folder, path, from, room)?.ok_or("gone")?;
+    if found.as_slice() == wanted {
+        return Ok(());
+    }
+    Err(Fail::new("another piece"))
+}
+
+#[test]
+fn pieces_are_of_one_file(rt: HostRuntime) -> Result<(), Fail> {
+    let alloc = rt.alloc();
+    let name = free_name(&rt, "pieces")?;
+    let mut folder = RealFolder::open_or_make(rt, name.as_str())?;
+    let path = PathName::read(alloc, b"a")?;
+    let other = PathName::read(alloc, b"b")?;
+    let attr = ours(0o600, 0, 0);
+    folder.make(alloc, &path, &file(alloc, attr, b"first file")?)?;
+    folder.make(alloc, &other, &file(alloc, attr, b"second")?)?;
+    expect_piece(alloc, &mut folder, &path, 0, 6, b"first ")?;
+    fs::rename(
+        &rt,
+        format!(in alloc; "{name}/b")?,
+        format!(in alloc; "{name}/a")?,
+    )?;
+    expect_piece(alloc, &mut folder, &path, 6, 6, b"file")?;
+    expect_piece(alloc, &mut folder, &path, 0, 99, b"second")?;
+    assert!(rt; piece(alloc, &mut folder, &other, 0, 99)?.is_none());
     assert_eq!(rt; folder.faults(), 0);
     fs::remove_dir_all(&rt, name.as_str())?;
     Ok(())
