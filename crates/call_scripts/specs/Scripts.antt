@@ -1,7 +1,8 @@
 -- What is called next, after the calls and their replies so far.
 --     Follows      the calls are those of a script, to its end
---     Begins      they are the first calls of a script
+--     Begins       they are the first calls of a script
 --     each_of      the script of a list of events
+--     each_then    a list of events, and then another script
 use Rattle.std.specs.Prelude.{◌≡◌, List, [], ◌∷◌, ◌++◌, map, Option, Some, None, Ok, Err}
 use Rattle.office_model.specs.declared.event.Event.{Event}
 use Rattle.office_model.specs.declared.refusal.Refusal.{Refusal}
@@ -22,6 +23,13 @@ each_of [] calls = None
 each_of (event ∷ events) [] = Some event
 each_of (event ∷ events) ((asked, Ok answer) ∷ calls) = each_of events calls
 each_of (event ∷ events) ((asked, Err refusal) ∷ calls) = None
+
+-- these events one after the other, and then another script; none after a refusal
+abbrev pub each_then : List Event → Script → Script
+each_then [] next calls = next calls
+each_then (event ∷ events) next [] = Some event
+each_then (event ∷ events) next ((asked, Ok answer) ∷ calls) = each_then events next calls
+each_then (event ∷ events) next ((asked, Err refusal) ∷ calls) = None
 
 -- what a script calls behind this call
 abbrev pub behind : Call → Script → Script

@@ -16,18 +16,11 @@ use Rattle.office_model.specs.declared.event.Event.TheVariants as E
 use Rattle.office_model.specs.declared.event.PutItem.TheVariants.{Whole}
 use Rattle.office_model.specs.declared.answer.Answer.TheVariants as A
 use Rattle.tree_frames.specs.Frames.{pieces}
-use Rattle.call_scripts.specs.Scripts.{Script, each_of}
+use Rattle.call_scripts.specs.Scripts.{Script, each_of, each_then}
 use Rattle.folder_laws.specs.declared.known.Known.{Known}
 use Rattle.folder_laws.specs.Calls.{staged_put}
 use Rattle.folder_laws.specs.Compares.{root}
 use Rattle.folder_laws.specs.Lists.{gone_from, known_from, last_line}
-
--- these events one after the other, and then another script; none after a refusal
-abbrev pub each_then : List Event → Script → Script
-each_then [] next calls = next calls
-each_then (event ∷ events) next [] = Some event
-each_then (event ∷ events) next ((asked, Ok answer) ∷ calls) = each_then events next calls
-each_then (event ∷ events) next ((asked, Err refusal) ∷ calls) = None
 
 -- a stage is opened, gets the bytes of a file piece by piece, and is put; then another script
 abbrev pub stage_script : SessionName → List ℕ → File → Script → Script

@@ -15,13 +15,13 @@ use Rattle.office_model.specs.declared.answer.NamedNode.{NamedNode}
 use Rattle.office_model.specs.declared.event.Event.TheVariants as E
 use Rattle.office_model.specs.declared.answer.Answer.TheVariants as A
 use Rattle.office_model.specs.Step.{Call}
-use Rattle.call_scripts.specs.Scripts.{Script, behind, Begins, AreAnswered}
+use Rattle.call_scripts.specs.Scripts.{Script, each_then, behind, Begins, AreAnswered}
 use Rattle.call_scripts.specs.ScriptLaws.{AreAnswered-append}
 use Rattle.folder_laws.specs.declared.known.Known.{Known}
 use Rattle.folder_laws.specs.Calls.{staged_put, piece_calls, file_calls, item_calls, IsPut, ArePuts, remove_calls}
 use Rattle.folder_laws.specs.Compares.{root}
 use Rattle.folder_laws.specs.Lists.{gone_from, known_from, list_call, AreLists, AreRemovals, last_line, IsBase}
-use Rattle.folder_laws.specs.DumpScript.{each_then, stage_script, file_script, item_script, puts_script, remove_events, list_script, removal_script, incr_script, base_script}
+use Rattle.folder_laws.specs.DumpScript.{stage_script, file_script, item_script, puts_script, remove_events, list_script, removal_script, incr_script, base_script}
 
 -- ---- puts begin their script
 

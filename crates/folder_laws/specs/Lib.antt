@@ -4,7 +4,6 @@ pub mod Replays
 pub mod ReplayLaws
 pub mod OfficeLaws
 pub mod Calls
-pub mod PieceLaws
 pub mod StagingLaws
 pub mod DumpLaws
 pub mod Compares

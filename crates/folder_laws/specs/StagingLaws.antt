@@ -36,7 +36,7 @@ use Rattle.office_model.specs.laws.Judging.{bound, passed, at_is}
 use Rattle.call_scripts.specs.FirstCalls.{answered}
 use Rattle.folder_laws.specs.Calls.{piece_calls, staged_put, stage_calls, file_calls, item_calls}
 use Rattle.folder_laws.specs.OfficeLaws.{HasDump, some_is, after_of, answer_of, at_end, put_step, put_dumps}
-use Rattle.folder_laws.specs.PieceLaws.{concat-pieces}
+use Rattle.tree_frames.specs.PieceLaws.{concat-pieces}
 
 -- a stage of a dump is open, with these bytes
 pub record HasStage (office : Office) (number : ℕ) (session : SessionName) (bytes : List ℕ) : Type 0 where

@@ -13,13 +13,13 @@ use Rattle.office_model.specs.declared.answer.Answer.TheVariants as A
 use Rattle.office_model.specs.declared.refusal.Refusal.{Refusal}
 use Rattle.office_model.specs.Meaning.{Reply}
 use Rattle.office_model.specs.Step.{Call}
-use Rattle.call_scripts.specs.Scripts.{Script, each_of, AreAnswered, Begins}
+use Rattle.call_scripts.specs.Scripts.{Script, each_then, each_of, AreAnswered, Begins}
 use Rattle.call_scripts.specs.ScriptLaws.{AreAnswered-append, EndRefused-append}
 use Rattle.call_scripts.specs.Moments.{Gave}
 use Rattle.folder_laws.specs.Calls.{open_call, ArePuts, remove_call, remove_calls, commit_call}
 use Rattle.folder_laws.specs.Compares.{root}
 use Rattle.folder_laws.specs.Lists.{AreLists, AreRemovals, backups_call, last_line}
-use Rattle.folder_laws.specs.DumpScript.{each_then, puts_script, remove_events, list_script, removal_script, base_script}
+use Rattle.folder_laws.specs.DumpScript.{puts_script, remove_events, list_script, removal_script, base_script}
 use Rattle.folder_laws.specs.DumpScriptLaws.{AreAnswered-removes, begins_puts, begins_lists, begins_base}
 use Rattle.folder_walk.specs.declared.refusals.DumpRefusal.{DumpRefusal}
 use Rattle.folder_walk.specs.declared.refusals.DumpRefusal.TheVariants as D

@@ -20,12 +20,12 @@ use Rattle.office_model.specs.declared.event.Event.TheVariants as E
 use Rattle.office_model.specs.declared.answer.Answer.TheVariants as A
 use Rattle.office_model.specs.declared.refusal.Refusal.{Refusal}
 use Rattle.office_model.specs.Step.{Call}
-use Rattle.call_scripts.specs.Scripts.{Script, Begins, AreAnswered}
+use Rattle.call_scripts.specs.Scripts.{Script, each_then, Begins, AreAnswered}
 use Rattle.call_scripts.specs.ScriptLaws.{AreAnswered-append}
 use Rattle.folder_laws.specs.Calls.{piece_call, piece_calls, staged_put, stage_calls, file_calls, IsPut}
-use Rattle.folder_laws.specs.DumpScript.{each_then, stage_script, file_script, item_script}
+use Rattle.folder_laws.specs.DumpScript.{stage_script, file_script, item_script}
 use Rattle.folder_laws.specs.DumpScriptLaws.{begins_some_pieces, begins_stage}
-use Rattle.folder_laws.specs.PieceLaws.{pieces_first, no_pieces}
+use Rattle.tree_frames.specs.PieceLaws.{pieces_first, no_pieces}
 use Rattle.folder_walk.specs.declared.refusals.DumpRefusal.{DumpRefusal}
 use Rattle.folder_walk.specs.declared.refusals.DumpRefusal.TheVariants as D
 use Rattle.folder_walk.specs.Rows.{is_large_node}

@@ -11,7 +11,7 @@ use Rattle.folder_trait.specs.declared.found.FoundNode.{FoundNode}
 use Rattle.folder_trait.specs.declared.found.FoundFile.{FoundFile}
 use Rattle.folder_laws.specs.Walks.{is_open}
 use Rattle.folder_laws.specs.Calls.{piece_calls, IsPut, ArePuts}
-use Rattle.folder_laws.specs.DumpScript.{each_then, item_script, puts_script}
+use Rattle.folder_laws.specs.DumpScript.{item_script, puts_script}
 use Rattle.tree_frames.specs.Frames.{pieces}
 use Rattle.office_model.specs.declared.session.SessionName.{SessionName}
 use Rattle.office_model.specs.declared.event.Event.{Event}
@@ -19,7 +19,7 @@ use Rattle.office_model.specs.declared.event.Event.TheVariants as E
 use Rattle.office_model.specs.declared.event.PutItem.TheVariants.{Staged}
 use Rattle.office_model.specs.declared.refusal.Refusal.{Refusal}
 use Rattle.office_model.specs.Step.{Call}
-use Rattle.call_scripts.specs.Scripts.{Script, Begins, AreAnswered, EndRefused}
+use Rattle.call_scripts.specs.Scripts.{Script, each_then, Begins, AreAnswered, EndRefused}
 use Rattle.folder_walk.specs.declared.rows.Row.{Row}
 use Rattle.folder_walk.specs.declared.refusals.DumpRefusal.{DumpRefusal}
 use Rattle.folder_walk.specs.Rows.{row_found, rows_found}

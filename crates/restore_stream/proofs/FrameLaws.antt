@@ -10,28 +10,8 @@ use Rattle.attr_records.specs.Items.{Tree}
 use Rattle.tree_frames.specs.declared.nodes.Node.{Node}
 use Rattle.tree_frames.specs.declared.nodes.Frame.{Frame}
 use Rattle.tree_frames.specs.declared.nodes.Frame.TheVariants.{Entry, Piece, End}
+use Rattle.tree_frames.specs.PieceLaws.{pieces_first}
 use Rattle.tree_frames.specs.Frames.{node_of, bytes_of, pieces_of, pieces, row_frames, frames, frames_left}
-
-pieces_enough : (m n : ℕ) (bytes : List ℕ) → length bytes ≤ m → length bytes ≤ n → pieces_of m bytes ≡ pieces_of n bytes
-unfolding pieces_of
-pieces_enough zero zero bytes a b = refl
-pieces_enough zero (suc n) [] a b = refl
-pieces_enough zero (suc n) (byte ∷ bytes) a b = absurd (omega arith)
-pieces_enough (suc m) zero [] a b = refl
-pieces_enough (suc m) zero (byte ∷ bytes) a b = absurd (omega arith)
-pieces_enough (suc m) (suc n) [] a b = refl
-pieces_enough (suc m) (suc n) (byte ∷ bytes) a b =
-    let shorter : length (drop 65536 (byte ∷ bytes)) ≡ suc (length bytes) - 65536 = length-drop 65536 (byte ∷ bytes) in
-    ap (λ ps. take 65536 (byte ∷ bytes) ∷ ps) (pieces_enough m n (drop 65536 (byte ∷ bytes)) (omega arith) (omega arith))
-
--- the first piece, and those of what stands behind it
-pub pieces_first : (bytes : List ℕ) → 0 < length bytes → pieces bytes ≡ take 65536 bytes ∷ pieces (drop 65536 bytes)
-unfolding pieces_of
-pieces_first [] some = absurd (omega arith)
-pieces_first (byte ∷ bytes) some =
-    let shorter : length (drop 65536 (byte ∷ bytes)) ≡ suc (length bytes) - 65536 = length-drop 65536 (byte ∷ bytes) in
-    ap (λ ps. take 65536 (byte ∷ bytes) ∷ ps)
-    (pieces_enough (length bytes) (length (drop 65536 (byte ∷ bytes))) (drop 65536 (byte ∷ bytes)) (omega arith) (omega arith))
 
 min_cases : (n : ℕ) → (n ≤ 65536 → min n 65536 ≡ n) × (65536 < n → min n 65536 ≡ 65536)
 min_cases n = (λ h. omega arith, λ h. omega arith)

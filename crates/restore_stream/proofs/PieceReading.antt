@@ -16,7 +16,8 @@ use Rattle.restore_stream.specs.Cuts.{Layout, field, nothing, chosen, followed_b
 use Rattle.restore_stream.specs.Sequences.{AreAll, items_print, sequence}
 use Rattle.restore_stream.specs.Streams.{limited, one_more, piece_layout, piece_size, piece_step, pieces_layout}
 use Rattle.restore_stream.specs.Reading.{Finds, Refuses, ReadSoFar}
-use Rattle.restore_stream.proofs.FrameLaws.{pieces_first, take_all}
+use Rattle.tree_frames.specs.PieceLaws.{pieces_first}
+use Rattle.restore_stream.proofs.FrameLaws.{take_all}
 use Rattle.restore_stream.proofs.ReadingLaws.{seen_finds, seen_refuses}
 use Rattle.restore_stream.proofs.SequenceLaws.{none_read, more_read, all_read, stop_refuses, print-snoc, all_print-from}
 

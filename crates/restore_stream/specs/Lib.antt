@@ -1,6 +1,5 @@
 pub mod Cuts
 pub mod Layouts
-pub mod PieceLaws
 pub mod Reading
 pub mod Sequences
 pub mod Streams

@@ -21,7 +21,7 @@ use Rattle.attr_records.specs.Names.{is_link_target}
 use Rattle.tree_frames.specs.declared.nodes.Node.{Node}
 use Rattle.tree_frames.specs.declared.nodes.Node.TheVariants as N
 use Rattle.tree_frames.specs.Frames.{node_of, bytes_of, pieces}
-use Rattle.restore_stream.specs.PieceLaws.{concat-pieces}
+use Rattle.tree_frames.specs.PieceLaws.{concat-pieces}
 use Rattle.restore_stream.specs.Layouts.{kind_of, entry_bytes, magic}
 use Rattle.restore_stream.specs.Trees.{may_follow}
 use Rattle.restore_stream.specs.Cuts.{Layout, field, nothing, chosen, followed_by, seen_as}
