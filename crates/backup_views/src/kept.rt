@@ -1,6 +1,6 @@
 //! The view that is kept for the next read.
 
-ghost use Rattle.std.specs.Prelude.{◌≡◌, ℕ, List, Option, Some, None, true, false, take, IfErr, OnOk, OnErr, IsErrOf, slice_get};
+ghost use Rattle.std.specs.Prelude.{◌≡◌, ℕ, List, Option, Some, None, true, false, take, IfSome, IfErr, OnOk, OnErr, IsErrOf, slice_get};
 ghost use Rattle.std.specs.Option.{option_copied};
 ghost use Rattle.fault_counts.specs.Counts.{Counted};
 ghost use Rattle.disk_trait.specs.Files.{Files};
@@ -13,19 +13,20 @@ ghost use Rattle.journal_view.specs.View.{told, Quiet};
 use crate::fault::ViewFault;
 use crate::tables::read_tree;
 use attr_records::PathName;
-use attr_tables::{Record, Row, Table};
+use attr_tables::{Record, Row};
 use backup_rules::Line;
 use disk_trait::Disk;
 use intent_journal::Journal;
 use merge_view::within;
+use shared_tables::SharedTable;
 use std::alloc::Global;
 
-/// The tree of a backup, decoded.
+/// The tree of a backup, decoded. Others may hold its rows, too, and go on holding them when another view is kept.
 #[derive(Debug, Drop)]
 pub struct KeptView {
     host: u32,
     number: u32,
-    rows: Table,
+    rows: SharedTable,
 }
 
 /// The view that was asked for last, if any.
@@ -54,7 +55,7 @@ impl Views {
     }
 
     /// Whether the view of this backup is kept.
-    fn has(&self, host: u32, number: u32) -> bool
+    pub fn has(&self, host: u32, number: u32) -> bool
         ensures { result ≡ true → HasView self.now host number }
     {
         match &self.kept {
@@ -89,13 +90,31 @@ impl Views {
         if self.has(host, line.number) {
             return Ok(());
         }
-        let rows = read_tree(alloc, journal, host, lines)?;
+        let tree = read_tree(alloc, journal, host, lines)?;
+        let rows = match SharedTable::new(alloc, tree) {
+            Ok(rows) => rows,
+            Err(_) => return Err(ViewFault::Memory),
+        };
         self.kept = Some(KeptView {
             host,
             number: line.number,
             rows,
         });
         Ok(())
+    }
+
+    /// The rows of the view that is kept, for a further holder, which takes no memory; None if none is kept, or if too many
+    /// hold them to be counted.
+    pub fn share(&self) -> Option<SharedTable>
+        ensures { IfSome result (λ rows. rows ≡ rows_of self.now.kept) }
+    {
+        match &self.kept {
+            Some(kept) => match kept.rows.share() {
+                Ok(rows) => Some(rows),
+                Err(_) => None,
+            },
+            None => None,
+        }
     }
 
     /// The rows of the view that is kept, none if none is.

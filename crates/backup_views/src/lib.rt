@@ -4,7 +4,7 @@
 //!
 //! It knows the journal's files as a store sees them, and the tables; no offices and no contents. The main clause is
 //! `tree` of `read_tree`: what is read is the tree that the files tell. `Views` keeps the view that was asked for last, so
-//! that many reads of one backup decode its tables once.
+//! that many reads of one backup decode its tables once, and shares its rows with those who hold them for longer.
 //!
 //! ```text
 //! let mut views = Views::new();

@@ -64,10 +64,11 @@ const ROOM: DiskRoom = DiskRoom {
     bytes: 100_000,
 };
 
-// What is asked of the one open dump.
+// What is asked of the one open dump. The first one is full, and those behind it are of one kind.
 #[derive(Clone, Copy)]
 enum Ask {
-    Open(Kind),
+    Full,
+    Again,
     Put(&'static str, &'static str),
     Remove(&'static str),
     Commit,
@@ -76,8 +77,8 @@ enum Ask {
 // What is asked, how many digests it makes, and the extension of the content that a put leaves at its path.
 struct Step(Ask, u64, Option<u16>);
 
-const STEPS: [Step; 21] = [
-    Step(Ask::Open(Kind::Full), 0, None),
+const STEPS: [Step; 22] = [
+    Step(Ask::Full, 0, None),
     Step(Ask::Put("a", "hello"), 1, Some(0)),
     // another content of the length and the digest
     Step(Ask::Put("b", "world"), 1, Some(1)),
@@ -86,16 +87,17 @@ const STEPS: [Step; 21] = [
     Step(Ask::Put("a", "hello"), 0, Some(0)),
     Step(Ask::Commit, 0, None),
     // an unchanged tree
-    Step(Ask::Open(Kind::Incr), 0, None),
+    Step(Ask::Again, 0, None),
     Step(Ask::Put("a", "hello"), 0, Some(0)),
     Step(Ask::Put("b", "world"), 0, Some(1)),
     Step(Ask::Put("c", "hello"), 0, Some(0)),
     Step(Ask::Put("d", ""), 0, None),
     Step(Ask::Commit, 0, None),
     // a file that changes, but for its length and its time, and changes back
-    Step(Ask::Open(Kind::Incr), 0, None),
+    Step(Ask::Again, 0, None),
     Step(Ask::Put("a", "hallo"), 1, Some(2)),
     Step(Ask::Put("a", "hello"), 0, Some(0)),
+    Step(Ask::Put("b", "world"), 0, Some(1)),
     // one that is put behind a removal, and one that changes its length: the name of what nothing holds stays used
     Step(Ask::Remove("b"), 0, None),
     Step(Ask::Put("b", "world"), 0, Some(1)),
@@ -161,17 +163,29 @@ fn session_of(parts: &Parts) -> SessionName {
     }
 }
 
-fn carry_out(alloc: Global, parts: &mut Parts, ask: Ask) -> Result<Result<Answer, Refusal>, Fail> {
+fn begin(alloc: Global, parts: &mut Parts, kind: Kind) -> Result<Result<Answer, Refusal>, Fail> {
+    expect_ready(&parts.journal)?;
+    if parts.halted {
+        return Err(Fail::new("the store is halted"));
+    }
+    let host = HostName::read(alloc, b"a")?;
+    Ok(open_dump(parts, alloc, &host, kind, Moment::first()))
+}
+
+fn carry_out(
+    alloc: Global,
+    parts: &mut Parts,
+    again: Kind,
+    ask: Ask,
+) -> Result<Result<Answer, Refusal>, Fail> {
     expect_ready(&parts.journal)?;
     if parts.halted {
         return Err(Fail::new("the store is halted"));
     }
     let session = session_of(parts);
     match ask {
-        Ask::Open(kind) => {
-            let host = HostName::read(alloc, b"a")?;
-            Ok(open_dump(parts, alloc, &host, kind, Moment::first()))
-        }
+        Ask::Full => begin(alloc, parts, Kind::Full),
+        Ask::Again => begin(alloc, parts, again),
         Ask::Put(path, text) => {
             let path = PathName::read(alloc, path.as_bytes())?;
             let item = Item::File(File {
@@ -205,10 +219,11 @@ fn expect_step(
     alloc: Global,
     parts: &mut Parts,
     made: &Cell<u64>,
+    again: Kind,
     step: &Step,
 ) -> Result<(), Fail> {
     let before = made.get();
-    let reply = carry_out(alloc, parts, step.0)?;
+    let reply = carry_out(alloc, parts, again, step.0)?;
     expect(reply.is_ok(), "refused")?;
     let count = made.get().wrapping_sub(before);
     expect(count == step.1, "another number of digests")?;
@@ -222,22 +237,30 @@ fn expect_step(
 }
 
 // How many changes of the disk these steps have made.
-fn moment_behind(alloc: Global, steps: &[Step]) -> Result<usize, Fail> {
+fn moment_behind(alloc: Global, again: Kind, steps: &[Step]) -> Result<usize, Fail> {
     let made = Cell::new(0);
     let mut parts = opened(alloc, &made)?;
     for step in steps {
-        expect_step(alloc, &mut parts, &made, step)?;
+        expect_step(alloc, &mut parts, &made, again, step)?;
     }
     let journal = parts.journal;
     Ok(journal.close().moment())
 }
 
+fn expect_compared(alloc: Global, again: Kind) -> Result<(), Fail> {
+    let before = moment_behind(alloc, again, &STEPS[..BEFORE])?;
+    let behind = moment_behind(alloc, again, &STEPS[..BEHIND])?;
+    expect(before == behind, "a put of an unchanged file writes")?;
+    let all = moment_behind(alloc, again, &STEPS)?;
+    expect(all > behind, "nothing was written")
+}
+
 #[test]
 fn a_digest_is_made_only_of_what_its_base_does_not_hold(rt: HostRuntime) -> Result<(), Fail> {
-    let alloc = rt.alloc();
-    let before = moment_behind(alloc, &STEPS[..BEFORE])?;
-    let behind = moment_behind(alloc, &STEPS[..BEHIND])?;
-    expect(before == behind, "a put of an unchanged file writes")?;
-    let all = moment_behind(alloc, &STEPS)?;
-    expect(all > behind, "nothing was written")
+    expect_compared(rt.alloc(), Kind::Incr)
+}
+
+#[test]
+fn a_full_dump_compares_with_the_newest_backup_first(rt: HostRuntime) -> Result<(), Fail> {
+    expect_compared(rt.alloc(), Kind::Full)
 }

@@ -6,6 +6,7 @@ use backup_rules::Kind;
 use dump_session::{PutFault, RemoveFault, Session};
 use office_model::SessionName;
 use open_sessions::{OpenDump, OpenRestore, Place, Sessions};
+use shared_tables::SharedTable;
 use std::alloc::{AllocError, Global};
 use std::sync::Arc;
 use std::test::Fail;
@@ -72,18 +73,19 @@ fn dump_of(alloc: Global, sequence: u64, host: usize) -> Result<OpenDump, AllocE
         kind: Kind::Full,
         start: Moment::first(),
         base: Arc::new(alloc, Table::new(alloc))?,
+        hint: None,
         tree: Session::begin_full(alloc)?,
     })
 }
 
-fn restore_of(alloc: Global, sequence: u64) -> OpenRestore<u8>
-    ensures { result.name.sequence ≡ sequence }
+fn restore_of(alloc: Global, sequence: u64) -> Result<OpenRestore<u8>, AllocError>
+    ensures { IfOk result (λ restore. restore.name.sequence ≡ sequence) }
 {
-    OpenRestore {
+    Ok(OpenRestore {
         name: name_of(sequence),
-        rows: Table::new(alloc),
+        rows: SharedTable::new(alloc, Table::new(alloc))?,
         place: Place::Entry(0),
-    }
+    })
 }
 
 // Dumps 0 and 1 of the hosts 5 and 4, and restore 2.
@@ -91,7 +93,7 @@ fn opened(alloc: Global) -> Result<Sessions<u8>, Fail> {
     let mut sessions = Sessions::new(alloc);
     sessions.open_dump(dump_of(alloc, 0, 5)?)?;
     sessions.open_dump(dump_of(alloc, 1, 4)?)?;
-    sessions.open_restore(restore_of(alloc, 2))?;
+    sessions.open_restore(restore_of(alloc, 2)?)?;
     Ok(sessions)
 }
 
@@ -104,7 +106,7 @@ fn open_next(alloc: Global, sessions: &mut Sessions<u8>, kind: u8) -> Result<(),
     if kind == b'd' {
         sessions.open_dump(dump_of(alloc, sequence, 5)?)?;
     } else {
-        sessions.open_restore(restore_of(alloc, sequence))?;
+        sessions.open_restore(restore_of(alloc, sequence)?)?;
     }
     Ok(())
 }

@@ -11,6 +11,7 @@ use Rattle.disk_trait.specs.declared.disk.Disk.{Ghosts as DiskGhosts}
 use Rattle.pool_name.specs.declared.namer.Namer.{Ghosts as NamerGhosts}
 use Rattle.attr_records.specs.Items.{Tree}
 use Rattle.backup_rules.specs.declared.lines.Kind.{Kind}
+use Rattle.backup_rules.specs.declared.lines.Kind.TheVariants.{Full, Incr}
 use Rattle.backup_index.specs.Index.{Index}
 use Rattle.merge_view.specs.Views.{Rows}
 use Rattle.stored_trees.specs.Resolved.{resolved}
@@ -43,7 +44,7 @@ use Rattle.store_parts.specs.Refusals.{IsReadFault}
 use Rattle.store_parts.specs.States.{slots, IsRunning, staging_of}
 use Rattle.store_parts.specs.Runs.{Runs, Reads}
 use Rattle.store_parts.specs.RunLaws.{runs_reads, runs_memory, runs_read_fault, counted_fine}
-use Rattle.store_dumps.specs.Base.{has_base, IsBase, BeginsWith, IsBaseFault}
+use Rattle.store_dumps.specs.Base.{has_base, IsBase, BeginsWith, IsFaultOf}
 use Rattle.store_dumps.specs.Claims.{Gains}
 use Rattle.store_dumps.specs.Opening.{opening_rule, session_of, IsFresh, IsOpened, claims_at_first, HasOpened, HasKept, OpensDump}
 use Rattle.store_dumps.proofs.Bases.{rows_given, base_there, no_base, lines_are}
@@ -327,8 +328,10 @@ module _ {D N S : Type 0} {d : DiskGhosts D} {n : NamerGhosts N S} where
   pub base_reply : (old : StoreParts D N S d n) (name : List ℕ) (kind : Kind) (now : ℕ) (new : StoreParts D N S d n) (place : ℕ)
       (index : Index)
       → Some place ≡ host_named (names_of old.catalog.hosts) name → slice_get old.catalog.hosts place ≡ Some index → (refusal : Refusal)
-      → IsBaseFault old place refusal → OpensDump old name kind now (Err refusal) new
-  base_reply old name kind now new place index found there (Damaged file content) fault = record {
+      → IsFaultOf old place kind refusal → OpensDump old name kind now (Err refusal) new
+  base_reply old name Full now new place index found there (Damaged file content) fault = absurd cc
+  base_reply old name Incr now new place index found there (Damaged file content) fault = record {
+    kind_is = refl;
     host = record { place = place; index = index; is_host = found; is_index = there };
     damaged = fault index there;
   }

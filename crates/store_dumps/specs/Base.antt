@@ -5,6 +5,7 @@
 --     BeginsWith parts place kind rows      those of a dump of this host, in each office that the parts are at work with
 --     TellsBase told place kind lines rows      the files tell the rows: none, or what the newest backup's table shows
 --     IsBaseFault parts place refusal      a damaged file is that table
+--     IsFaultOf parts place kind refusal      so it is of an incremental; a full dump is refused for a fault of the disk alone
 use Rattle.std.specs.Prelude.{⊤, ◌≡◌, ℕ, ◌-◌, Bool, true, List, [], ◌∷◌, length, Option, Some, None, Ok, is_some, slice_get}
 use Rattle.disk_trait.specs.declared.ids.PoolId.{PoolId}
 use Rattle.disk_trait.specs.declared.ids.FileId.{FileId}
@@ -71,3 +72,7 @@ module _ {D N S : Type 0} {d : DiskGhosts D} {n : NamerGhosts N S} where
   IsBaseFault parts place (R.Damaged file found) = (index : Index) → slice_get parts.catalog.hosts place ≡ Some index
       → IsNewestDamaged (told parts.journal) place index.lines file found
   IsBaseFault parts place refusal = ⊤
+
+  abbrev pub IsFaultOf : StoreParts D N S d n → ℕ → Kind → Refusal → Type 0
+  IsFaultOf parts place Full refusal = refusal ≡ R.DiskFault
+  IsFaultOf parts place Incr refusal = IsBaseFault parts place refusal

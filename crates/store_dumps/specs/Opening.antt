@@ -2,7 +2,8 @@
 --     opening_rule has_base is_open next sequence      the first rule that keeps a host's dump from being opened
 --     IsOpened old epoch host kind now base name new      the sessions have one dump more, whose rows are those of its base
 --     HasOpened old host kind now base name new      so have the parts of a store, and its rows and those of its base claim contents
---     OpensDump old name kind now reply new      an answer opened a dump whose base the files tell; a damaged file is the newest table
+--     OpensDump old name kind now reply new      an answer opened a dump whose base the files tell; a damaged file is the newest table,
+--         for which an incremental alone is refused
 --     HasKept old new      the same is open, and claims the same
 use Rattle.std.specs.Prelude.{⊤, ◌≡◌, ◌<◌, ℕ, ◌+◌, Bool, true, not, List, [], ◌∷◌, ◌++◌, nat_le, Option, Some, None, Ok, Err, slice_get, if◌then◌else◌}
 use Rattle.disk_trait.specs.declared.ids.PoolId.{PoolId}
@@ -11,6 +12,7 @@ use Rattle.disk_trait.specs.declared.disk.Disk.{Ghosts as DiskGhosts}
 use Rattle.pool_name.specs.declared.namer.Namer.{Ghosts as NamerGhosts}
 use Rattle.backup_index.specs.Index.{Index}
 use Rattle.backup_rules.specs.declared.lines.Kind.{Kind}
+use Rattle.backup_rules.specs.declared.lines.Kind.TheVariants.{Incr}
 use Rattle.journal_view.specs.View.{told}
 use Rattle.merge_view.specs.Views.{Rows}
 use Rattle.stored_trees.specs.Occurrences.{occurrences}
@@ -104,12 +106,14 @@ module _ {D N S : Type 0} {d : DiskGhosts D} {n : NamerGhosts N S} where
     pub tells : TellsBase (told old.journal) host.place kind host.index.lines rows
     pub opened : IsOpened old.sessions old.catalog.epoch host.place kind now rows session new.sessions
 
-  pub record HasNewestDamaged (old : StoreParts D N S d n) (name : List ℕ) (file : FileId) (found : Option (List ℕ)) : Type 0 where
+  pub record HasNewestDamaged (old : StoreParts D N S d n) (name : List ℕ) (kind : Kind) (file : FileId)
+      (found : Option (List ℕ)) : Type 0 where
+    pub kind_is : kind ≡ Incr
     pub host : IsHostPlaced old.catalog name
     pub damaged : IsNewestDamaged (told old.journal) host.place host.index.lines file found
 
   abbrev pub OpensDump : StoreParts D N S d n → List ℕ → Kind → ℕ → Reply → StoreParts D N S d n → Type 0
   OpensDump old name kind now (Ok answer) new =
       (session : SessionName) × (answer ≡ DumpAnswer session) × OpensTold old name kind now session new
-  OpensDump old name kind now (Err (R.Damaged file found)) new = HasNewestDamaged old name file found
+  OpensDump old name kind now (Err (R.Damaged file found)) new = HasNewestDamaged old name kind file found
   OpensDump old name kind now (Err refusal) new = ⊤

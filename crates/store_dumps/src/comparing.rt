@@ -12,7 +12,7 @@ ghost use Rattle.pool_changes.specs.Slots.{is_given, claimed, unlisted};
 ghost use Rattle.pool_store.specs.Pools.{IsCertain};
 ghost use Rattle.open_sessions.specs.declared.sessions.OpenDump.{OpenDump};
 ghost use Rattle.open_sessions.specs.Opened.{base_of};
-ghost use Rattle.store_dumps.specs.Comparing.{content_sized, likely, IsHeldBy};
+ghost use Rattle.store_dumps.specs.Comparing.{hint_at, content_sized, likely, IsHeldBy};
 
 use attr_records::PathName;
 use attr_tables::Record;
@@ -21,6 +21,7 @@ use intent_journal::Journal;
 use open_sessions::Sessions;
 use pool_name::Namer;
 use pool_store::{Pool, PoolFault};
+use shared_tables::SharedTable;
 use std::alloc::{AllocError, Global};
 
 /// The content of a file of this length that was found, if one was.
@@ -39,7 +40,34 @@ fn content_sized(found: Option<&Record>, size: usize) -> Option<PoolId>
     }
 }
 
-/// The content of this length that a dump's base has at a path, or else the dump's tree.
+/// What a dump's hint has at a path.
+fn hint_at<'a>(hint: &'a Option<SharedTable>, path: &PathName) -> Option<&'a Record>
+    ensures { option_copied result ≡ hint_at hint.now path.now }
+{
+    match hint {
+        Some(rows) => rows.find(path),
+        None => None,
+    }
+}
+
+/// The content of this length that a dump's hint has at a path, or else the dump's tree.
+fn hinted_content<S: Drop>(
+    sessions: &Sessions<S>,
+    at: usize,
+    path: &PathName,
+    size: usize,
+) -> Option<PoolId>
+    requires { at < length sessions.now.dumps.items }
+    ensures { (dump : OpenDump) → slice_get sessions.now.dumps.items at ≡ Some dump
+        → result ≡ likely (content_sized (hint_at dump.hint path.now) size) (content_sized (node_at dump.tree path.now) size) }
+{
+    match content_sized(hint_at(&sessions.dump(at).hint, path), size) {
+        Some(id) => Some(id),
+        None => content_sized(sessions.find(at, path), size),
+    }
+}
+
+/// The content of this length that a dump's base has at a path, or else its hint, or else its tree.
 pub(crate) fn likely_content<S: Drop>(
     sessions: &Sessions<S>,
     at: usize,
@@ -48,11 +76,12 @@ pub(crate) fn likely_content<S: Drop>(
 ) -> Option<PoolId>
     requires { at < length sessions.now.dumps.items }
     ensures { (dump : OpenDump) → slice_get sessions.now.dumps.items at ≡ Some dump
-        → result ≡ likely (content_sized (node_at (base_of dump) path.now) size) (content_sized (node_at dump.tree path.now) size) }
+        → result ≡ likely (content_sized (node_at (base_of dump) path.now) size)
+        (likely (content_sized (hint_at dump.hint path.now) size) (content_sized (node_at dump.tree path.now) size)) }
 {
     match content_sized(sessions.dump(at).base.find(path), size) {
         Some(id) => Some(id),
-        None => content_sized(sessions.find(at, path), size),
+        None => hinted_content(sessions, at, path, size),
     }
 }
 

@@ -9,7 +9,7 @@ ghost use Rattle.store_dumps.specs.Base.{has_base};
 ghost use Rattle.store_dumps.specs.Opening.{opening_rule, IsFresh, IsOpened, HasOpened, HasKept, OpensDump};
 ghost use Rattle.open_sessions.specs.Opened.{AreAlike};
 
-use crate::base::{base_of, has_base};
+use crate::base::{Begun, base_of, has_base};
 use crate::claims::{claim_dump, reserve_dump};
 use attr_records::HostName;
 use attr_tables::Table;
@@ -20,6 +20,7 @@ use dump_session::Session;
 use office_model::{Answer, BrokenRule, Refusal, SessionName};
 use open_sessions::{OpenDump, Sessions};
 use pool_name::Namer;
+use shared_tables::SharedTable;
 use std::alloc::{AllocError, Global};
 use std::sync::Arc;
 use store_parts::StoreParts;
@@ -60,6 +61,7 @@ fn fresh_dump(
     kind: Kind,
     now: Moment,
     base: Arc<Table>,
+    hint: Option<SharedTable>,
 ) -> Result<OpenDump, AllocError>
     ensures { IfOk result (λ dump. IsFresh name host kind now (arc_value base) dump) }
 {
@@ -70,11 +72,12 @@ fn fresh_dump(
         kind,
         start: now,
         base,
+        hint,
         tree,
     })
 }
 
-/// Opens a dump with this base; or says that memory is wanting, and the same is open as before.
+/// Opens a dump with this base and this hint; or says that memory is wanting, and the same is open as before.
 fn open_session<S: Drop>(
     sessions: &mut Sessions<S>,
     alloc: Global,
@@ -83,6 +86,7 @@ fn open_session<S: Drop>(
     kind: Kind,
     now: Moment,
     base: Arc<Table>,
+    hint: Option<SharedTable>,
 ) -> Result<SessionName, AllocError>
     requires { sessions.old.sequence < 2 ^ 64 - 1 }
     ensures ok { IfOk result (λ name. IsOpened sessions.old epoch host kind now (arc_value base) name sessions.new) }
@@ -92,7 +96,7 @@ fn open_session<S: Drop>(
         epoch,
         sequence: sessions.sequence,
     };
-    let dump = fresh_dump(alloc, name, host, kind, now, base)?;
+    let dump = fresh_dump(alloc, name, host, kind, now, base, hint)?;
     sessions.open_dump(dump)?;
     Ok(name)
 }
@@ -105,24 +109,35 @@ fn open_with<D: Disk, N: Namer>(
     host: usize,
     kind: Kind,
     now: Moment,
-    rows: Table,
+    begun: Begun,
 ) -> Result<SessionName, AllocError>
     requires { parts.old.sessions.sequence < 2 ^ 64 - 1 }
-    ensures ok { IfOk result (λ name. HasOpened parts.old host kind now rows name parts.new) }
+    ensures ok { IfOk result (λ name. HasOpened parts.old host kind now begun.rows name parts.new) }
     ensures err { OnErr result (HasKept parts.old parts.new) }
 {
+    let Begun { rows, hint } = begun;
     let base = Arc::new(alloc, rows)?;
     let shared = base.clone()?;
     reserve_dump(&mut parts.pool, base.rows(), base.rows())?;
     let epoch = parts.catalog.epoch();
-    let name = open_session(&mut parts.sessions, alloc, epoch, host, kind, now, shared)?;
+    let name = open_session(
+        &mut parts.sessions,
+        alloc,
+        epoch,
+        host,
+        kind,
+        now,
+        shared,
+        hint,
+    )?;
     claim_dump(&mut parts.pool, base.rows(), base.rows());
     Ok(name)
 }
 
 /// Opens a dump of a host: a full one begins with the empty tree, an incremental with the tree of the host's newest backup,
 /// whose contents it claims. After a refusal nothing has changed; `Damaged` names the table of that backup, with what was
-/// found of it.
+/// found of it. A full one reads that table, too, to compare with; it is opened without it if it is damaged, or if there is
+/// no memory for it.
 pub fn open_dump<D: Disk, N: Namer>(
     parts: &mut StoreParts<D, N>,
     alloc: Global,
@@ -140,11 +155,11 @@ pub fn open_dump<D: Disk, N: Namer>(
         Some(rule) => return Err(Refusal::Broken(rule)),
         None => {}
     }
-    let base = match base_of(parts, alloc, at, kind) {
-        Ok(base) => base,
+    let begun = match base_of(parts, alloc, at, kind) {
+        Ok(begun) => begun,
         Err(refusal) => return Err(refusal),
     };
-    match open_with(parts, alloc, at, kind, now, base) {
+    match open_with(parts, alloc, at, kind, now, begun) {
         Ok(name) => Ok(Answer::Dump(name)),
         Err(_) => Err(Refusal::Memory),
     }

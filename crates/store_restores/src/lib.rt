@@ -2,7 +2,8 @@
 //! The crate knows the parts of a store, and no other event.
 //!
 //! Each row of an open restore claims the content that it names, so a restore ends with the tree that it began with,
-//! whatever is deleted and cleaned meanwhile. A restore stands at a place, from which the next frame is found at once: all
+//! whatever is deleted and cleaned meanwhile. Restores of one backup hold its rows in memory once, and so does the view that is
+//! kept, if it is theirs. A restore stands at a place, from which the next frame is found at once: all
 //! frames of a tree take a time that is linear in it, and each content is read once, when its first piece is asked for.
 //!
 //! | Function | What it does |
@@ -21,6 +22,7 @@ mod digests;
 mod giving;
 mod opening;
 mod reading;
+mod sharing;
 
 pub use closing::close_read;
 pub use opening::open_read;

@@ -12,6 +12,7 @@ ghost use Rattle.store_parts.specs.Runs.{Runs};
 ghost use Rattle.store_reads.specs.Told.{TellsBackup, HasDamagedTable, IsReadReply};
 ghost use Rattle.store_restores.specs.Opening.{HasOpened, HasKept, OpensRestore};
 
+use crate::sharing::shared_rows;
 use attr_records::HostName;
 use attr_tables::Table;
 use disk_trait::Disk;
@@ -19,6 +20,7 @@ use office_model::{Answer, BrokenRule, Refusal, SessionName};
 use open_sessions::{OpenRestore, Place, Sessions};
 use pool_name::Namer;
 use pool_store::Pool;
+use shared_tables::SharedTable;
 use std::alloc::{AllocError, Global};
 use store_dumps::claim_rows;
 use store_parts::StoreParts;
@@ -39,9 +41,9 @@ fn claim_restore<N: Namer>(pool: &mut Pool<N>, sessions: &Sessions<N::State>, at
 
 /// Opens a restore of these rows, each of which claims its content; or says that memory is wanting, and the same is open
 /// and claimed as before.
-fn open_with<D: Disk, N: Namer>(
+fn open_shared<D: Disk, N: Namer>(
     parts: &mut StoreParts<D, N>,
-    rows: Table,
+    rows: SharedTable,
 ) -> Result<SessionName, AllocError>
     requires { parts.old.sessions.sequence < 2 ^ 64 - 1 }
     ensures ok { IfOk result (λ name. HasOpened parts.old rows name parts.new) }
@@ -63,8 +65,27 @@ fn open_with<D: Disk, N: Namer>(
     Ok(name)
 }
 
-/// Opens a restore of a backup, whose contents it claims. It refuses a host or a backup that isn't there, a spent number of
-/// sessions, a table that is damaged, a fault of the disk and want of memory; then nothing has changed.
+/// Opens a restore of these rows, which it shares with whoever has them in memory, and each of which claims its content; or
+/// says that memory is wanting, and the same is open and claimed as before.
+fn open_with<D: Disk, N: Namer>(
+    parts: &mut StoreParts<D, N>,
+    alloc: Global,
+    rows: Table,
+) -> Result<SessionName, AllocError>
+    requires { parts.old.sessions.sequence < 2 ^ 64 - 1 }
+    ensures ok { IfOk result (λ name. HasOpened parts.old rows name parts.new) }
+    ensures err { OnErr result (HasKept parts.old parts.new) }
+    ensures journal { parts.new.journal ≡ parts.old.journal }
+{
+    match shared_rows(&parts.sessions, &parts.views, alloc, rows) {
+        Ok(shared) => open_shared(parts, shared),
+        Err(fault) => Err(fault),
+    }
+}
+
+/// Opens a restore of a backup, whose contents it claims. Restores of one backup hold its rows in memory once. It refuses a
+/// host or a backup that isn't there, a spent number of sessions, a table that is damaged, a fault of the disk and want of
+/// memory; then nothing has changed.
 pub fn open_read<D: Disk, N: Namer>(
     parts: &mut StoreParts<D, N>,
     alloc: Global,
@@ -84,7 +105,7 @@ pub fn open_read<D: Disk, N: Namer>(
     if parts.sessions.sequence >= u64::MAX {
         return Err(Refusal::Broken(BrokenRule::NumbersSpent));
     }
-    match open_with(parts, rows) {
+    match open_with(parts, alloc, rows) {
         Ok(name) => Ok(Answer::Restore(name)),
         Err(_) => Err(Refusal::Memory),
     }

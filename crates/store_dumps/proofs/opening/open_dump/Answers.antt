@@ -27,7 +27,7 @@ pub returns-in-Ok-open_with-clause-runs : goal.returns-in-Ok-open_with-clause-ru
 returns-in-Ok-open_with-clause-runs g c = runs_base_opened c.args.parts.now c.base_of.new.parts c.args.host.now c.args.kind c.args.now
     c.in-Ok.ensures.reads c.in-Ok.ensures.counted c.in_ok-at.at c.index-hosts-at.result c.in_ok-at.ensures.found
     (index_read _ _ _ _ c.hosts.ensures.hosts c.in_ok-at.ensures.within c.index-hosts-at.is) c.in-None.ensures
-    (not_failed _) c.open_with.new.parts c.in-Ok-open_with.name c.in-Ok.base c.in-Ok.ensures.base c.in-Ok-open_with.ensures.ok
+    (not_failed _) c.open_with.new.parts c.in-Ok-open_with.name c.in-Ok.begun.rows c.in-Ok.ensures.base c.in-Ok-open_with.ensures.ok
 
 pub returns-in-Err-open_with-clause-runs : goal.returns-in-Err-open_with-clause-runs
 returns-in-Err-open_with-clause-runs g c = runs_base_memory c.args.parts.now c.base_of.new.parts c.args.host.now c.args.kind c.args.now
@@ -45,9 +45,9 @@ returns-in-Ok-open_with-clause-base g c =
       refl,
       record {
         host = record { place = c.in_ok-at.at; index = c.index-hosts-at.result; is_host = c.in_ok-at.ensures.found; is_index = index };
-        rows = c.in-Ok.base;
+        rows = c.in-Ok.begun.rows;
         tells = c.in-Ok.ensures.tells c.index-hosts-at.result index;
-        opened = opened_since c.args.parts.now c.base_of.new.parts c.in-Ok.ensures.reads c.in_ok-at.at c.args.kind c.args.now c.in-Ok.base
+        opened = opened_since c.args.parts.now c.base_of.new.parts c.in-Ok.ensures.reads c.in_ok-at.at c.args.kind c.args.now c.in-Ok.begun.rows
             c.in-Ok-open_with.name c.open_with.new.parts.sessions c.in-Ok-open_with.ensures.ok.sessions;
       },
     )
