@@ -199,18 +199,17 @@ def large(room, entries):
         expect(f"backup {number} is the tree", found == wanted, difference(wanted, found))
 
 
-def peak_of_dump(store, folder):
-    """A dump, its status and the most kilobytes that it held."""
-    words = [PROGRAM, "dump-folder", "--store", store, "--host", "pc1", "--kind", "full", folder]
-    worker = subprocess.Popen(words, stdout=subprocess.DEVNULL)
+def peak_of(*words):
+    """A run of the program: its status and the most kilobytes that it held."""
+    worker = subprocess.Popen([PROGRAM, *words], stdout=subprocess.DEVNULL)
     _, status, used = os.wait4(worker.pid, 0)
     worker.returncode = os.waitstatus_to_exitcode(status)
     return worker.returncode, used.ru_maxrss
 
 
 def huge(room):
-    """A file of more than 67,108,864 bytes goes piece by piece, and comes back with its hard link."""
-    store, folder, back = f"{room}/store5", f"{room}/huge", f"{room}/huge-back"
+    """A file of more than 67,108,864 bytes goes piece by piece, and comes back with its hard link; without one it comes back piece by piece."""
+    store, folder, back, alone = f"{room}/store5", f"{room}/huge", f"{room}/huge-back", f"{room}/huge-alone"
     os.makedirs(folder)
     piece = random.Random(5).randbytes(1_000_003)
     with open(f"{folder}/large", "wb") as it:
@@ -219,12 +218,19 @@ def huge(room):
     os.link(f"{folder}/large", f"{folder}/twin")
     put(f"{folder}/small", b"small")
     add_host(store, "pc1")
-    status, peak = peak_of_dump(store, folder)
+    status, peak = peak_of("dump-folder", "--store", store, "--host", "pc1", "--kind", "full", folder)
     expect("a tree with a large file is dumped", status == 0, status)
     expect("the large file is never held whole", peak < 40_000, f"{peak} KB")
     expect_run("and again what comes after it", dump(store, folder, "incr"), 0, b"committed pc1 1\n", b"")
     expect_run("and restored", restore(store, back, 0), 0, b"restored pc1 0 3\n", b"")
     expect("what is restored is the tree with the large file", seen(folder) == seen(back), difference(seen(folder), seen(back)))
+    os.remove(f"{folder}/twin")
+    os.chmod(f"{folder}/large", 0o6400)
+    expect_run("its hard link goes", dump(store, folder, "incr"), 0, b"committed pc1 2\n", b"")
+    status, peak = peak_of("restore-folder", "--store", store, "--host", "pc1", "--number", "2", alone)
+    expect("the large file alone is restored", status == 0, status)
+    expect("and never held whole", peak < 40_000, f"{peak} KB")
+    expect("what is restored is the tree with the large file alone", seen(folder) == seen(alone), difference(seen(folder), seen(alone)))
 
 
 def live(room):

@@ -20,6 +20,7 @@ enum Ask {
     List(&'static str),
     Read(&'static str),
     Make(&'static str),
+    Append(&'static str),
     Link(&'static str, &'static str),
     Finish(&'static str),
 }
@@ -34,6 +35,10 @@ const FAILING: &[Ask] = &[
     Ask::Make("no/x"),
     Ask::Make("g/x"),
     Ask::Make("l/x"),
+    Ask::Append("no"),
+    Ask::Append("d"),
+    Ask::Append("l"),
+    Ask::Append("g"),
     Ask::Link("no/x", "g"),
     Ask::Link("x", "d"),
     Ask::Link("g", "h"),
@@ -64,6 +69,7 @@ fn fault(alloc: Global, folder: &mut MemoryFolder, ask: &Ask) -> Result<Option<F
         Ask::List(name) => Ok(folder.list(alloc, Some(&path(alloc, name)?)).err()),
         Ask::Read(name) => Ok(folder.read(alloc, &path(alloc, name)?).err()),
         Ask::Make(name) => make(alloc, folder, name),
+        Ask::Append(name) => Ok(folder.append(alloc, &path(alloc, name)?, b"x").err()),
         Ask::Link(name, earlier) => link(alloc, folder, name, earlier),
         Ask::Finish(name) => {
             let attr = Attr::dir_default();

@@ -15,6 +15,8 @@ mod hosts;
 #[cfg(test)]
 mod large_file_tests;
 #[cfg(test)]
+mod piece_tests;
+#[cfg(test)]
 mod real_folder_tests;
 #[cfg(test)]
 mod strange;

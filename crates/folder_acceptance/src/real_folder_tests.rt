@@ -12,14 +12,14 @@ use std::test::Fail;
 use std::{fs, io};
 
 /// The name of a folder beside nobody else's, in which nothing is.
-fn free_name(rt: &HostRuntime, end: &str) -> io::Result<String> {
+pub(crate) fn free_name(rt: &HostRuntime, end: &str) -> io::Result<String> {
     let name = format!(in rt.alloc(); "/tmp/real_folder-{}-{end}", libc::getpid())?;
     let _ = fs::remove_dir_all(rt, name.as_str());
     Ok(name)
 }
 
 /// Attributes that the user may give.
-fn ours(mode: u16, seconds: i64, nanos: u32) -> Attr
+pub(crate) fn ours(mode: u16, seconds: i64, nanos: u32) -> Attr
     requires bits { mode ≤ 4095 }
     requires second { nanos ≤ 999999999 }
 {

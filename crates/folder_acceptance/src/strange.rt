@@ -24,20 +24,22 @@ pub(crate) enum Odd {
     Gone,
 }
 
-/// One in memory that lists something odd, too, and counts its hard links.
+/// One in memory that lists something odd, too, and counts its hard links and the pieces that are put to files.
 #[derive(Drop)]
 pub(crate) struct Strange {
     pub inside: MemoryFolder,
     pub odd: Odd,
     pub links: u64,
+    pub pieces: u64,
 }
 
-/// A strange folder that no hard link was made in.
+/// A strange folder in which no hard link was made, and no piece put to a file.
 pub(crate) fn new_strange(inside: MemoryFolder, odd: Odd) -> Strange {
     Strange {
         inside,
         odd,
         links: 0,
+        pieces: 0,
     }
 }
 
@@ -135,6 +137,11 @@ impl Folder for Strange {
 
     fn make(&mut self, alloc: Global, path: &PathName, item: &Item) -> Result<(), FolderFault> {
         self.inside.make(alloc, path, item)
+    }
+
+    fn append(&mut self, alloc: Global, path: &PathName, bytes: &[u8]) -> Result<(), FolderFault> {
+        self.pieces = self.pieces.saturating_add(1);
+        self.inside.append(alloc, path, bytes)
     }
 
     fn link(

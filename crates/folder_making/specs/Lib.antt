@@ -3,4 +3,5 @@ pub mod MadeLaws
 pub mod Standing
 pub mod RowLaws
 pub mod StandLaws
+pub mod PieceLaws
 pub mod Holding

@@ -39,9 +39,13 @@ begun_at rows path (N.File node) = record { rows = rows; file = Some (record { p
 begun_at rows path (N.Dir dir) = record { rows = rows ++ (path, I.Dir dir) ∷ []; file = None }
 begun_at rows path (N.Link link) = record { rows = rows ++ (path, I.Link link) ∷ []; file = None }
 
+-- a file with one more piece
+abbrev pub with_piece : Coming → List ℕ → Coming
+with_piece coming bytes = record { path = coming.path; node = coming.node; bytes = coming.bytes ++ bytes }
+
 abbrev pub extended : Option Coming → List ℕ → Option Coming
 extended None bytes = None
-extended (Some coming) bytes = Some (record { path = coming.path; node = coming.node; bytes = coming.bytes ++ bytes })
+extended (Some coming) bytes = Some (with_piece coming bytes)
 
 -- what one more frame makes
 abbrev pub taken : Made → Frame → Made

@@ -8,7 +8,8 @@
 //!
 //! Entries are made in the order of the paths. A directory is finished, which sets its attributes, behind its last entry; a file is
 //! made once all of its bytes are there; a file of a group is a hard link of an earlier file of the group with equal attributes and
-//! bytes, if there is one. Memory: the open directories, one file, and a small record for each file of a group.
+//! bytes, if there is one. A file of several pieces that is in no group is made at once, and gets each piece as it comes. Memory: the
+//! open directories, one piece or one file of a group, and a small record for each file of a group.
 //!
 //! ```text
 //! let mut making = Making::new(alloc);

@@ -1,7 +1,8 @@
 -- What a folder says of its tree, and what its calls make of it.
 --     IsListing, IsReading, IsPieceRead, IsEmptiness      what is told of a directory, a file, a piece of a file, all
 --     IsFree      nothing is at a path
---     with_made, with_linked, with_finished      what a call that was carried out leaves, where it is told
+--     IsLone      a file is at a path that is in no group of hard links
+--     with_made, with_appended, with_linked, with_finished      what a call that was carried out leaves, where it is told
 use Rattle.std.specs.Prelude.{◌≡◌, ℕ, ◌+◌, Bool, List, [], ◌∷◌, ◌++◌, length, take, drop, map, pos, Option, Some, None, is_some, true, false, bytes_eq}
 use Rattle.std.specs.List.{filter}
 use Rattle.std.specs.Option.{option_eq, option_map}
@@ -76,6 +77,12 @@ IsEmptiness tree empty = empty ≡ is_bare tree
 abbrev pub IsFree : Tree → List ℕ → Type 0
 IsFree tree path = is_some (node_at tree path) ≡ false
 
+-- a file is at the path that is in no group of hard links
+pub record IsLone (tree : Tree) (path : List ℕ) : Type 0 where
+  pub file : File
+  pub at : node_at tree path ≡ Some (I.File file)
+  pub group : file.group ≡ 0
+
 -- ---- what is made
 
 -- a directory without its attributes: only its owner may do anything there
@@ -99,6 +106,21 @@ made tree path item = with_node (touched tree (parent path)) path (begun item)
 abbrev pub with_made : Option Tree → List ℕ → Item → Option Tree
 with_made None path item = None
 with_made (Some tree) path item = Some (made tree path item)
+
+-- a file with more bytes at its end
+abbrev pub longer : File → List ℕ → File
+longer file more = record { attr = file.attr; group = file.group; bytes = file.bytes ++ more }
+
+-- more bytes at the end of a file, where there is one
+abbrev pub appended : Tree → List ℕ → List ℕ → Option Item → Tree
+appended tree path more None = tree
+appended tree path more (Some (I.File file)) = with_node tree path (I.File (longer file more))
+appended tree path more (Some (I.Dir dir)) = tree
+appended tree path more (Some (I.Link link)) = tree
+
+abbrev pub with_appended : Option Tree → List ℕ → List ℕ → Option Tree
+with_appended None path more = None
+with_appended (Some tree) path more = Some (appended tree path more (node_at tree path))
 
 -- the same item at a further path, where there is one
 abbrev pub linked : Tree → List ℕ → Option Item → Tree

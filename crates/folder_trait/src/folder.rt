@@ -5,7 +5,7 @@ ghost use Rattle.std.specs.Option.{ForSome, option_copied};
 ghost use Rattle.fault_counts.specs.Counts.{Counted};
 ghost use Rattle.attr_records.specs.Items.{Tree, is_dir};
 ghost use Rattle.attr_records.specs.Trees.{IsTree};
-ghost use Rattle.folder_trait.specs.Folders.{IsListing, IsReading, IsPieceRead, IsEmptiness, IsFree, with_made, with_linked, with_finished};
+ghost use Rattle.folder_trait.specs.Folders.{IsListing, IsReading, IsPieceRead, IsEmptiness, IsFree, IsLone, with_made, with_appended, with_linked, with_finished};
 
 use crate::found::Found;
 use attr_records::{Dir, Item, PathName};
@@ -104,6 +104,13 @@ pub trait Folder {
     fn make(&mut self, alloc: Global, path: &PathName, item: &Item) -> Result<(), FolderFault>
         ensures free { OnOk result (ForSome (tree self.old) (λ all. IsFree all path.now)) }
         ensures made { OnOk result (tree self.new ≡ with_made (tree self.old) path.now item.now) }
+        ensures counted { Counted (fault_count self.old) (fault_count self.new) (IsErrOf result FolderFault.Failed) };
+
+    /// Puts bytes at the end of a file that was made, whose attributes stay as they are. `Failed` also if no file is at the path, or
+    /// it is in a group of hard links; and a folder may fail if anything else was made since.
+    fn append(&mut self, alloc: Global, path: &PathName, bytes: &[u8]) -> Result<(), FolderFault>
+        ensures there { OnOk result (ForSome (tree self.old) (λ all. IsLone all path.now)) }
+        ensures extended { OnOk result (tree self.new ≡ with_appended (tree self.old) path.now bytes.now) }
         ensures counted { Counted (fault_count self.old) (fault_count self.new) (IsErrOf result FolderFault.Failed) };
 
     /// Makes a hard link of a file. `Ok` says that nothing was at the path, and leaves the item of `earlier` there, too, and the

@@ -17,6 +17,7 @@
 //! ```text
 //! folder.make(alloc, &directory, &Item::Dir(dir))?;
 //! folder.make(alloc, &path, &item)?;
+//! folder.append(alloc, &path, more)?;
 //! folder.finish(alloc, &directory, &dir)?;
 //! ```
 #![tactic(auto)]

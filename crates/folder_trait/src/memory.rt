@@ -8,11 +8,11 @@ ghost use Rattle.attr_records.specs.Items.{is_dir, is_large};
 ghost use Rattle.attr_records.specs.Paths.{parent};
 ghost use Rattle.attr_records.specs.Trees.{IsTree, node_at, with_node};
 ghost use Rattle.folder_trait.specs.TreeProps.{IsTree-prop};
-ghost use Rattle.folder_trait.specs.Folders.{IsFree, is_child, name_in, entry_of, listed, unfinished, begun, touched, made, file_bytes};
+ghost use Rattle.folder_trait.specs.Folders.{IsFree, is_child, name_in, entry_of, listed, unfinished, begun, longer, touched, made, file_bytes};
 
 use crate::folder::{Folder, FolderFault};
 use crate::found::{Found, found_of};
-use attr_records::{Attr, Dir, Item, PathName, broken_put};
+use attr_records::{Attr, Dir, File, Item, PathName, broken_put};
 use disk_trait::Bytes;
 use std::alloc::{AllocError, Global};
 use std::collections::BTreeMap;
@@ -50,6 +50,19 @@ fn begun(alloc: Global, item: &Item) -> Result<Item, AllocError>
         Item::File(file) => Ok(Item::File(file.copy(alloc)?)),
         Item::Link(link) => Ok(Item::Link(link.copy(alloc)?)),
     }
+}
+
+/// A file with more bytes at its end, or want of memory.
+fn longer(alloc: Global, file: &File, more: &[u8]) -> Result<File, AllocError>
+    ensures { IfOk result (λ made. made ≡ longer file.now more.now) }
+{
+    let mut bytes = Vec::from_slice(alloc, file.bytes.as_slice())?;
+    bytes.extend_from_slice(more)?;
+    Ok(File {
+        attr: file.attr,
+        group: file.group,
+        bytes: Bytes::from_vec(bytes),
+    })
 }
 
 /// Whether a path lies directly in a directory, or in the root if there is none.
@@ -193,6 +206,7 @@ impl MemoryFolder {
     ghost use Rattle.std.specs.Prelude.{◌≡◌, ⊤};
     ghost use Rattle.folder_trait.specs.declared.folder.FolderFault.TheVariants.{Failed};
     ghost use Rattle.fault_counts.specs.Counts.{Rose};
+    ghost use Rattle.folder_trait.specs.Memory.{IsLonger};
 
     /// Counts a fault of a call that wasn't among those that fail.
     fn fault(&mut self) -> FolderFault
@@ -237,6 +251,23 @@ impl MemoryFolder {
         match self.tree.get(path) {
             Some(Item::File(file)) => Ok(Some(Item::File(file.copy(alloc)?))),
             Some(Item::Dir(_) | Item::Link(_)) | None => Ok(None),
+        }
+    }
+
+    /// The file at a path with more bytes at its end, if there is one and it is in no group of hard links; or want of memory.
+    fn longer_at(
+        &self,
+        alloc: Global,
+        path: &PathName,
+        more: &[u8],
+    ) -> Result<Option<Item>, AllocError>
+        ensures { IfOk result (λ found. IfSome found (λ item. IsLonger self.now.tree.entries path.now more.now item)) }
+    {
+        match self.tree.get(path) {
+            Some(Item::File(file)) if file.group == 0 => {
+                Ok(Some(Item::File(longer(alloc, file, more)?)))
+            }
+            Some(_) | None => Ok(None),
         }
     }
 
@@ -323,6 +354,19 @@ impl Folder for MemoryFolder {
             return Err(FolderFault::Failed);
         }
         if self.make_item(alloc, path, item)? {
+            return Ok(());
+        }
+        Err(self.fault())
+    }
+
+    fn append(&mut self, alloc: Global, path: &PathName, bytes: &[u8]) -> Result<(), FolderFault> {
+        if self.has_failed() {
+            return Err(FolderFault::Failed);
+        }
+        let Some(item) = self.longer_at(alloc, path, bytes)? else {
+            return Err(self.fault());
+        };
+        if put(alloc, &mut self.tree, path, item)? {
             return Ok(());
         }
         Err(self.fault())

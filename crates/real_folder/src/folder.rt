@@ -41,7 +41,9 @@ const SET_IDS: u16 = 0o6000;
 /// **What is made** is for its owner alone until it has its attributes: owner and group of users, then the mode, then the time. An owner
 /// that the system doesn't let us give (EPERM) is told once, and passed over from then on; the mode is given all the same, with the bits
 /// that the system takes. No call of the kit sets the mode and the time of a symbolic link, attributes beyond these, or access lists:
-/// they stay as the system made them. What a call made before it failed stays there, as a file cut short.
+/// they stay as the system made them. What a call made before it failed stays there, as a file cut short. The entry that was made last
+/// stays open if it is a file in no group of hard links, so that bytes can be put at its end whatever its mode is; a hard link made
+/// since, or another entry, closes it.
 ///
 /// **Links.** No path leads through a symbolic link, whoever makes links in the folder meanwhile: each directory of a path is opened by
 /// its name in the one that holds it, which refuses a link, and what is done there is done through what is open. A name that is taken
@@ -57,6 +59,8 @@ pub struct RealFolder {
     root: Option<Directory>,
     groups: Groups,
     reading: Option<Reading>,
+    /// The entry that was made last, if it is a file that more may be put to.
+    made: Option<MadeFile>,
     is_owner_told: bool,
     faults: FaultCount,
 }
@@ -66,6 +70,14 @@ pub struct RealFolder {
 struct Reading {
     path: PathName,
     handle: Handle,
+}
+
+/// A file that was made, open to be written at its end.
+#[derive(Debug, Drop)]
+struct MadeFile {
+    path: PathName,
+    handle: Handle,
+    attr: Attr,
 }
 
 impl RealFolder {
@@ -78,6 +90,7 @@ impl RealFolder {
             root: Some(Directory::at(&rt, path)?),
             groups: Groups::new(alloc),
             reading: None,
+            made: None,
             is_owner_told: false,
             faults: FaultCount::new(),
         })
@@ -92,6 +105,7 @@ impl RealFolder {
             root: None,
             groups: Groups::new(alloc),
             reading: None,
+            made: None,
             is_owner_told: false,
             faults: FaultCount::new(),
         }
@@ -286,14 +300,44 @@ impl RealFolder {
         handle.set_time(attr)
     }
 
-    /// Makes a file.
+    /// Makes a file. One that is in no group of hard links stays open, so that more can be put to it.
     fn make_file(&mut self, alloc: Global, path: &PathName, file: &File) -> io::Result<()>
         ensures { self.new.faults ≡ self.old.faults }
     {
         let (directory, name) = self.split(path)?;
+        let path = path.copy(alloc)?;
         let mut handle = directory.make_file(alloc, name)?;
         handle.write_all(file.bytes.as_slice())?;
-        self.settle(&handle, &file.attr)
+        let attr = file.attr;
+        self.settle(&handle, &attr)?;
+        if file.group == 0 {
+            self.made = Some(MadeFile { path, handle, attr });
+        }
+        Ok(())
+    }
+
+    /// Puts bytes at the end of the file that was made last, if this is its path, and gives it its attributes anew: to write takes the
+    /// set-id bits and the time. Behind a failure the file is closed.
+    fn write_more(&mut self, path: &PathName, bytes: &[u8]) -> io::Result<()>
+        ensures { self.new.faults ≡ self.old.faults }
+    {
+        let MadeFile {
+            path,
+            mut handle,
+            attr,
+        } = match self.made.take() {
+            Some(made) if made.path.as_slice() == path.as_slice() => made,
+            _ => {
+                return Err(io::Error::new(
+                    ErrorKind::InvalidInput,
+                    "not the file that was made last",
+                ));
+            }
+        };
+        handle.write_all(bytes)?;
+        self.settle(&handle, &attr)?;
+        self.made = Some(MadeFile { path, handle, attr });
+        Ok(())
     }
 
     /// Makes a symbolic link.
@@ -312,6 +356,7 @@ impl RealFolder {
     fn make_item(&mut self, alloc: Global, path: &PathName, item: &Item) -> io::Result<()>
         ensures { self.new.faults ≡ self.old.faults }
     {
+        self.made = None;
         match item {
             Item::File(file) => self.make_file(alloc, path, file),
             Item::Link(link) => self.make_link(alloc, path, link),
@@ -323,7 +368,10 @@ impl RealFolder {
     }
 
     /// Makes a hard link of an earlier file.
-    fn make_name(&self, path: &PathName, earlier: &PathName) -> io::Result<()> {
+    fn make_name(&mut self, path: &PathName, earlier: &PathName) -> io::Result<()>
+        ensures { self.new.faults ≡ self.old.faults }
+    {
+        self.made = None;
         let (from, name) = self.split(earlier)?;
         let (to, further) = self.split(path)?;
         from.add_name(&self.rt, name, &to, further)
@@ -381,6 +429,13 @@ impl Folder for RealFolder {
 
     fn make(&mut self, alloc: Global, path: &PathName, item: &Item) -> Result<(), FolderFault> {
         match self.make_item(alloc, path, item) {
+            Ok(()) => Ok(()),
+            Err(error) => Err(self.fault(Some(path), Trouble::from(error))),
+        }
+    }
+
+    fn append(&mut self, _alloc: Global, path: &PathName, bytes: &[u8]) -> Result<(), FolderFault> {
+        match self.write_more(path, bytes) {
             Ok(()) => Ok(()),
             Err(error) => Err(self.fault(Some(path), Trouble::from(error))),
         }

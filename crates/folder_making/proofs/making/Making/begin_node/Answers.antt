@@ -6,10 +6,9 @@ use Rattle.folder_making.proofs.MakeSteps.{file_begun, row_begun}
 use Rattle.folder_making.proofs.making.Making.begin_node.Goals as goal
 
 pub returns-in-File-clause-holds : goal.returns-in-File-clause-holds
-returns-in-File-clause-holds g c = λ rows more left h split.
-    file_begun rows more left (g.F.Folder.tree c.args.folder.now) c.args.self.now _ c.args.path c.in-File.node _
-    (begun_at rows c.args.path c.args.node) (ap (begun_at rows c.args.path) c.in-File.is)
-    refl refl refl (cc) refl refl h split
+returns-in-File-clause-holds g c = on_ok c.begin_file.result c.begin_file.ensures.holds (λ begins rows more left h split.
+    file_begun rows more left (g.F.Folder.tree c.begin_file.new.folder) c.begin_file.new.self c.args.path c.args.node c.in-File.node c.in-File.is
+    (begins rows more h) split)
 
 pub returns-in-Dir-clause-holds : goal.returns-in-Dir-clause-holds
 returns-in-Dir-clause-holds g c = on_ok c.add_dir.result c.add_dir.ensures.stands (λ adds rows more left h split.

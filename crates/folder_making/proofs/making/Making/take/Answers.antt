@@ -15,8 +15,7 @@ returns-in-Entry-clause-holds g c =
 
 pub returns-in-Piece-clause-holds : goal.returns-in-Piece-clause-holds
 returns-in-Piece-clause-holds g c = on_ok c.extend.result c.extend.ensures.holds (λ extends made more left h split.
-    piece_taken made more left (g.F.Folder.tree c.args.folder.now) c.extend.new.self c.args.frame _ c.in-Piece.is
-    (extends made more (g.F.Folder.tree c.args.folder.now) h) split)
+    piece_taken made more left (g.F.Folder.tree c.extend.new.folder) c.extend.new.self c.args.frame _ c.in-Piece.is (extends made more h) split)
 
 pub returns-in-End-clause-holds : goal.returns-in-End-clause-holds
 returns-in-End-clause-holds g c =
