@@ -7,13 +7,14 @@ use crate::disk_fault::DiskFault;
 use crate::fault_count::FaultCount;
 use crate::open_files::most_handles;
 use crate::pending::Pending;
-use crate::store_folder::{Access, make_folder, open_file};
+use crate::reading::{Reader, Readers, room_for};
+use crate::store_folder::{Access, Opened, make_folder, open_file};
 use crate::told::Told;
 use disk_trait::{Bytes, Disk, DiskError, Failed, FileId, FileList};
 use file_names::file_named;
 use std::alloc::{AllocError, Global};
 use std::fs::File;
-use std::io::{ErrorKind, Read, Seek, SeekFrom, Write};
+use std::io::{ErrorKind, Read, Seek, Write};
 use std::thread::Threads;
 use std::{fs, io};
 
@@ -24,6 +25,8 @@ use std::{fs, io};
 /// as may be, they are made durable early. A sync then makes durable which files the folder has: so a crash of
 /// the machine after a sync keeps each file as it was. After a sync that failed each later one fails, since the
 /// system may then take for durable what it has lost. Many files are made durable side by side.
+///
+/// A file that is read in pieces stays open for its next piece, until this disk writes it or takes it away.
 #[derive(Drop)]
 pub struct FolderDisk<H: Threads + Drop> {
     rt: HostRuntime,
@@ -31,6 +34,7 @@ pub struct FolderDisk<H: Threads + Drop> {
     path: String,
     folder: File,
     pending: Pending,
+    readers: Readers,
     is_doubtful: bool,
     told: Told,
     faults: FaultCount,
@@ -48,6 +52,7 @@ impl<H: Threads + Drop> FolderDisk<H> {
             path: String::from_str(alloc, path)?,
             folder,
             pending: Pending::new(alloc, most_handles()),
+            readers: Readers::new(alloc),
             is_doubtful: false,
             told: Told::new(alloc),
             faults: FaultCount::new(),
@@ -60,30 +65,38 @@ impl<H: Threads + Drop> FolderDisk<H> {
         format!(in self.rt.alloc(); "{folder}/{file}")
     }
 
-    /// A handle to a file.
-    fn open_file(&self, file: FileId, access: Access) -> io::Result<File> {
+    /// Opens a file.
+    fn open_file(&self, file: FileId, access: Access) -> io::Result<Opened<File>> {
         let path = self.path_of(file)?;
         open_file(&self.rt, path.as_str(), access)
     }
 
     /// The bytes of a file.
     fn bytes_of(&self, alloc: Global, file: FileId) -> io::Result<Vec<u8>> {
-        let mut handle = self.open_file(file, Access::Read)?;
-        let mut bytes = room_for(alloc, handle.metadata()?.len())?;
+        let Opened { mut handle, len } = self.open_file(file, Access::Read)?;
+        let mut bytes = room_for(alloc, len)?;
         handle.read_to_end(&mut bytes)?;
         Ok(bytes)
     }
 
-    /// `room` bytes of a file from an offset on, or all that are left.
-    fn piece_of(&self, alloc: Global, file: FileId, from: u64, room: usize) -> io::Result<Vec<u8>> {
-        let mut handle = self.open_file(file, Access::Read)?;
-        let left = handle.metadata()?.len().saturating_sub(from);
-        if left == 0 {
-            return Ok(Vec::new(alloc));
+    /// `room` bytes of a file from an offset on, or all that are left. The file stays open for what follows them.
+    fn piece_of(
+        &mut self,
+        alloc: Global,
+        file: FileId,
+        from: u64,
+        room: usize,
+    ) -> io::Result<Vec<u8>>
+        ensures { self.new.faults ≡ self.old.faults }
+    {
+        let mut reader = match self.readers.take(file, from) {
+            Some(reader) => reader,
+            None => Reader::new(file, self.open_file(file, Access::Read)?, from)?,
+        };
+        let bytes = reader.next(alloc, room)?;
+        if reader.has_more() {
+            self.readers.keep(reader);
         }
-        let mut bytes = room_for(alloc, left.min(room as u64))?;
-        handle.seek(SeekFrom::Start(from))?;
-        handle.take(room as u64).read_to_end(&mut bytes)?;
         Ok(bytes)
     }
 
@@ -111,7 +124,8 @@ impl<H: Threads + Drop> FolderDisk<H> {
     fn put(&mut self, file: FileId, bytes: &[u8]) -> io::Result<()>
         ensures { self.new.faults ≡ self.old.faults }
     {
-        let mut handle = self.open_file(file, Access::Replace)?;
+        self.readers.forget(file);
+        let mut handle = self.open_file(file, Access::Replace)?.handle;
         let written = write_or_empty(&mut handle, bytes);
         self.keep(file, handle);
         written
@@ -121,9 +135,10 @@ impl<H: Threads + Drop> FolderDisk<H> {
     fn extend(&mut self, file: FileId, bytes: &[u8]) -> io::Result<()>
         ensures { self.new.faults ≡ self.old.faults }
     {
+        self.readers.forget(file);
         let mut handle = match self.pending.take(file) {
             Some(handle) => handle,
-            None => self.open_file(file, Access::Append)?,
+            None => self.open_file(file, Access::Append)?.handle,
         };
         let written = write_or_empty(&mut handle, bytes);
         self.keep(file, handle);
@@ -147,6 +162,7 @@ impl<H: Threads + Drop> FolderDisk<H> {
     fn take_away(&mut self, file: FileId) -> io::Result<()>
         ensures { self.new.faults ≡ self.old.faults }
     {
+        self.readers.forget(file);
         let path = self.path_of(file)?;
         match fs::remove_file(&self.rt, path) {
             Ok(()) => {
@@ -180,14 +196,6 @@ impl<H: Threads + Drop> FolderDisk<H> {
             let folder = self.path.as_str();
             let _ = eprintln!(rt; "{folder}{fault}");
         }
-    }
-}
-
-/// Room for this number of bytes, and for the one more with which a reader sees that none follows.
-fn room_for(alloc: Global, count: u64) -> io::Result<Vec<u8>> {
-    match usize::try_from(count.saturating_add(1)) {
-        Ok(room) => Ok(Vec::with_capacity(alloc, room)?),
-        Err(_) => Err(io::Error::from(ErrorKind::OutOfMemory)),
     }
 }
 

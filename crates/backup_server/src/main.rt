@@ -6,6 +6,7 @@ mod fault_count;
 mod folder_disk;
 mod open_files;
 mod pending;
+mod reading;
 mod serving;
 mod standard_streams;
 mod store_folder;

@@ -3,8 +3,8 @@
 /// How many handles of written files are kept at most.
 const MOST_HANDLES: usize = 1_024;
 
-/// How many files the program has open beside them at most: streams, connections, the folder, its lock, a file that is read.
-const OTHERS: usize = 32;
+/// How many files the program has open beside them at most: streams, connections, the folder, its lock, files that are read.
+const OTHERS: usize = 40;
 
 /// How many handles of written files may be kept, by the system's limit on open files.
 pub fn most_handles() -> usize {

@@ -29,9 +29,17 @@ pub enum Access {
     Append,
 }
 
-/// A handle to a regular file, which is made if it is to be written and isn't there. What else stands in its place is refused
-/// before it is opened, since that may wait, or be felt elsewhere.
-pub fn open_file<R: Files>(rt: &R, path: &str, access: Access) -> io::Result<R::File> {
+/// A file that was opened.
+#[derive(Drop)]
+pub struct Opened<F> {
+    pub handle: F,
+    /// How many bytes it had.
+    pub len: u64,
+}
+
+/// Opens a regular file, which is made if it is to be written and isn't there. What else stands in its place is refused before it is
+/// opened, since that may wait, or be felt elsewhere.
+pub fn open_file<R: Files>(rt: &R, path: &str, access: Access) -> io::Result<Opened<R::File>> {
     let mut options = OpenOptions::new();
     match access {
         Access::Read => options.read(true),
@@ -42,7 +50,10 @@ pub fn open_file<R: Files>(rt: &R, path: &str, access: Access) -> io::Result<R::
         Some(found) => open_found(rt, path, access, &options, &found),
         None => match access {
             Access::Read => Err(io::Error::from(ErrorKind::NotFound)),
-            _ => rt.open_file(options.mode(FILE_MODE).create_new(true), path),
+            _ => {
+                let handle = rt.open_file(options.mode(FILE_MODE).create_new(true), path)?;
+                Ok(Opened { handle, len: 0 })
+            }
         },
     }
 }
@@ -70,15 +81,15 @@ fn irregular(found: &Metadata) -> io::Error {
     io::Error::new(ErrorKind::InvalidInput, "not a regular file")
 }
 
-/// A handle to the file that was found there, emptied if it is to be replaced. One that came into its place meanwhile is refused
-/// as it is.
+/// Opens the file that was found there, and empties it if it is to be replaced. One that came into its place meanwhile is refused as
+/// it is.
 fn open_found<R: Files>(
     rt: &R,
     path: &str,
     access: Access,
     options: &OpenOptions,
     found: &Metadata,
-) -> io::Result<R::File> {
+) -> io::Result<Opened<R::File>> {
     let handle = rt.open_file(options, path)?;
     let opened = handle.metadata()?;
     if opened.dev() != found.dev() || opened.ino() != found.ino() {
@@ -87,7 +98,10 @@ fn open_found<R: Files>(
     if access == Access::Replace {
         handle.set_len(0)?;
     }
-    Ok(handle)
+    Ok(Opened {
+        handle,
+        len: opened.len(),
+    })
 }
 
 /// Makes the folder, and those above it, where they aren't there, so that a crash keeps them.
@@ -117,13 +131,14 @@ pub fn make_folder<R: Files>(rt: &R, alloc: Global, path: &str) -> io::Result<()
 /// The lock on a store's folder: no other process has it until the file is dropped. None if another has it.
 pub fn lock_folder(rt: &HostRuntime, folder: &str) -> io::Result<Option<File>> {
     let path = format!(in rt.alloc(); "{folder}/lock")?;
-    let file = match open_file(rt, path.as_str(), Access::Append) {
+    let opened = match open_file(rt, path.as_str(), Access::Append) {
         // another process made it meanwhile
         Err(error) if error.kind() == ErrorKind::AlreadyExists => {
             open_file(rt, path.as_str(), Access::Append)?
         }
         opened => opened?,
     };
+    let file = opened.handle;
     match file.try_lock() {
         Ok(()) => Ok(Some(file)),
         Err(TryLockError::WouldBlock) => Ok(None),

@@ -60,6 +60,6 @@ impl<D: Disk, N: Namer> Store<D, N> {
     pub fn close(self) -> D
         ensures { result ≡ self.parts.journal.disk }
     {
-        self.parts.journal.close()
+        self.into_parts().journal.close()
     }
 }
