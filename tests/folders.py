@@ -199,12 +199,19 @@ def large(room, entries):
         expect(f"backup {number} is the tree", found == wanted, difference(wanted, found))
 
 
+# Runs its words, and says how they ended and the most kilobytes that they held.
+PEAK = """import resource, subprocess, sys
+status = subprocess.call(sys.argv[1:], stdout=subprocess.DEVNULL)
+print(status, resource.getrusage(resource.RUSAGE_CHILDREN).ru_maxrss)
+"""
+
+
 def peak_of(*words):
-    """A run of the program: its status and the most kilobytes that it held."""
-    worker = subprocess.Popen([PROGRAM, *words], stdout=subprocess.DEVNULL)
-    _, status, used = os.wait4(worker.pid, 0)
-    worker.returncode = os.waitstatus_to_exitcode(status)
-    return worker.returncode, used.ru_maxrss
+    """A run of the program: its status and the most kilobytes that it held. A small process begins it, since the system's figure is no less than what
+    the process held that began it."""
+    said = subprocess.run([sys.executable, "-c", PEAK, PROGRAM, *words], stdout=subprocess.PIPE, check=True).stdout
+    status, peak = said.split()
+    return int(status), int(peak)
 
 
 def huge(room):
