@@ -162,18 +162,18 @@ pub fn worker_with<G: Drop>(
     })
 }
 
-/// Runs a case over this disk and these workers.
-pub fn run_at<G: Gate + Drop>(
+/// Runs a case over this disk, these workers and this folder.
+pub fn run_in<G: Gate + Drop>(
     rt: &impl Machine,
     case: &Case<'_>,
     disk: MemoryDisk,
     workers: Vec<ListWorker<G>>,
+    folder: &mut MemoryFolder,
 ) -> Result<Ran<G>, AllocError> {
     let alloc = rt.alloc();
     let words = words_of(alloc, case.line)?;
     let link = quiet_link(alloc, case.input)?;
     let mut clock = new_clock();
-    let mut folder = MemoryFolder::new(alloc, Vec::new(alloc));
     Ok(run(
         rt,
         alloc,
@@ -184,9 +184,21 @@ pub fn run_at<G: Gate + Drop>(
         &mut clock,
         link,
         workers,
-        &mut folder,
+        folder,
         &mut NoProgress,
     ))
+}
+
+/// Runs a case over this disk, these workers and a folder in which nothing lies.
+pub fn run_at<G: Gate + Drop>(
+    rt: &impl Machine,
+    case: &Case<'_>,
+    disk: MemoryDisk,
+    workers: Vec<ListWorker<G>>,
+) -> Result<Ran<G>, AllocError> {
+    let alloc = rt.alloc();
+    let mut folder = MemoryFolder::new(alloc, Vec::new(alloc));
+    run_in(rt, case, disk, workers, &mut folder)
 }
 
 /// Runs a case over this disk, without workers.
