@@ -2,9 +2,8 @@
 
 use crate::folders::{empty, expect, failing, path};
 use crate::hosts::{Host, dump, new_host, restore};
-use crate::real_folder_tests::{free_name, ours};
+use crate::real_folder_tests::{file, free_name, ours};
 use crate::strange::{Odd, new_strange};
-use attr_records::{Attr, File, Item};
 use backup_rules::Kind;
 use disk_trait::Bytes;
 use folder_restore::RestoreRefusal;
@@ -17,28 +16,34 @@ use std::test::Fail;
 /// Two whole pieces, and a part of a third one.
 const SIZE: usize = 150_000;
 
-/// Attributes by which nobody may write, with both set-id bits.
-fn attr() -> Attr {
-    ours(0o6400, 1_000_000_000, 123_456_789)
+/// A mode by which nobody may write, with both set-id bits.
+const MODE: u16 = 0o6400;
+
+/// A time to the nanosecond.
+const SECONDS: i64 = 1_000_000_000;
+
+const NANOS: u32 = 123_456_789;
+
+/// Puts this byte to the end of others, until there are so many.
+fn grow(bytes: &mut Vec<u8>, size: usize, byte: u8) -> Result<(), AllocError> {
+    bytes.resize(size, byte)?;
+    Ok(())
 }
 
 /// The bytes of three pieces, which differ.
 fn three_pieces(alloc: Global) -> Result<Bytes, AllocError> {
     let mut bytes = Vec::new(alloc);
-    bytes.resize(65_536, b'a')?;
-    bytes.resize(131_072, b'b')?;
-    bytes.resize(SIZE, b'c')?;
+    grow(&mut bytes, 65_536, b'a')?;
+    grow(&mut bytes, 131_072, b'b')?;
+    grow(&mut bytes, SIZE, b'c')?;
     Ok(Bytes::from_vec(bytes))
 }
 
 /// A folder of one file of three pieces.
 fn large_folder(alloc: Global) -> Result<MemoryFolder, Fail> {
     let mut folder = empty(alloc);
-    let item = Item::File(File {
-        attr: attr(),
-        group: 0,
-        bytes: three_pieces(alloc)?,
-    });
+    let bytes = three_pieces(alloc)?;
+    let item = file(alloc, ours(MODE, SECONDS, NANOS), bytes.as_slice())?;
     folder.make(alloc, &path(alloc, "large")?, &item)?;
     Ok(folder)
 }
@@ -52,13 +57,18 @@ fn dumped_large(alloc: Global) -> Result<Host, Fail> {
     Ok(host)
 }
 
+/// Restores it into a folder.
+fn restore_large<F: Folder>(alloc: Global, folder: &mut F) -> Result<(), Fail> {
+    let mut host = dumped_large(alloc)?;
+    let entries = restore(alloc, &mut host, folder, 0)?;
+    expect(entries == 1, "other entries")
+}
+
 #[test]
 fn file_of_three_pieces_comes_back(rt: HostRuntime) -> Result<(), Fail> {
     let alloc = rt.alloc();
-    let mut host = dumped_large(alloc)?;
     let mut back = new_strange(empty(alloc), Odd::Nothing);
-    let entries = restore(alloc, &mut host, &mut back, 0)?;
-    expect(entries == 1, "other entries")?;
+    restore_large(alloc, &mut back)?;
     expect(back.pieces == 3, "other pieces")?;
     let wanted = large_folder(alloc)?;
     expect(back.inside.tree() == wanted.tree(), "another folder")
@@ -68,7 +78,7 @@ fn file_of_three_pieces_comes_back(rt: HostRuntime) -> Result<(), Fail> {
 fn expect_large(alloc: Global, folder: &mut RealFolder) -> Result<(), Fail> {
     let found = folder.list(alloc, None)?;
     expect(found.len() == 1, "other entries")?;
-    let wanted = attr();
+    let wanted = ours(MODE, SECONDS, NANOS);
     for one in found.as_slice() {
         let same = matches!(
             &one.node,
@@ -87,9 +97,7 @@ fn file_of_three_pieces_comes_back_to_a_real_folder(rt: HostRuntime) -> Result<(
     let alloc = rt.alloc();
     let name = free_name(&rt, "large")?;
     let mut folder = RealFolder::open_or_make(rt, name.as_str())?;
-    let mut host = dumped_large(alloc)?;
-    let entries = restore(alloc, &mut host, &mut folder, 0)?;
-    expect(entries == 1, "other entries")?;
+    restore_large(alloc, &mut folder)?;
     expect_large(alloc, &mut folder)?;
     expect(folder.faults() == 0, "a fault")?;
     fs::remove_dir_all(&rt, name.as_str())?;
@@ -104,8 +112,7 @@ fn expect_failed(alloc: Global, call: u64) -> Result<(), Fail> {
         restore(alloc, &mut host, &mut folder, 0),
         Err(RestoreRefusal::Folder)
     );
-    expect(failed, "another end")?;
-    expect(folder.faults() == 1, "other faults")
+    expect(failed && folder.faults() == 1, "another end")
 }
 
 /// The folder is looked at, the file is made, and three pieces are put to it.
@@ -117,17 +124,20 @@ fn restore_ends_at_each_piece_that_fails(rt: HostRuntime) -> Result<(), Fail> {
     Ok(())
 }
 
-fn empty_file(alloc: Global, group: u32) -> Item {
-    Item::File(File {
-        attr: attr(),
-        group,
-        bytes: Bytes::new(alloc),
-    })
+fn make(alloc: Global, folder: &mut RealFolder, name: &str) -> Result<(), Fail> {
+    let item = file(alloc, ours(0o400, 0, 0), b"")?;
+    Ok(folder.make(alloc, &path(alloc, name)?, &item)?)
 }
 
-/// How it fails to put a byte to a file.
-fn fault(alloc: Global, folder: &mut RealFolder, name: &str) -> Result<Option<FolderFault>, Fail> {
-    Ok(folder.append(alloc, &path(alloc, name)?, b"x").err())
+/// It fails unless a byte is put to a file, or the folder fails so.
+fn expect_append(
+    alloc: Global,
+    folder: &mut RealFolder,
+    name: &str,
+    fault: Option<FolderFault>,
+) -> Result<(), Fail> {
+    let found = folder.append(alloc, &path(alloc, name)?, b"x").err();
+    expect(found == fault, "another end")
 }
 
 #[test]
@@ -136,19 +146,12 @@ fn more_is_put_to_the_file_that_was_made_last_alone(rt: HostRuntime) -> Result<(
     let name = free_name(&rt, "last")?;
     let mut folder = RealFolder::open_or_make(rt, name.as_str())?;
     let failed = Some(FolderFault::Failed);
-    assert_eq!(rt; fault(alloc, &mut folder, "a")?, failed);
-    folder.make(alloc, &path(alloc, "a")?, &empty_file(alloc, 0))?;
-    assert_eq!(rt; fault(alloc, &mut folder, "a")?, None);
-    folder.make(alloc, &path(alloc, "b")?, &empty_file(alloc, 0))?;
-    assert_eq!(rt; fault(alloc, &mut folder, "a")?, failed);
-    folder.make(alloc, &path(alloc, "c")?, &empty_file(alloc, 7))?;
-    assert_eq!(rt; fault(alloc, &mut folder, "c")?, failed);
-    folder.make(alloc, &path(alloc, "d")?, &empty_file(alloc, 0))?;
-    folder.link(alloc, &path(alloc, "e")?, &path(alloc, "d")?)?;
-    assert_eq!(rt; fault(alloc, &mut folder, "d")?, failed);
-    assert_eq!(rt; folder.faults(), 4);
-    let bytes = folder.read(alloc, &path(alloc, "a")?)?.ok_or("gone")?;
-    assert_eq!(rt; bytes.as_slice(), b"x".as_slice());
+    expect_append(alloc, &mut folder, "a", failed)?;
+    make(alloc, &mut folder, "a")?;
+    expect_append(alloc, &mut folder, "a", None)?;
+    make(alloc, &mut folder, "b")?;
+    expect_append(alloc, &mut folder, "a", failed)?;
+    expect(folder.faults() == 2, "other faults")?;
     fs::remove_dir_all(&rt, name.as_str())?;
     Ok(())
 }

@@ -26,7 +26,7 @@ pub(crate) fn ours(mode: u16, seconds: i64, nanos: u32) -> Attr
     Attr::new(mode, libc::getuid(), libc::getgid(), seconds, nanos)
 }
 
-fn file(alloc: Global, attr: Attr, bytes: &[u8]) -> Result<Item, AllocError> {
+pub(crate) fn file(alloc: Global, attr: Attr, bytes: &[u8]) -> Result<Item, AllocError> {
     let bytes = Bytes::from_slice(alloc, bytes)?;
     Ok(Item::File(File {
         attr,
@@ -83,44 +83,51 @@ fn what_is_made_is_listed_and_read(rt: HostRuntime) -> Result<(), Fail> {
     Ok(())
 }
 
-#[test]
-fn no_path_leads_through_a_link_and_nothing_is_written_over(rt: HostRuntime) -> Result<(), Fail> {
+/// Makes a folder outside with a file, and links to both of them in the folder of this name. Gives the file's path.
+fn lead_outside(rt: &HostRuntime, name: &str, outside: &str) -> Result<String, Fail> {
     let alloc = rt.alloc();
-    let name = free_name(&rt, "links")?;
-    let mut folder = RealFolder::open_or_make(rt, name.as_str())?;
-    let outside = free_name(&rt, "outside")?;
-    fs::create_dir(&rt, outside.as_str())?;
+    fs::create_dir(rt, outside)?;
     let kept = format!(in alloc; "{outside}/kept")?;
-    fs::write(&rt, kept.as_str(), "kept")?;
-    symlink(&rt, outside.as_str(), format!(in alloc; "{name}/out")?)?;
-    symlink(&rt, kept.as_str(), format!(in alloc; "{name}/kept")?)?;
+    fs::write(rt, kept.as_str(), "kept")?;
+    symlink(rt, outside, format!(in alloc; "{name}/out")?)?;
+    symlink(rt, kept.as_str(), format!(in alloc; "{name}/kept")?)?;
+    Ok(kept)
+}
 
+/// Fails where a file or a directory is made at a path, or is given attributes there.
+fn expect_refused(alloc: Global, folder: &mut RealFolder, path: &[u8]) -> Result<(), Fail> {
+    let path = PathName::read(alloc, path)?;
     let item = file(alloc, ours(0o600, 0, 0), b"changed")?;
     let dir = Dir {
         attr: ours(0o700, 0, 0),
     };
-    let through = PathName::read(alloc, b"out/kept")?;
-    let taken = PathName::read(alloc, b"kept")?;
-    let out = PathName::read(alloc, b"out")?;
-    for path in [&through, &taken, &out] {
-        assert_eq!(rt;
-            folder.make(alloc, path, &item).err(),
-            Some(FolderFault::Failed)
-        );
-        assert_eq!(rt;
-            folder.make(alloc, path, &Item::Dir(dir)).err(),
-            Some(FolderFault::Failed)
-        );
-        assert_eq!(rt;
-            folder.finish(alloc, path, &dir).err(),
-            Some(FolderFault::Failed)
-        );
+    if folder.make(alloc, &path, &item).err() != Some(FolderFault::Failed) {
+        return Err(Fail::new("a file was made"));
     }
+    if folder.make(alloc, &path, &Item::Dir(dir)).err() != Some(FolderFault::Failed) {
+        return Err(Fail::new("a directory was made"));
+    }
+    if folder.finish(alloc, &path, &dir).err() != Some(FolderFault::Failed) {
+        return Err(Fail::new("it was given attributes"));
+    }
+    Ok(())
+}
+
+#[test]
+fn no_path_leads_through_a_link_and_nothing_is_written_over(rt: HostRuntime) -> Result<(), Fail> {
+    let alloc = rt.alloc();
+    let name = free_name(&rt, "links")?;
+    let outside = free_name(&rt, "outside")?;
+    let mut folder = RealFolder::open_or_make(rt, name.as_str())?;
+    let kept = lead_outside(&rt, name.as_str(), outside.as_str())?;
+    expect_refused(alloc, &mut folder, b"out/kept")?;
+    expect_refused(alloc, &mut folder, b"kept")?;
+    expect_refused(alloc, &mut folder, b"out")?;
+    let taken = PathName::read(alloc, b"kept")?;
+    let more = PathName::read(alloc, b"more")?;
     assert_eq!(rt; folder.read(alloc, &taken).err(), Some(FolderFault::Failed));
     assert_eq!(rt;
-        folder
-            .link(alloc, &PathName::read(alloc, b"more")?, &taken)
-            .err(),
+        folder.link(alloc, &more, &taken).err(),
         Some(FolderFault::Failed)
     );
     assert_eq!(rt; folder.faults(), 11);
