@@ -7,7 +7,7 @@ use backup_rules::{Kind, Rules};
 use folder_restore::{RestoreRefusal, restore_folder};
 use folder_trait::{Folder, NoProgress, Progress};
 use folder_walk::{DumpRefusal, dump_folder};
-use office_model::{Answer, Event, OfficeStats, Port, Refusal};
+use office_model::{Answer, Event, Port, Refusal};
 use pool_name::Md5Namer;
 use std::alloc::Global;
 use std::test::Fail;
@@ -45,23 +45,16 @@ fn host_name(alloc: Global, name: &str) -> Result<HostName, Fail> {
     Ok(HostName::read(alloc, name.as_bytes())?)
 }
 
-/// Adds a host to an office.
-fn add(alloc: Global, port: &mut Counting, name: &str) -> Result<(), Fail> {
-    let host = host_name(alloc, name)?;
-    let rules = Rules::defaults(alloc)?;
-    expect(
-        port.call(alloc, &Event::AddHost { host, rules }).is_ok(),
-        "no host",
-    )
-}
-
 /// The host of a name in an office of pc1, which has no backup.
 pub(crate) fn new_host(alloc: Global, name: &str) -> Result<Host, Fail> {
     let mut port = Counting {
         office: TreeOffice::new(alloc, Md5Namer),
         calls: 0,
     };
-    add(alloc, &mut port, "pc1")?;
+    let host = host_name(alloc, "pc1")?;
+    let rules = Rules::defaults(alloc)?;
+    let added = port.call(alloc, &Event::AddHost { host, rules });
+    expect(added.is_ok(), "no host")?;
     let name = host_name(alloc, name)?;
     Ok(Host { port, name })
 }
@@ -115,13 +108,6 @@ pub(crate) fn restore<F: Folder>(
     restore_telling(alloc, host, folder, number, &mut NoProgress)
 }
 
-fn stats(alloc: Global, port: &mut Counting) -> Result<OfficeStats, Fail> {
-    match port.call(alloc, &Event::Stats) {
-        Ok(Answer::Stats(stats)) => Ok(stats),
-        _ => Err(Fail::new("no numbers")),
-    }
-}
-
 /// The number of a backup, its kind, its entries, and how many hard links a restore makes of them.
 #[derive(Clone, Copy)]
 pub(crate) struct Backup(pub u32, pub Kind, pub &'static [Row], pub u64);
@@ -151,7 +137,10 @@ pub(crate) fn dumped(alloc: Global) -> Result<Host, Fail> {
 
 /// There are so many backups and no open dump, and pc1 is dumped once more.
 pub(crate) fn expect_backups(alloc: Global, host: &mut Host, count: u32) -> Result<(), Fail> {
-    let stats = stats(alloc, &mut host.port)?;
+    let stats = match host.port.call(alloc, &Event::Stats) {
+        Ok(Answer::Stats(stats)) => stats,
+        _ => return Err(Fail::new("no numbers")),
+    };
     expect(stats.backups == count as u64, "other backups")?;
     expect(stats.dumps == 0, "an open dump")?;
     host.name = host_name(alloc, "pc1")?;
