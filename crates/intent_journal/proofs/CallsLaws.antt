@@ -16,7 +16,7 @@ use Rattle.intent_journal.specs.Layout.{is_open}
 use Rattle.intent_journal.specs.Overlay.{ComesTo, IsSettled}
 use Rattle.intent_journal.specs.Calls.{Touches}
 use Rattle.intent_journal.specs.ChangesLaws.{either, with_bytes_other, metadata-not-data}
-use Rattle.intent_journal.specs.OverlayLaws.{also_other, closed_image, start_image}
+use Rattle.intent_journal.specs.OverlayLaws.{also_other, closed_image, start_image, metadata-not-alone}
 
 -- what is no content or stage is another file than one
 pub other_than_data : (asked file : FileId) → is_data asked ≡ false → is_data file ≡ true → is_same_file asked file ≡ false
@@ -46,13 +46,13 @@ on_err (Err x) P p = p
 pub settled_touch : (told told' : Option Files) (uncertain uncertain' : FileSet) (file : FileId) → IsSettled told uncertain
     → is_data file ≡ true → SameButOne file told told' → IsWithin uncertain' (also uncertain file) → IsSettled told' uncertain'
 settled_touch None told' uncertain uncertain' file settled is one within = record {
-  certain = λ asked out. within.each asked
-      (also_other uncertain file asked (other_than_data asked file out is) (settled.certain asked out));
+  certain = λ asked out own. within.each asked
+      (also_other uncertain file asked (other_than_data asked file out is) (settled.certain asked out own));
   closed = λ all told. let none : Some all ≡ None = sym told ∙ one in absurd (cc);
 }
 settled_touch (Some files) told' uncertain uncertain' file settled is one within = record {
-  certain = λ asked out. within.each asked
-      (also_other uncertain file asked (other_than_data asked file out is) (settled.certain asked out));
+  certain = λ asked out own. within.each asked
+      (also_other uncertain file asked (other_than_data asked file out is) (settled.certain asked out own));
   closed = λ all told.
       let same : all ≡ one.0 = cc (told, one.1) in
       ap (λ (x : Files). is_open (x Gate)) same ∙ ap is_open (one.2 Gate (other_than_data Gate file refl is)) ∙ settled.closed files refl;
@@ -75,9 +75,9 @@ touch_image told told' uncertain uncertain' file all image here settled is one w
           may.image_of.each asked (within.each asked out) ∙ ap (λ (x : Files). x asked) same ∙ there.2 asked other;
     } in
     closed_image all (also uncertain file) (also uncertain file) image (rest.closed all refl)
-    (also_other uncertain file Gate (other_than_data Gate file refl is) (rest.certain Gate refl))
+    (also_other uncertain file Gate (other_than_data Gate file refl is) (rest.certain Gate refl refl))
     (λ asked kind. also_other uncertain file asked (other_than_data asked file (metadata-not-data asked kind) is)
-    (rest.certain asked (metadata-not-data asked kind)))
+    (rest.certain asked (metadata-not-data asked kind) (metadata-not-alone asked kind)))
     (λ asked kind out. out)
     of
 

@@ -1,16 +1,16 @@
 -- Laws on what the images of each step of a commit and of an opening come to.
-use Rattle.std.proofs.Common.{◌≡◌, ℕ, false, List, [], ◌∷◌, Option, Some, None, ◌⊎◌, inl, inr, ⊎_elim, refl, sym, ap, ◌∙◌, arith}
+use Rattle.std.proofs.Common.{◌≡◌, ℕ, true, false, List, [], ◌∷◌, Option, Some, None, ◌⊎◌, inl, inr, ⊎_elim, refl, sym, ap, ◌∙◌, subst, arith}
 use Rattle.std.proofs.lemmas.Bool.{false≢true}
 use Rattle.disk_trait.specs.declared.ids.FileId.{FileId}
 use Rattle.disk_trait.specs.declared.ids.FileId.TheVariants.{Intent, Gate}
 use Rattle.disk_trait.specs.Names.{is_same_file, is_same_file-itself}
-use Rattle.disk_trait.specs.Files.{Files, with_bytes, changed}
+use Rattle.disk_trait.specs.Files.{Files, with_bytes, changed, SameButOne}
 use Rattle.disk_trait.specs.Images.{FileSet, nothing, also, IsWithin, IsImage, MayLeave, Leaves, LeavesOnly, leaves_then, leaves_wider}
 use Rattle.intent_journal.specs.declared.changes.Change.{Change}
 use Rattle.intent_journal.specs.Changes.{applied, names, IsIntent}
 use Rattle.intent_journal.specs.Layout.{intent_file, is_open}
-use Rattle.intent_journal.specs.Overlay.{ComesTo, IsRecoverable, IsAlike, IsOpenOver, IsSettled, IsAtRest, IsBeforeOrAfter, IsFound, IsFoundOver, Looks}
-use Rattle.intent_journal.specs.OverlayLaws.{also_other, closed_image}
+use Rattle.intent_journal.specs.Overlay.{ComesTo, IsRecoverable, IsAlike, IsOpenOver, IsSettled, IsAtRest, IsEmptied, IsBeforeOrAfter, IsFound, IsFoundOver, Looks, LooksDurably}
+use Rattle.intent_journal.specs.OverlayLaws.{also_other, closed_image, metadata-not-alone, data-not-alone, not_alone-not-Intent, within_alone}
 use Rattle.intent_journal.specs.ChangesLaws.{either, with_bytes_there, with_bytes_other, metadata-not-Intent, metadata-not-Gate, data-not-Intent, data-not-Gate, metadata-not-data, data-not-metadata, Gate-not-Intent, Intent-not-Gate, not_named, applied_other, applied_alike}
 
 -- files that are alike in metadata and contents are come to alike
@@ -144,9 +144,9 @@ pub intent_image : (all : Files) (uncertain : FileSet) (image : Files) → IsSet
     → IsImage all (also uncertain Intent) image → ComesTo all uncertain image
 intent_image all uncertain image settled is =
     closed_image all (also uncertain Intent) uncertain image (settled.closed all refl)
-    (also_other uncertain Intent Gate Gate-not-Intent (settled.certain Gate refl))
+    (also_other uncertain Intent Gate Gate-not-Intent (settled.certain Gate refl refl))
     (λ asked kind. also_other uncertain Intent asked (metadata-not-Intent asked kind)
-    (settled.certain asked (metadata-not-data asked kind)))
+    (settled.certain asked (metadata-not-data asked kind) (metadata-not-alone asked kind)))
     (λ asked kind out. also_other uncertain Intent asked (data-not-Intent asked kind) out)
     is
 
@@ -181,7 +181,7 @@ at_rest told uncertain files all gate is shut alike within = record {
   now = with_bytes files Gate (Some gate);
   is = is;
   alike = alike_then _ _ _ (with_gate_alike files (Some gate)) alike;
-  certain = within;
+  certain = within_alone uncertain within;
   closed = ap is_open (with_bytes_there files Gate (Some gate) Gate (is_same_file-itself Gate)) ∙ shut;
 }
 
@@ -199,11 +199,11 @@ image_of_one files uncertain file image within is = record {
 pub settled_gate : (told told' : Option Files) (uncertain : FileSet) (gate : List ℕ) → told' ≡ changed told Gate (Some gate)
     → is_open (Some gate) ≡ false → IsWithin uncertain nothing → IsSettled told' uncertain
 settled_gate None told' uncertain gate is shut within = record {
-  certain = λ asked kind. within.each asked refl;
+  certain = λ asked kind own. within.each asked refl;
   closed = λ all told. let none : Some all ≡ None = sym told ∙ is in absurd (cc);
 }
 settled_gate (Some files) told' uncertain gate is shut within = record {
-  certain = λ asked kind. within.each asked refl;
+  certain = λ asked kind own. within.each asked refl;
   closed = λ all told.
       let one : all ≡ with_bytes files Gate (Some gate) = cc (told, is) in
       ap (λ (x : Files). is_open (x Gate)) one ∙ ap is_open (with_bytes_there files Gate (Some gate) Gate (is_same_file-itself Gate))
@@ -282,8 +282,56 @@ pub rest_image : (told : Option Files) (uncertain : FileSet) (files image : File
     → MayLeave told uncertain image
     → ComesTo files nothing image
 rest_image told uncertain files image rest may =
+    let one : may.all ≡ rest.now = cc (may.is, rest.is) in
     same_comes rest.now files image rest.alike
-    (certain_image told uncertain rest.now rest.now image rest.is rest.certain (comes_itself rest.now rest.closed) may)
+    (closed_image rest.now uncertain nothing image rest.closed (rest.certain.each Gate refl)
+    (λ asked kind. rest.certain.each asked (metadata-not-alone asked kind))
+    (λ asked kind _. rest.certain.each asked (data-not-alone asked kind))
+    (record { each = λ asked out. may.image_of.each asked out ∙ ap (λ (x : Files). x asked) one }))
+
+-- ---- Intent, written while Gate is closed
+
+-- a disk at rest stays at rest
+pub rest_still : (told told' : Option Files) (uncertain uncertain' : FileSet) (files : Files) → IsAtRest told uncertain files
+    → SameButOne Intent told told' → IsWithin uncertain' (also uncertain Intent) → IsAtRest told' uncertain' files
+rest_still told told' uncertain uncertain' files rest one within =
+    let there = subst (λ (t : Option Files). SameButOne Intent t told') rest.is one in
+    record {
+      now = there.0;
+      is = there.1;
+      alike = record {
+        metadata = λ asked kind. there.2 asked (metadata-not-Intent asked kind) ∙ rest.alike.metadata asked kind;
+        contents = λ asked kind. there.2 asked (data-not-Intent asked kind) ∙ rest.alike.contents asked kind;
+      };
+      certain = record {
+        each = λ asked out. within.each asked
+            (also_other uncertain Intent asked (not_alone-not-Intent asked out) (rest.certain.each asked out));
+      };
+      closed = ap is_open (there.2 Gate Gate-not-Intent) ∙ rest.closed;
+    }
+
+-- and a settled one settled
+pub settled_still : (told told' : Option Files) (uncertain uncertain' : FileSet) → IsSettled told uncertain
+    → SameButOne Intent told told' → IsWithin uncertain' (also uncertain Intent) → IsSettled told' uncertain'
+settled_still None told' uncertain uncertain' settled one within = record {
+  certain = λ asked kind own. within.each asked
+      (also_other uncertain Intent asked (not_alone-not-Intent asked own) (settled.certain asked kind own));
+  closed = λ all told. let none : Some all ≡ None = sym told ∙ one in absurd (cc);
+}
+settled_still (Some files) told' uncertain uncertain' settled one within = record {
+  certain = λ asked kind own. within.each asked
+      (also_other uncertain Intent asked (not_alone-not-Intent asked own) (settled.certain asked kind own));
+  closed = λ all told.
+      let same : all ≡ one.0 = cc (told, one.1) in
+      ap (λ (x : Files). is_open (x Gate)) same ∙ ap is_open (one.2 Gate Gate-not-Intent) ∙ settled.closed files refl;
+}
+
+-- it was emptied
+pub emptied : (told told' : Option Files) → told' ≡ changed told Intent (Some []) → IsEmptied told'
+emptied None told' is = λ all told. let none : Some all ≡ None = sym told ∙ is in absurd (cc)
+emptied (Some files) told' is = λ all told.
+    let one : all ≡ with_bytes files Intent (Some []) = cc (told, is) in
+    ap (λ (x : Files). x Intent) one ∙ with_bytes_there files Intent (Some []) Intent (is_same_file-itself Intent)
 
 -- what an opening finds comes to some files
 pub found_recoverable : (all : Files) (found : Option (List Change)) → IsFound all found → IsRecoverable all
@@ -333,3 +381,23 @@ looks_then {told = told} {uncertain = uncertain} {a = a} {b = b} first second = 
       is = sym first.same ∙ may.is;
       image_of = record { each = λ asked out. may.image_of.each asked (first.certain.each asked out) };
     }
+
+-- what was found and looked at stays as it is, and durable
+pub looks_durably : {D : Type 0} {told : D → Option Files} {uncertain : D → FileSet} {moment : D → ℕ}
+    {left_since : D → ℕ → Files → Type 0} {a b c new : D}
+    → Looks told uncertain moment left_since a b → IsWithin (uncertain b) nothing → Looks told uncertain moment left_since b c → new ≡ c
+    → LooksDurably told uncertain moment left_since a new
+looks_durably {told = told} {uncertain = uncertain} {moment = moment} {left_since = left_since} {a = a} first durable second same =
+    subst (λ disk. LooksDurably told uncertain moment left_since a disk) (sym same) (record {
+      looks = looks_then first second;
+      durable = record { each = λ asked out. second.certain.each asked (durable.each asked out) };
+    })
+
+-- a closed Gate makes no changes count, and an open one some
+pub found_none : (all : Files) (found : Option (List Change)) → is_open (all Gate) ≡ false → IsFound all found → found ≡ None
+found_none all None shut found = refl
+found_none all (Some changes) shut found = absurd (false≢true (sym shut ∙ found.over.gate))
+
+pub found_some : (all : Files) (found : Option (List Change)) → is_open (all Gate) ≡ true → IsFound all found → found ≡ None → ⊥
+found_some all None gate found e = false≢true (sym found ∙ gate)
+found_some all (Some changes) gate found e = absurd (cc)

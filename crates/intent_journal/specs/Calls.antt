@@ -6,7 +6,7 @@
 use Rattle.std.specs.Prelude.{◌≡◌, ◌⊎◌, ◌↔◌, ℕ, List, Option, Some, true, false, Result, Err, OnOk, OnErr}
 use Rattle.fault_counts.specs.Counts.{Counted}
 use Rattle.disk_trait.specs.declared.ids.FileId.{FileId}
-use Rattle.disk_trait.specs.declared.ids.FileId.TheVariants.{Intent}
+use Rattle.disk_trait.specs.declared.ids.FileId.TheVariants.{Intent, Gate}
 use Rattle.disk_trait.specs.declared.disk.Disk.{Ghosts}
 use Rattle.disk_trait.specs.Files.{Files, SameButOne}
 use Rattle.disk_trait.specs.Images.{FileSet, nothing, also, IsWithin, MayLeave, Leaves, LeavesOnly}
@@ -17,7 +17,8 @@ use Rattle.intent_journal.specs.declared.fault.OpenJournalFault.{OpenJournalFaul
 use Rattle.intent_journal.specs.declared.fault.OpenJournalFault.TheVariants.{Foreign, Disk as DiskFault}
 use Rattle.intent_journal.specs.declared.journal.Journal.{Journal}
 use Rattle.intent_journal.specs.Changes.{applied}
-use Rattle.intent_journal.specs.Overlay.{ComesTo, IsRecoverable, IsAtRest, IsForeign, IsBeforeOrAfter, Looks, Recovers, SyncsStages}
+use Rattle.intent_journal.specs.Layout.{is_open}
+use Rattle.intent_journal.specs.Overlay.{ComesTo, IsRecoverable, IsAtRest, IsEmptied, IsForeign, IsBeforeOrAfter, Looks, LooksDurably, Recovers, SyncsStages}
 
 -- The disk was opened: of the files that it came to, it has now the metadata, contents and stages, all of them durable;
 -- and a crash since left what it might have left at the start, up to the first sync, and from then on what comes to them.
@@ -29,6 +30,10 @@ pub record Opens {D : Type 0} {d : Ghosts D} (disk : D) (journal : Journal D d) 
       → IsAtRest (d.files journal.disk) (d.uncertain journal.disk) files
   pub recovers : (all files : Files) → d.files disk ≡ Some all → ComesTo files nothing all
       → Recovers d.files d.uncertain d.moment d.left_since disk journal.disk files
+  -- where Gate was closed nothing was written; where it was open, Intent is empty
+  pub shut : (all : Files) → d.files disk ≡ Some all → is_open (all Gate) ≡ false
+      → LooksDurably d.files d.uncertain d.moment d.left_since disk journal.disk
+  pub emptied : (all : Files) → d.files disk ≡ Some all → is_open (all Gate) ≡ true → IsEmptied (d.files journal.disk)
   pub counted : Counted (d.fault_count disk) (d.fault_count journal.disk) ⊥
 
 -- The disk wasn't opened.
@@ -42,7 +47,7 @@ pub record Refuses {D : Type 0} (told : D → Option Files) (uncertain : D → F
   pub counted : Counted (count old) (count new) (fault ≡ DiskFault)
 
 -- A commit: whatever it answers, each crash since its start left the files before it or after it; at Ok those after it
--- are there, durable.
+-- are there, durable, and the changes stand in Intent no more.
 pub record Commits {D : Type 0} {d : Ghosts D} (old : Journal D d) (changes : List Change)
     (result : Result (Unit {0}) JournalFault) (new : Journal D d) : Type 0 where
   pub halted : (result ≡ Err Halted) ↔ (old.halted ≡ true)
@@ -54,6 +59,7 @@ pub record Commits {D : Type 0} {d : Ghosts D} (old : Journal D d) (changes : Li
       ⊎ SyncsStages d.moment d.left_since old.disk new.disk all (d.uncertain old.disk) changes
   pub done : OnOk result ((new.halted ≡ false) × ((all : Files) → d.files old.disk ≡ Some all
       → IsAtRest (d.files new.disk) (d.uncertain new.disk) (applied changes all)))
+  pub emptied : OnOk result (IsEmptied (d.files new.disk))
   -- whatever a crash leaves now comes to the files after it
   pub kept : OnOk result ((all image : Files) → d.files old.disk ≡ Some all → MayLeave (d.files new.disk) (d.uncertain new.disk) image
       → ComesTo (applied changes all) nothing image)

@@ -1,10 +1,12 @@
 -- What an image comes to, with the changes of Intent laid over it where Gate is open.
 --     ComesTo         the files that an image comes to
---     IsSettled       between commits: Gate is closed, and only contents and stages are uncertain
---     IsAtRest        after a commit or an opening: nothing is uncertain, and Gate is closed
+--     IsSettled       between commits: Gate is closed, and only contents, stages and Intent are uncertain
+--     IsAtRest        after a commit or an opening: Gate is closed, and only Intent is uncertain
+--     IsEmptied       Intent holds no bytes, so no changes stand on the disk a second time
 --     Recovers        what an opening does to the images
 --     SyncsStages     what a commit does to contents and stages
-use Rattle.std.specs.Prelude.{◌≡◌, ◌⊎◌, ℕ, true, false, List, Option, Some, None}
+--     Looks           a call that writes nothing
+use Rattle.std.specs.Prelude.{◌≡◌, ◌⊎◌, ℕ, true, false, List, [], Option, Some, None}
 use Rattle.disk_trait.specs.declared.ids.FileId.{FileId}
 use Rattle.disk_trait.specs.declared.ids.FileId.TheVariants.{Intent, Gate}
 use Rattle.disk_trait.specs.Names.{is_metadata, is_data}
@@ -38,9 +40,14 @@ pub record IsAlike (files others : Files) : Type 0 where
   pub metadata : (asked : FileId) → is_metadata asked ≡ true → files asked ≡ others asked
   pub contents : (asked : FileId) → is_data asked ≡ true → files asked ≡ others asked
 
--- Gate is closed, and only contents and stages are uncertain
+-- Intent alone, which nothing reads while Gate is closed
+abbrev pub intent_alone : FileSet
+intent_alone Intent = true
+intent_alone file = false
+
+-- Gate is closed, and only contents, stages and Intent are uncertain
 pub record IsSettled (told : Option Files) (uncertain : FileSet) : Type 0 where
-  pub certain : (asked : FileId) → is_data asked ≡ false → uncertain asked ≡ false
+  pub certain : (asked : FileId) → is_data asked ≡ false → intent_alone asked ≡ false → uncertain asked ≡ false
   pub closed : (all : Files) → told ≡ Some all → is_open (all Gate) ≡ false
 
 -- Gate is open over these changes
@@ -49,13 +56,17 @@ pub record IsOpenOver (files : Files) (changes : List Change) : Type 0 where
   pub intent : files Intent ≡ Some (intent_file changes)
   pub are : IsIntent changes
 
--- The disk tells these metadata files, contents and stages, all of them durable, and Gate is closed.
+-- The disk tells these metadata files, contents and stages, all of them durable, and Gate is closed, durably. Of Intent nothing is said.
 pub record IsAtRest (told : Option Files) (uncertain : FileSet) (files : Files) : Type 0 where
   pub now : Files
   pub is : told ≡ Some now
   pub alike : IsAlike now files
-  pub certain : IsWithin uncertain nothing
+  pub certain : IsWithin uncertain intent_alone
   pub closed : is_open (now Gate) ≡ false
+
+-- Intent is there without bytes, where the files are told
+abbrev pub IsEmptied : Option Files → Type 0
+IsEmptied told = (all : Files) → told ≡ Some all → all Intent ≡ Some []
 
 -- the files before a commit, with what is uncertain of contents and stages, or those after it
 abbrev pub IsBeforeOrAfter : Files → FileSet → List Change → Files → Type 0
@@ -83,6 +94,12 @@ pub record Looks {D : Type 0} (told : D → Option Files) (uncertain : D → Fil
   pub same : told new ≡ told old
   pub certain : IsWithin (uncertain new) (uncertain old)
   pub any_moment : Leaves moment left_since old new (MayLeave (told old) (uncertain old))
+
+-- the same, and all files are durable
+pub record LooksDurably {D : Type 0} (told : D → Option Files) (uncertain : D → FileSet) (moment : D → ℕ)
+    (left_since : D → ℕ → Files → Type 0) (old new : D) : Type 0 where
+  pub looks : Looks told uncertain moment left_since old new
+  pub durable : IsWithin (uncertain new) nothing
 
 -- Intent, which an open Gate makes count, holds no changes
 pub record IsForeign (told : Option Files) (found : Option (List ℕ)) : Type 0 where

@@ -3,13 +3,34 @@ use Rattle.std.specs.Prelude.{◌≡◌, true, false, Option, Some, if◌then◌
 use Rattle.std.proofs.Common.{refl, sym, ap, ◌∙◌, subst}
 use Rattle.std.proofs.lemmas.Bool.{false≢true}
 use Rattle.disk_trait.specs.declared.ids.FileId.{FileId}
-use Rattle.disk_trait.specs.declared.ids.FileId.TheVariants.{Gate}
+use Rattle.disk_trait.specs.declared.ids.FileId.TheVariants.{Intent, Gate}
 use Rattle.disk_trait.specs.Names.{is_same_file, is_metadata, is_data}
 use Rattle.disk_trait.specs.Files.{Files}
-use Rattle.disk_trait.specs.Images.{FileSet, nothing, also, IsImage, MayLeave}
+use Rattle.disk_trait.specs.Images.{FileSet, nothing, also, IsWithin, IsImage, MayLeave}
 use Rattle.intent_journal.specs.Layout.{is_open}
-use Rattle.intent_journal.specs.Overlay.{ComesTo, IsSettled}
+use Rattle.intent_journal.specs.Overlay.{ComesTo, IsSettled, intent_alone}
 use Rattle.intent_journal.specs.ChangesLaws.{metadata-not-data}
+
+-- ---- what isn't Intent
+
+pub metadata-not-alone : (asked : FileId) → is_metadata asked ≡ true → intent_alone asked ≡ false
+metadata-not-alone Intent is = absurd (false≢true is)
+metadata-not-alone file is = refl
+
+pub data-not-alone : (asked : FileId) → is_data asked ≡ true → intent_alone asked ≡ false
+data-not-alone Intent is = absurd (false≢true is)
+data-not-alone file is = refl
+
+pub not_alone-not-Intent : (asked : FileId) → intent_alone asked ≡ false → is_same_file asked Intent ≡ false
+unfolding is_same_file
+not_alone-not-Intent Intent out = absurd (false≢true (sym out))
+not_alone-not-Intent file out = refl
+
+-- nothing is uncertain, so nothing but Intent is
+pub within_alone : (uncertain : FileSet) → IsWithin uncertain nothing → IsWithin uncertain intent_alone
+within_alone uncertain within = record { each = λ asked out. within.each asked refl }
+
+-- ---- images
 
 -- one file more is uncertain, which this isn't
 pub also_other : (set : FileSet) (file asked : FileId) → is_same_file asked file ≡ false → set asked ≡ false → also set file asked ≡ false
@@ -30,8 +51,8 @@ closed_image files uncertain outer image shut gate metadata contents is = record
 pub settled_image : (all : Files) (uncertain : FileSet) (image : Files) → IsSettled (Some all) uncertain → IsImage all uncertain image
     → ComesTo all uncertain image
 settled_image all uncertain image settled is =
-    closed_image all uncertain uncertain image (settled.closed all refl) (settled.certain Gate refl)
-    (λ asked kind. settled.certain asked (metadata-not-data asked kind)) (λ asked kind out. out) is
+    closed_image all uncertain uncertain image (settled.closed all refl) (settled.certain Gate refl refl)
+    (λ asked kind. settled.certain asked (metadata-not-data asked kind) (metadata-not-alone asked kind)) (λ asked kind out. out) is
 
 -- the same told files
 pub settled_of : (told : Option Files) (all : Files) (uncertain : FileSet) → told ≡ Some all → IsSettled told uncertain

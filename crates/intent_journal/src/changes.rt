@@ -1,6 +1,6 @@
 //! The changes of a commit.
 
-ghost use Rattle.std.specs.Prelude.{◌≡◌, ◌++◌, [], ◌∷◌, OnOk, OnErr};
+ghost use Rattle.std.specs.Prelude.{◌≡◌, ◌++◌, [], ◌∷◌, ℕ, take, IfOk, OnOk, OnErr};
 ghost use Rattle.intent_journal.specs.Changes.{names};
 
 use disk_trait::{Bytes, FileId};
@@ -8,10 +8,36 @@ use std::alloc::{AllocError, Global};
 use std::marker::Model;
 
 /// A file, and the bytes that it gets; `None` takes it away.
-#[derive(Debug, Drop)]
+#[derive(Debug)]
 pub struct Change {
     pub file: FileId,
     pub bytes: Option<Bytes>,
+}
+
+/// Written out: what is in it is then dropped here, for the prover too, and not in each crate above.
+impl Drop for Change {
+    fn drop(self) {
+        let Change { file: _, bytes: _ } = self;
+    }
+}
+
+impl Change {
+    /// A copy of the change.
+    fn copy(&self, alloc: Global) -> Result<Change, AllocError>
+        ensures { IfOk result (λ copy. copy ≡ self.now) }
+    {
+        let file = self.file;
+        match &self.bytes {
+            None => Ok(Change { file, bytes: None }),
+            Some(bytes) => {
+                let bytes = bytes.copy(alloc)?;
+                Ok(Change {
+                    file,
+                    bytes: Some(bytes),
+                })
+            }
+        }
+    }
 }
 
 /// Whether one of the changes names the file.
@@ -78,6 +104,18 @@ impl Changes {
         ensures err { OnErr result (self.new ≡ self.old) }
     {
         self.inner.push(change)?;
+        Ok(())
+    }
+
+    /// Puts copies of changes at the end. Without memory some of them may stand there, the first ones, in order.
+    pub fn push_copies(&mut self, alloc: Global, others: &[Change]) -> Result<(), AllocError>
+        ensures ok { OnOk result (self.new ≡ self.old ++ others.now) }
+        ensures err { OnErr result ((count : ℕ) × (self.new ≡ self.old ++ take count others.now)) }
+    {
+        for change in others {
+            let copy = change.copy(alloc)?;
+            self.push(copy)?;
+        }
         Ok(())
     }
 }

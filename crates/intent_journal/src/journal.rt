@@ -22,7 +22,8 @@ use std::alloc::Global;
 /// it, one by one.
 ///
 /// It is halted after a commit or a reopening that the disk failed in, until it is reopened. In a journal that isn't
-/// halted Gate stands closed, and nothing but contents and stages is uncertain, so the files are as they were committed.
+/// halted Gate stands closed, and nothing but contents, stages and Intent, which then isn't read, is uncertain: so the
+/// files are as they were committed.
 #[derive(Drop)]
 pub struct Journal<D: Disk> {
     disk: D,
@@ -33,8 +34,8 @@ pub struct Journal<D: Disk> {
 impl<D: Disk> Journal<D> {
     ghost use Rattle.intent_journal.specs.Calls.{Opens, Refuses, Commits, Reads, Touches};
 
-    /// Opens the journal of a disk: syncs it, and where Gate is open makes the changes of Intent and closes Gate behind
-    /// them. A disk that holds nothing is opened too.
+    /// Opens the journal of a disk: syncs it, and where Gate is open makes the changes of Intent, closes Gate behind them and
+    /// empties Intent; where Gate is closed nothing is written. A disk that holds nothing is opened too.
     ///
     /// The disk comes back with each refusal. `Foreign` comes exactly where Gate is open and Intent is outside its
     /// layout, `Disk` only where a call of the disk failed; after `Foreign` and `Memory` nothing was written. After
@@ -53,7 +54,8 @@ impl<D: Disk> Journal<D> {
         }
     }
 
-    /// Makes the changes, all at once: with four syncs each byte is written twice, in Intent and in its file.
+    /// Makes the changes, all at once: with four syncs each byte is written twice, in Intent and in its file; then Intent is
+    /// emptied.
     ///
     /// After Ok the changed files are durable, and with them each content and stage. After `Halted` and `Memory` nothing
     /// was done. After `Disk` the journal is halted, and a reopening finds the files before the changes or those after.

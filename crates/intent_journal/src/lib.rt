@@ -5,9 +5,10 @@
 //! stay as they are unless they were touched since the last sync.
 //!
 //! A commit writes its changes to the file Intent, syncs, opens Gate, syncs, makes the changes, syncs, and closes Gate,
-//! which the last sync makes durable. An opening syncs, and where Gate is open makes the changes of Intent once more. An
-//! image **comes to** files: they are its own where Gate is closed, and where it is open its own with the changes of
-//! Intent laid over them (`ComesTo` of `specs/Overlay`).
+//! which the last sync makes durable; then it empties Intent, with no sync, since nothing reads it while Gate is closed. An
+//! opening syncs, and where Gate is open makes the changes of Intent once more, closes Gate and empties Intent; where Gate
+//! is closed it writes nothing. An image **comes to** files: they are its own where Gate is closed, and where it is open
+//! its own with the changes of Intent laid over them (`ComesTo` of `specs/Overlay`).
 //!
 //! | Type | What it is |
 //! |---|---|

@@ -1,6 +1,6 @@
 //! What an opening does to a disk.
 
-ghost use Rattle.std.specs.Prelude.{◌≡◌, ◌⊎◌, ℕ, List, Option, true, false, Some, IfOk, OnOk, OnErr, IfErr, IsErr, IsErrOf};
+ghost use Rattle.std.specs.Prelude.{◌≡◌, ◌⊎◌, ℕ, List, Option, true, false, Some, None, IfOk, OnOk, OnErr, IfErr, IsErr, IsErrOf};
 ghost use Rattle.std.specs.Option.{ForSome};
 ghost use Rattle.fault_counts.specs.Counts.{Counted};
 ghost use Rattle.disk_trait.specs.declared.ids.FileId.{FileId};
@@ -9,7 +9,7 @@ ghost use Rattle.disk_trait.specs.Images.{nothing, IsWithin, MayLeave, Leaves};
 ghost use Rattle.intent_journal.specs.declared.changes.Change.{Change};
 ghost use Rattle.intent_journal.specs.Changes.{IsIntent};
 ghost use Rattle.intent_journal.specs.Layout.{intent_file, is_open};
-ghost use Rattle.intent_journal.specs.Overlay.{ComesTo, IsRecoverable, IsSettled, IsAtRest, IsForeign, IsFound, Looks, Recovers};
+ghost use Rattle.intent_journal.specs.Overlay.{ComesTo, IsRecoverable, IsSettled, IsAtRest, IsEmptied, IsForeign, IsFound, Looks, LooksDurably, Recovers};
 
 use crate::changes::Changes;
 use crate::fault::OpenJournalFault;
@@ -92,13 +92,15 @@ fn find_changes<D: Disk>(alloc: Global, disk: &mut D) -> Result<Option<Changes>,
     }
 }
 
-/// Makes the changes that were found, and closes Gate behind them.
+/// Makes the changes that were found, closes Gate behind them, and empties Intent. Where none were found it writes nothing.
 fn replay_found<D: Disk>(disk: &mut D, found: &Option<Changes>) -> Result<(), Failed>
     requires { IsWithin (D.uncertain disk.old) nothing }
     ensures at_rest { OnOk result ((all files : Files) → D.files disk.old ≡ Some all → IsFound all found.now → ComesTo files nothing all
         → IsAtRest (D.files disk.new) (D.uncertain disk.new) files) }
     ensures settled { OnOk result (((all : Files) → D.files disk.old ≡ Some all → IsFound all found.now)
         → IsSettled (D.files disk.new) (D.uncertain disk.new)) }
+    ensures unwritten { found.now ≡ None → disk.new ≡ disk.old }
+    ensures emptied { OnOk result ((found.now ≡ None → ⊥) → IsEmptied (D.files disk.new)) }
     ensures any_moment { (all files : Files) → D.files disk.old ≡ Some all → IsFound all found.now → ComesTo files nothing all
         → Leaves D.moment D.left_since disk.old disk.new (ComesTo files nothing) }
     ensures counted { Counted (D.fault_count disk.old) (D.fault_count disk.new) (IsErr result) }
@@ -124,6 +126,11 @@ pub(crate) fn recover<D: Disk>(alloc: Global, disk: &mut D) -> Result<(), OpenJo
     ensures at_rest { OnOk result ((all files : Files) → D.files disk.old ≡ Some all → ComesTo files nothing all
         → IsAtRest (D.files disk.new) (D.uncertain disk.new) files) }
     ensures settled { OnOk result (IsSettled (D.files disk.new) (D.uncertain disk.new)) }
+    // Where Gate was closed nothing was written; where it was open, Intent is empty.
+    ensures shut { OnOk result ((all : Files) → D.files disk.old ≡ Some all → is_open (all FileId.Gate) ≡ false
+        → LooksDurably D.files D.uncertain D.moment D.left_since disk.old disk.new) }
+    ensures emptied { OnOk result ((all : Files) → D.files disk.old ≡ Some all → is_open (all FileId.Gate) ≡ true
+        → IsEmptied (D.files disk.new)) }
     // Ok and Foreign exclude each other.
     ensures recoverable { OnOk result ((all : Files) → D.files disk.old ≡ Some all → IsRecoverable all) }
     // Unless the disk failed, a refusal comes with nothing written.

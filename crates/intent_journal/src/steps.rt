@@ -7,7 +7,7 @@ ghost use Rattle.disk_trait.specs.Images.{nothing, also, IsWithin, IsImage, MayL
 ghost use Rattle.intent_journal.specs.declared.changes.Change.{Change};
 ghost use Rattle.intent_journal.specs.Changes.{applied, names, IsIntent};
 ghost use Rattle.intent_journal.specs.Layout.{intent_file};
-ghost use Rattle.intent_journal.specs.Overlay.{ComesTo, IsSettled, IsAtRest, IsOpenOver, IsBeforeOrAfter, SyncsStages};
+ghost use Rattle.intent_journal.specs.Overlay.{ComesTo, IsSettled, IsAtRest, IsEmptied, IsOpenOver, IsBeforeOrAfter, SyncsStages};
 ghost use Rattle.intent_journal.specs.Steps.{Touched};
 
 use crate::changes::Change;
@@ -89,11 +89,29 @@ pub(crate) fn replace_files<D: Disk>(disk: &mut D, changes: &[Change]) -> Result
     }
 }
 
-/// Makes the changes of Intent, whose Gate is open, and closes Gate behind them.
+/// Empties Intent behind a closed Gate, so that its changes don't stand on the disk a second time. No sync is owed: nothing
+/// reads Intent while Gate is closed, so whatever a crash leaves of it comes to the same files.
+pub(crate) fn forget_intent<D: Disk>(disk: &mut D) -> Result<(), Failed>
+    ensures emptied { OnOk result (IsEmptied (D.files disk.new)) }
+    ensures at_rest { (files : Files) → IsAtRest (D.files disk.old) (D.uncertain disk.old) files
+        → IsAtRest (D.files disk.new) (D.uncertain disk.new) files }
+    ensures settled { IsSettled (D.files disk.old) (D.uncertain disk.old) → IsSettled (D.files disk.new) (D.uncertain disk.new) }
+    ensures any_moment { (files : Files) → IsAtRest (D.files disk.old) (D.uncertain disk.old) files
+        → Leaves D.moment D.left_since disk.old disk.new (ComesTo files nothing) }
+    ensures counted { Counted (D.fault_count disk.old) (D.fault_count disk.new) (IsErr result) }
+{
+    match disk.write(FileId::Intent, &[]) {
+        Ok(()) => Ok(()),
+        Err(Failed) => Err(Failed),
+    }
+}
+
+/// Makes the changes of Intent, whose Gate is open, closes Gate behind them, and empties Intent.
 pub(crate) fn replay<D: Disk>(disk: &mut D, changes: &[Change]) -> Result<(), Failed>
     ensures at_rest { OnOk result ((all : Files) → D.files disk.old ≡ Some all → IsWithin (D.uncertain disk.old) nothing
         → IsAtRest (D.files disk.new) (D.uncertain disk.new) (applied changes.now all)) }
     ensures settled { OnOk result (IsSettled (D.files disk.new) (D.uncertain disk.new)) }
+    ensures emptied { OnOk result (IsEmptied (D.files disk.new)) }
     ensures any_moment { (all : Files) → D.files disk.old ≡ Some all → IsWithin (D.uncertain disk.old) nothing → IsOpenOver all changes.now
         → Leaves D.moment D.left_since disk.old disk.new (ComesTo (applied changes.now all) nothing) }
     ensures counted { Counted (D.fault_count disk.old) (D.fault_count disk.new) (IsErr result) }
@@ -103,6 +121,10 @@ pub(crate) fn replay<D: Disk>(disk: &mut D, changes: &[Change]) -> Result<(), Fa
         Err(Failed) => return Err(Failed),
     }
     match replace_file(disk, FileId::Gate, &[0x43]) {
+        Ok(()) => {}
+        Err(Failed) => return Err(Failed),
+    }
+    match forget_intent(disk) {
         Ok(()) => Ok(()),
         Err(Failed) => Err(Failed),
     }
@@ -147,6 +169,7 @@ pub(crate) fn carry_out<D: Disk>(
     ensures at_rest { OnOk result ((all : Files) → D.files disk.old ≡ Some all
         → IsAtRest (D.files disk.new) (D.uncertain disk.new) (applied changes.now all)) }
     ensures settled { OnOk result (IsSettled (D.files disk.new) (D.uncertain disk.new)) }
+    ensures emptied { OnOk result (IsEmptied (D.files disk.new)) }
     ensures any_moment { (all : Files) → D.files disk.old ≡ Some all
         → Leaves D.moment D.left_since disk.old disk.new (IsBeforeOrAfter all (D.uncertain disk.old) changes.now) }
     ensures stages { (all : Files) → D.files disk.old ≡ Some all

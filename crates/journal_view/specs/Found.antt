@@ -9,7 +9,7 @@ use Rattle.disk_trait.specs.declared.ids.FileId.{FileId}
 use Rattle.disk_trait.specs.Names.{is_metadata, is_data}
 use Rattle.disk_trait.specs.Files.{Files, lists, IsListedOnce}
 use Rattle.disk_trait.specs.Images.{FileSet, nothing, IsWithin, MayLeave, Leaves}
-use Rattle.intent_journal.specs.Overlay.{ComesTo}
+use Rattle.intent_journal.specs.Overlay.{ComesTo, intent_alone}
 
 -- a file that a store knows of
 abbrev pub is_seen : FileId → Bool
@@ -55,12 +55,13 @@ pub record IsAlikeBut (files : Files) (uncertain : FileSet) (found : Files) : Ty
   pub metadata : (asked : FileId) → is_metadata asked ≡ true → found asked ≡ files asked
   pub contents : (asked : FileId) → is_data asked ≡ true → uncertain asked ≡ false → found asked ≡ files asked
 
--- A disk was opened, on files that have P; and a crash meanwhile, or now, left such an opening finds.
+-- A disk was opened, on files that have P, and every file that a store sees is durable; a crash meanwhile, or now, left such
+-- as an opening finds.
 pub record Reopened {D : Type 0} (told : D → Option Files) (uncertain : D → FileSet) (moment : D → ℕ)
     (left_since : D → ℕ → Files → Type 0) (P : Files → Type 0) (old new : D) : Type 0 where
   pub found : Files
   pub has : P found
   pub told_is : option_map seen (told new) ≡ Some found
-  pub certain : IsWithin (uncertain new) nothing
+  pub certain : IsWithin (uncertain new) intent_alone
   pub crash : Leaves moment left_since old new (Finds P)
   pub now : FindsAll (told new) (uncertain new) P

@@ -113,9 +113,10 @@ reopened_quietly {D} {d} old new run tells opens = step (d.files old.disk) refl 
         (itself (d.files old.disk) (d.uncertain old.disk) raw is) in
         let comes : ComesTo raw nothing raw = record { closed = start.closed; opened = start.opened; contents = λ asked kind out. refl } in
         let rest = opens.at_rest raw raw is comes in
+        let still = opens.shut raw is ((old.settled run).closed raw is) in
         record {
           told_same = rest_told (d.files new.disk) (d.uncertain new.disk) raw rest ∙ sym (ap (option_map seen) is);
-          certain = record { each = λ asked out. rest.certain.each asked refl };
+          certain = record { each = λ asked out. still.durable.each asked refl };
           halted_same = opens.running ∙ sym run;
           now = λ found may.
               let there = start_image (d.files new.disk) (d.uncertain new.disk) rest.now may.image rest.is (new.settled opens.running)
@@ -124,7 +125,7 @@ reopened_quietly {D} {d} old new run tells opens = step (d.files old.disk) refl 
               record {
                 closed = there.closed;
                 opened = there.opened;
-                contents = λ asked kind out. there.contents asked kind (rest.certain.each asked refl);
+                contents = λ asked kind out. there.contents asked kind (still.durable.each asked refl);
               } in
               let one = found_once may.image found (seen rest.now) may.in_image (record { files = rest.now; comes = whole; is = refl }) in
               record {

@@ -16,6 +16,7 @@ use Rattle.intent_journal.specs.declared.fault.JournalFault.{JournalFault}
 use Rattle.intent_journal.specs.declared.fault.JournalFault.TheVariants.{Disk, Halted, Memory}
 use Rattle.intent_journal.specs.declared.journal.Journal.{Journal}
 use Rattle.intent_journal.specs.Changes.{applied}
+use Rattle.intent_journal.specs.Overlay.{intent_alone}
 use Rattle.journal_view.specs.Found.{seen, IsFoundIn, Finds, FindsAll, CanFind, IsAlikeBut}
 
 -- found files have this metadata, and these contents
@@ -72,12 +73,12 @@ module _ {D : Type 0} {d : Ghosts D} where
     pub now : (found : Files) → MayFind new found → MayFind old found
     pub crash : (all : Files) → told old ≡ Some all → FindsOnly old new (IsAlikeBut all (uncertain old))
 
-  -- A commit.
+  -- A commit. After Ok every file that a store sees is durable.
   pub record Committed (old : Journal D d) (changes : List Change) (result : Result (Unit {0}) JournalFault)
       (new : Journal D d) : Type 0 where
     pub ready : OnOk result (new.halted ≡ false)
     pub done : OnOk result (told new ≡ option_map (applied changes) (told old))
-    pub certain : OnOk result (is_some (told old) ≡ true → IsWithin (uncertain new) nothing)
+    pub certain : OnOk result (is_some (told old) ≡ true → IsWithin (uncertain new) intent_alone)
     pub memory : result ≡ Err Memory → Quiet old new
     pub stopped : result ≡ Err Disk → new.halted ≡ true
     pub running : result ≡ Err Halted → ⊥

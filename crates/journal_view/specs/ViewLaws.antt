@@ -14,7 +14,7 @@ use Rattle.intent_journal.specs.declared.changes.Change.{Change}
 use Rattle.intent_journal.specs.declared.fault.JournalFault.{JournalFault}
 use Rattle.intent_journal.specs.declared.journal.Journal.{Journal}
 use Rattle.intent_journal.specs.Changes.{applied, AreChanges}
-use Rattle.intent_journal.specs.Overlay.{IsAtRest, IsBeforeOrAfter}
+use Rattle.intent_journal.specs.Overlay.{IsAtRest, IsBeforeOrAfter, intent_alone}
 use Rattle.intent_journal.specs.ChangesLaws.{either, with_bytes_there, with_bytes_other}
 use Rattle.intent_journal.specs.OverlayLaws.{start_image, also_other}
 use Rattle.intent_journal.specs.Calls.{Commits, Reads, Touches}
@@ -273,14 +273,14 @@ module _ {D : Type 0} {d : Ghosts D} where
 
       certain_after : (before : Option Files) → d.files old.disk ≡ before
           → ((files : Files) → d.files old.disk ≡ Some files → IsAtRest (d.files new.disk) (d.uncertain new.disk) (applied changes files))
-          → is_some (option_map seen before) ≡ true → IsWithin (uncertain new) nothing
+          → is_some (option_map seen before) ≡ true → IsWithin (uncertain new) intent_alone
       certain_after None is rest e = absurd (false≢true e)
       certain_after (Some files) is rest e = (rest files is).certain
 
       certain : (r : Result (Unit {0}) JournalFault)
           → OnOk r ((new.halted ≡ false)
           × ((files : Files) → d.files old.disk ≡ Some files → IsAtRest (d.files new.disk) (d.uncertain new.disk) (applied changes files)))
-          → OnOk r (is_some (told old) ≡ true → IsWithin (uncertain new) nothing)
+          → OnOk r (is_some (told old) ≡ true → IsWithin (uncertain new) intent_alone)
       certain (Ok x) e = certain_after (d.files old.disk) refl e.1
       certain (Err x) e = tt
 

@@ -43,34 +43,6 @@ fn push(changes: &mut Changes, file: FileId, bytes: Bytes) -> Result<(), AllocEr
     Ok(())
 }
 
-/// A copy of a change.
-fn copy_of(alloc: Global, change: &Change) -> Result<Change, AllocError>
-    ensures { IfOk result (λ copy. copy ≡ change.now) }
-{
-    let file = change.file;
-    match &change.bytes {
-        None => Ok(Change { file, bytes: None }),
-        Some(bytes) => {
-            let bytes = bytes.copy(alloc)?;
-            Ok(Change {
-                file,
-                bytes: Some(bytes),
-            })
-        }
-    }
-}
-
-/// Puts copies of changes behind others.
-fn push_copies(alloc: Global, changes: &mut Changes, others: &[Change]) -> Result<(), AllocError>
-    ensures { OnOk result (changes.new ≡ changes.old ++ others.now) }
-{
-    for change in others {
-        let copy = copy_of(alloc, change)?;
-        changes.push(copy)?;
-    }
-    Ok(())
-}
-
 /// The changes of a commit: those of the pool's index, behind them that of the host's index, and then the host's other files.
 pub(crate) fn assemble(
     alloc: Global,
@@ -83,7 +55,7 @@ pub(crate) fn assemble(
     ensures { IfOk result (λ changes. changes ≡ written pooled listed.now host number files) }
 {
     let mut changes = pooled;
-    push_copies(alloc, &mut changes, listed.as_slice())?;
+    changes.push_copies(alloc, listed.as_slice())?;
     push(&mut changes, FileId::Table(host, number), files.table)?;
     push(&mut changes, FileId::Counts(host), files.counts)?;
     match files.former {

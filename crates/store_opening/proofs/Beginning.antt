@@ -1,6 +1,7 @@
 -- How an opening goes, of files that stand for one of two offices.
 use Rattle.std.specs.Prelude.{is_some, ◌⊎◌}
 use Rattle.std.proofs.Common.{◌≡◌, ℕ, ◌<◌, ◌≤◌, false, List, Option, Err, refl, sym, ap, ◌∙◌, subst, inl, inr}
+use Rattle.disk_trait.specs.declared.ids.PoolId.{PoolId}
 use Rattle.disk_trait.specs.declared.ids.FileId.{FileId}
 use Rattle.disk_trait.specs.declared.ids.FileId.TheVariants as F
 use Rattle.disk_trait.specs.declared.disk.Disk.{Ghosts as DiskGhosts}
@@ -36,21 +37,21 @@ either_of digest_of a b office (inr e) found (inr s) = inr (inr (subst (λ (o : 
 
 module _ {D : Type 0} {d : DiskGhosts D} (digest_of : List ℕ → List ℕ) (old : Journal D d) (a b : Durable)
     (holds : Holds digest_of old a b) where
-  -- all is durable, so what is found stands for one of the two
-  alike_either : (out : FileSet) → ((file : FileId) → out file ≡ false) → (found : Files) → IsAlikeBut holds.all out found
+  -- each content is durable, so what is found stands for one of the two
+  alike_either : (out : FileSet) → ((id : PoolId) → out (F.Pool id) ≡ false) → (found : Files) → IsAlikeBut holds.all out found
       → IsEither digest_of a b found
   alike_either out certain found alike = elim holds.either [
-    | inl s ↦ inl (alike_stands digest_of s.index s.backups holds.all found a out (λ id listed. certain (F.Pool id)) s.stands alike)
-    | inr s ↦ inr (alike_stands digest_of s.index s.backups holds.all found b out (λ id listed. certain (F.Pool id)) s.stands alike)
+    | inl s ↦ inl (alike_stands digest_of s.index s.backups holds.all found a out (λ id listed. certain id) s.stands alike)
+    | inr s ↦ inr (alike_stands digest_of s.index s.backups holds.all found b out (λ id listed. certain id) s.stands alike)
   ]
 
-  certain_before : (file : FileId) → uncertain old file ≡ false
-  certain_before file = holds.certain.each file refl
+  certain_before : (id : PoolId) → uncertain old (F.Pool id) ≡ false
+  certain_before id = holds.certain.each (F.Pool id) refl
 
   pub may_still : (new : Journal D d) → old.halted ≡ false → Quiet old new → MayBe digest_of new a b
   may_still new ready quiet = record {
     each = FindsNow-each (IsAlikeBut holds.all (uncertain new)) (IsEither digest_of a b) new
-        (alike_either (uncertain new) (λ file. quiet.certain.each file (certain_before file)))
+        (alike_either (uncertain new) (λ id. quiet.certain.each (F.Pool id) (certain_before id)))
         (working_finds new holds.all (quiet.halted_same ∙ ready) (quiet.told_same ∙ holds.told_is));
     tells = ap is_some (quiet.told_same ∙ holds.told_is);
   }

@@ -8,12 +8,13 @@ use Rattle.disk_trait.specs.declared.ids.FileId.TheVariants as F
 use Rattle.disk_trait.specs.declared.disk.Disk.{Ghosts as DiskGhosts}
 use Rattle.disk_trait.specs.Names.{is_same_file}
 use Rattle.disk_trait.specs.Files.{Files, bytes_of}
-use Rattle.disk_trait.specs.Images.{nothing, IsWithin}
+use Rattle.disk_trait.specs.Images.{IsWithin}
 use Rattle.pool_name.specs.declared.namer.Namer.{Ghosts as NamerGhosts}
 use Rattle.intent_journal.specs.declared.changes.Change.{Change}
 use Rattle.intent_journal.specs.declared.fault.JournalFault.{JournalFault}
 use Rattle.intent_journal.specs.declared.journal.Journal.{Journal}
 use Rattle.intent_journal.specs.Changes.{applied, names as named_by, AreChanges}
+use Rattle.intent_journal.specs.Overlay.{intent_alone}
 use Rattle.intent_journal.specs.ChangesLaws.{with_bytes_other, applied_other, applied_alike}
 use Rattle.journal_view.specs.Found.{IsAlikeBut}
 use Rattle.journal_view.specs.View.{told, uncertain, Committed, IsOldOrNew}
@@ -244,7 +245,7 @@ module _ {D N S : Type 0} {d : DiskGhosts D} {n : NamerGhosts N S} (journal : Jo
       slots_same = λ i id. sym (same id) i
 
       stored_raised : (known : Known) → known ≡ after next.catalog catalog → new.halted ≡ false
-          → told new ≡ option_map (applied changes) (told journal) → (is_some (told journal) ≡ true → IsWithin (uncertain new) nothing)
+          → told new ≡ option_map (applied changes) (told journal) → (is_some (told journal) ≡ true → IsWithin (uncertain new) intent_alone)
           → IsStored new after_pool known (raised office) names
       stored_raised known known_is ready done certain = record {
         journal_ready = ready;
@@ -270,7 +271,7 @@ module _ {D N S : Type 0} {d : DiskGhosts D} {n : NamerGhosts N S} (journal : Jo
 
       pub held_raised : (counts : List Items) → AreCountsOf counts at.backups → (known : Known) → known ≡ after next.catalog catalog
           → new.halted ≡ false → told new ≡ option_map (applied changes) (told journal)
-          → (is_some (told journal) ≡ true → IsWithin (uncertain new) nothing) → IsHeld new after_pool known counts (raised office) names
+          → (is_some (told journal) ≡ true → IsWithin (uncertain new) intent_alone) → IsHeld new after_pool known counts (raised office) names
       unfolding stored_raised
       held_raised counts counted known known_is ready done certain = record {
         stored = stored_raised known known_is ready done certain;

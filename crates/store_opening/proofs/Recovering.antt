@@ -2,6 +2,7 @@
 use Rattle.std.specs.Prelude.{◌⊎◌, is_some, length, option_map}
 use Rattle.std.proofs.Common.{◌≡◌, ℕ, Bool, false, true, List, Option, None, Some, refl, sym, ap, ◌∙◌, subst, inl, inr}
 use Rattle.std.proofs.lemmas.Bool.{false≢true}
+use Rattle.disk_trait.specs.declared.ids.PoolId.{PoolId}
 use Rattle.disk_trait.specs.declared.ids.FileId.{FileId}
 use Rattle.disk_trait.specs.declared.ids.FileId.TheVariants as F
 use Rattle.disk_trait.specs.declared.disk.Disk.{Ghosts as DiskGhosts}
@@ -71,7 +72,7 @@ found_names {n = n} found = record { digest_of = n.digest_of; used = used_of fou
 
 module _ {D N S : Type 0} {d : DiskGhosts D} {n : NamerGhosts N S} where
   read_one : (new : Journal D d) (found : Found N S n) (all raw : Files) (office : Durable) → new.halted ≡ false → told new ≡ Some all
-      → seen raw ≡ all → ((file : FileId) → uncertain new file ≡ false) → Opens found.pool.in_one_file (slots_of found.pool.names) raw
+      → seen raw ≡ all → ((id : PoolId) → uncertain new (F.Pool id) ≡ false) → Opens found.pool.in_one_file (slots_of found.pool.names) raw
       → AreFresh (slots_of found.pool.names) → HoldsCatalog all found.catalog → StandsFor n.digest_of all office
       → IsStored new found.pool found.catalog office (found_names found)
   read_one new found all raw office ready told_is same certain opens fresh holds s = record {
@@ -82,7 +83,7 @@ module _ {D N S : Type 0} {d : DiskGhosts D} {n : NamerGhosts N S} where
     stands = stands;
     tells = tells;
     fits = fits_stands n.digest_of slots s.backups all office (uncertain new) (λ id given. fresh_live (slots id) (fresh id) given)
-        (λ id live. certain (F.Pool id)) stands;
+        (λ id live. certain id) stands;
     all_used = λ id there. opens.used id ∙ ap is_some (at_file raw all same (F.Pool id)) ∙ there;
     used = used_names found.pool.names;
     digest = refl;
@@ -106,7 +107,7 @@ module _ {D N S : Type 0} {d : DiskGhosts D} {n : NamerGhosts N S} where
       stands = subst (λ (index : Index). Stands n.digest_of index s.backups all office) index_is s.stands
 
   held_one : (new : Journal D d) (found : Found N S n) (all raw : Files) (office : Durable) → new.halted ≡ false → told new ≡ Some all
-      → seen raw ≡ all → ((file : FileId) → uncertain new file ≡ false) → Opens found.pool.in_one_file (slots_of found.pool.names) raw
+      → seen raw ≡ all → ((id : PoolId) → uncertain new (F.Pool id) ≡ false) → Opens found.pool.in_one_file (slots_of found.pool.names) raw
       → AreFresh (slots_of found.pool.names) → HoldsCatalog all found.catalog
       → AreTold all (length found.catalog.hosts) found.counts → StandsFor n.digest_of all office
       → IsHeld new found.pool found.catalog found.counts office (found_names found)
@@ -130,7 +131,7 @@ module _ {D N S : Type 0} {d : DiskGhosts D} {n : NamerGhosts N S} where
           → IsHeld new found.pool found.catalog found.counts office (found_names found)
       held office s =
           held_one new found holds.all raw.0 office (quiet.halted_same ∙ ready) (quiet.told_same ∙ holds.told_is) raw.2
-          (λ file. quiet.certain.each file (holds.certain.each file refl)) (opens raw.0 raw.1) fresh (catalog holds.all holds.told_is)
+          (λ id. quiet.certain.each (F.Pool id) (holds.certain.each (F.Pool id) refl)) (opens raw.0 raw.1) fresh (catalog holds.all holds.told_is)
           (counts holds.all holds.told_is) s
 
       step : IsEither n.digest_of a b holds.all → Recovers new found a b

@@ -9,10 +9,10 @@ use Rattle.disk_trait.specs.declared.ids.FileId.{FileId}
 use Rattle.disk_trait.specs.declared.ids.FileId.TheVariants.{Intent}
 use Rattle.disk_trait.specs.declared.disk.Disk.{Ghosts as DiskGhosts}
 use Rattle.disk_trait.specs.Files.{Files}
-use Rattle.disk_trait.specs.Images.{nothing, IsWithin}
+use Rattle.disk_trait.specs.Images.{IsWithin}
 use Rattle.pool_name.specs.declared.namer.Namer.{Ghosts as NamerGhosts}
 use Rattle.intent_journal.specs.declared.journal.Journal.{Journal}
-use Rattle.intent_journal.specs.Overlay.{IsForeign as IsForeignIntent}
+use Rattle.intent_journal.specs.Overlay.{intent_alone, IsForeign as IsForeignIntent}
 use Rattle.journal_view.specs.Found.{seen}
 use Rattle.journal_view.specs.View.{told, uncertain, FindsOnly}
 use Rattle.pool_changes.specs.Kept.{slots_of}
@@ -68,7 +68,7 @@ module _ {D : Type 0} {d : DiskGhosts D} where
     pub all : Files
     pub told_is : told journal ≡ Some all
     pub either : IsEither digest_of a b all
-    pub certain : IsWithin (uncertain journal) nothing
+    pub certain : IsWithin (uncertain journal) intent_alone
 
   -- a crash now leaves one of two offices, and so did one meanwhile
   pub record Looks (digest_of : List ℕ → List ℕ) (old new : Journal D d) (a b : Durable) : Type 0 where

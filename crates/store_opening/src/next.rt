@@ -7,46 +7,18 @@ ghost use Rattle.office_catalog.specs.Changed.{after, IsFor};
 ghost use Rattle.store_opening.specs.Next.{IsNext};
 
 use crate::found::Found;
-use intent_journal::{Change, Changes};
+use intent_journal::Changes;
 use office_catalog::CatalogChange;
 use pool_changes::IndexChange;
 use pool_name::Namer;
 use std::alloc::{AllocError, Global};
-
-/// A copy of a change.
-fn copy_of(alloc: Global, change: &Change) -> Result<Change, AllocError>
-    ensures { IfOk result (λ copy. copy ≡ change.now) }
-{
-    let file = change.file;
-    match &change.bytes {
-        None => Ok(Change { file, bytes: None }),
-        Some(bytes) => {
-            let bytes = bytes.copy(alloc)?;
-            Ok(Change {
-                file,
-                bytes: Some(bytes),
-            })
-        }
-    }
-}
-
-/// Puts copies of changes behind others.
-fn push_copies(alloc: Global, changes: &mut Changes, others: &[Change]) -> Result<(), AllocError>
-    ensures { OnOk result (changes.new ≡ changes.old ++ others.now) }
-{
-    for change in others {
-        let copy = copy_of(alloc, change)?;
-        changes.push(copy)?;
-    }
-    Ok(())
-}
 
 /// The changes of the pool's index, and behind them those of Head.
 fn both_changes(alloc: Global, pooled: Changes, heads: &Changes) -> Result<Changes, AllocError>
     ensures { IfOk result (λ changes. changes ≡ pooled ++ heads.now) }
 {
     let mut changes = pooled;
-    push_copies(alloc, &mut changes, heads.as_slice())?;
+    changes.push_copies(alloc, heads.as_slice())?;
     Ok(changes)
 }
 

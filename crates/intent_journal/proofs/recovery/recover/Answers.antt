@@ -2,7 +2,7 @@ use Rattle.std.proofs.Common.{◌≡◌, Option, Some, inr, ◌∙◌, subst}
 use Rattle.disk_trait.specs.Files.{Files}
 use Rattle.disk_trait.specs.Images.{FileSet, nothing, IsWithin, MayLeave, Leaves, leaves_then, leaves_wider, leaves_only}
 use Rattle.intent_journal.specs.Overlay.{ComesTo, IsForeign, Looks, Recovers}
-use Rattle.intent_journal.proofs.CommitLaws.{certain_image, found_recoverable, looks_then}
+use Rattle.intent_journal.proofs.CommitLaws.{certain_image, found_recoverable, looks_then, looks_durably, found_none, found_some}
 use Rattle.intent_journal.proofs.recovery.recover.Goals as goal
 
 -- a disk that was synced, looked at, and then only recovered
@@ -56,3 +56,14 @@ returns-in-Ok-replay_found-clause-recoverable g c = λ all told.
 
 pub returns-in-Err-find_changes-clause-unwritten : goal.returns-in-Err-find_changes-clause-unwritten
 returns-in-Err-find_changes-clause-unwritten g c = λ _. looks_then c.settle.ensures.looks c.find_changes.ensures.looks
+
+pub returns-in-Ok-replay_found-clause-shut : goal.returns-in-Ok-replay_found-clause-shut
+returns-in-Ok-replay_found-clause-shut g c = λ all told shut.
+    let found = c.in-Ok-find_changes.ensures.found all (c.settle.ensures.looks.same ∙ told) in
+    looks_durably c.settle.ensures.looks c.in-Ok.ensures.durable c.find_changes.ensures.looks
+    (c.replay_found.ensures.unwritten (found_none all _ shut found))
+
+pub returns-in-Ok-replay_found-clause-emptied : goal.returns-in-Ok-replay_found-clause-emptied
+returns-in-Ok-replay_found-clause-emptied g c = λ all told gate.
+    let found = c.in-Ok-find_changes.ensures.found all (c.settle.ensures.looks.same ∙ told) in
+    c.in-Ok-replay_found.ensures.emptied (found_some all _ gate found)

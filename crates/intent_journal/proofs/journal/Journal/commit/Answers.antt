@@ -26,6 +26,7 @@ returns g c =
             (applied cs all)) c.as_slice-3.ensures
             (c.in-Ok.ensures.at_rest all told),
       );
+      emptied = c.in-Ok.ensures.emptied;
       stages = λ _ all told.
           subst (λ (cs : List Change).
           LeavesOnly g.D.Disk.moment g.D.Disk.left_since c.args.self.now.disk c.carry_out.new.disk
