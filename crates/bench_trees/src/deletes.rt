@@ -1,5 +1,5 @@
-//! The deletion of one backup of many, of ten neighbours and of ten that stand apart, beside reading the tables of all; and
-//! the deletion of every second of them, beside reading tables that have few paths each.
+//! The tree of the oldest of many backups, and the deletion of one of them, of ten neighbours and of ten that stand apart, beside
+//! reading the tables of all; and the same tree and the deletion of every second of them, beside reading tables that have few paths each.
 
 use crate::corpus::{file_path, file_record};
 use crate::fault::Fault;
@@ -8,6 +8,7 @@ use crate::sizes::FoldSizes;
 use attr_tables::{Row, Table, read_table, write_table};
 use backup_delete::{Folded, TableChange, fold};
 use backup_rules::{Kind, Line};
+use merge_view::whole;
 use std::alloc::Global;
 
 /// The files of a folder.
@@ -135,16 +136,31 @@ fn delete(
     )
 }
 
-/// Reads the tables of all backups, which have all files, and deletes of them the oldest but one; ten neighbours from it on;
-/// and ten from it on that stand apart.
+/// Shows the tree of the oldest backup, out of the tables of all, which are given and left the oldest first.
+fn measure_whole(
+    report: &Report,
+    what: &'static str,
+    tables: &mut Vec<Table>,
+) -> Result<(), Fault> {
+    tables.reverse();
+    let begin = report.begin()?;
+    let tree = whole(report.alloc(), tables.as_slice())?;
+    let micros = report.micros_since(begin)?;
+    tables.reverse();
+    report.say(micros, format_args!("{what}: {} rows", tree.len()))
+}
+
+/// Reads the tables of all backups, which have all files, shows the tree of the oldest, and deletes of them the oldest but one;
+/// ten neighbours from it on; and ten from it on that stand apart.
 fn measure_full(report: &Report, sizes: FoldSizes) -> Result<(), Fault> {
     let FoldSizes { backups, .. } = sizes;
     let alloc = report.alloc();
-    let (tables, read_micros) = read_tables(report, sizes, 1)?;
+    let (mut tables, read_micros) = read_tables(report, sizes, 1)?;
     report.say(
         read_micros,
         format_args!("read all: {} tables", tables.len()),
     )?;
+    measure_whole(report, "whole of all", &mut tables)?;
     let lines = lines_of(alloc, backups)?;
     let (lines, tables) = (lines.as_slice(), tables.as_slice());
     delete(report, "fold", lines, tables, &[1])?;
@@ -160,14 +176,15 @@ fn measure_full(report: &Report, sizes: FoldSizes) -> Result<(), Fault> {
     delete(report, "fold apart", lines, tables, apart.as_slice())
 }
 
-/// Reads tables of which twenty neighbours have no path in common, and deletes every second of them.
+/// Reads tables of which twenty neighbours have no path in common, shows the tree of the oldest, and deletes every second of them.
 fn measure_sparse(report: &Report, sizes: FoldSizes) -> Result<(), Fault> {
     let FoldSizes { backups, .. } = sizes;
-    let (tables, read_micros) = read_tables(report, sizes, 20)?;
+    let (mut tables, read_micros) = read_tables(report, sizes, 20)?;
     report.say(
         read_micros,
         format_args!("read sparse: {} tables", tables.len()),
     )?;
+    measure_whole(report, "whole of sparse", &mut tables)?;
     let lines = lines_of(report.alloc(), backups)?;
     let seconds = numbers_by(report.alloc(), backups, 2, backups)?;
     delete(

@@ -1,10 +1,7 @@
 -- What the merges make is in order, and what is at its paths.
 use Rattle.merge_view.specs.ViewLaws.{IsInOrder-view, IsInOrder-reverse, IsInOrder-stacked, IsInOrder-trimmed, node_at-view, node_at-reverse, node_at-stacked, node_at-trimmed, view-reverse, view-stacked, trimmed-view, IsWhole-view}
-use Rattle.merge_view.specs.TableLaws.{IsInOrder-shown, IsWhole-nil, IsWhole-whole, stacked-none, stack-one, stack-append, whole-shown, whole-reverses}
 use Rattle.merge_view.specs.RunLaws.{IsInOrder-children, children-within}
 
 pub ruleset orders = (IsInOrder-view, IsInOrder-reverse, IsInOrder-stacked, IsInOrder-trimmed, node_at-view, node_at-reverse, node_at-stacked, node_at-trimmed, view-reverse, view-stacked, trimmed-view, IsWhole-view)
-
-pub ruleset stacks = (IsInOrder-stacked, IsInOrder-shown, IsWhole-nil, IsWhole-whole, stacked-none, stack-one, stack-append, whole-shown, whole-reverses)
 
 pub ruleset listings = (IsInOrder-children, children-within)

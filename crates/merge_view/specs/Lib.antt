@@ -1,6 +1,7 @@
 pub mod Chosen
 pub mod RunLaws
 pub mod Runs
+pub mod Sources
 pub mod TableLaws
 pub mod Tables
 pub mod ViewLaws

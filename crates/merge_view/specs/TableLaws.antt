@@ -1,21 +1,19 @@
 -- Laws of several tables.
 --     whole-reverses      the stored entries of trees show the oldest
---     view-stack, whole-shown      a view through all entries at once
-use Rattle.std.specs.Prelude.{◌≡◌, ℕ, false, List, [], ◌∷◌, ◌++◌, Option, Some, None}
+--     view-stack, whole-stack      a view through all entries at once
+use Rattle.std.specs.Prelude.{◌≡◌, ℕ, false, List, [], ◌∷◌, ◌++◌, Option, Some, None, if◌then◌else◌}
 use Rattle.std.specs.List.{AllByRecursion}
 use Rattle.std.proofs.Common.{refl, sym, ap, ◌∙◌}
 use Rattle.attr_records.specs.Paths.{path_cmp}
-use Rattle.attr_records.specs.PathLaws.{path_cmp_total}
 use Rattle.ordered_lists.specs.Order.{IsInOrder}
 use Rattle.attr_records.specs.Trees.{node_at}
 use Rattle.attr_records.specs.TreeLaws.{same_tree}
 use Rattle.attr_tables.specs.declared.records.Record.{Record}
 use Rattle.attr_tables.specs.declared.records.Record.TheVariants.{File, Dir, Link, Deleted}
-use Rattle.ordered_lists.specs.Merge.{merge}
-use Rattle.ordered_lists.specs.MergeLaws.{find-merge, IsInOrder-merge}
-use Rattle.merge_view.specs.Views.{Rows, laid, upper, view, reverse, stacked, IsWhole, is_marked}
+use Rattle.ordered_lists.specs.Merge.{entry_then}
+use Rattle.merge_view.specs.Views.{Rows, laid, upper, view, stacked, IsWhole, is_mark, is_marked, without_marks}
 use Rattle.merge_view.specs.ViewLaws.{IsWhole-view, IsInOrder-view, IsInOrder-stacked, node_at-view, node_at-stacked, view-reverse, view-stacked, unmarked, unmarked-laid}
-use Rattle.merge_view.specs.Tables.{AllInOrder, viewed, whole, told, reverses, oldest, stack, shown}
+use Rattle.merge_view.specs.Tables.{AllInOrder, viewed, whole, told, reverses, oldest, stack}
 
 pub IsWhole-nil : IsWhole []
 IsWhole-nil = record { in_order = tt; no_marks = tt }
@@ -27,6 +25,11 @@ IsWhole-viewed tree (table ∷ tables) w h = IsWhole-viewed (view tree table) ta
 
 pub IsWhole-whole : (tables : List Rows) → AllInOrder tables → IsWhole (whole tables)
 IsWhole-whole tables h = IsWhole-viewed [] tables IsWhole-nil h
+
+-- tables in order behind tables in order
+pub AllInOrder-append : (front back : List Rows) → AllInOrder front → AllInOrder back → AllInOrder (front ++ back)
+AllInOrder-append [] back g h = h
+AllInOrder-append (table ∷ front) back g h = (g.0, AllInOrder-append front back g.1 h)
 
 pub IsInOrder-viewed : (tree : Rows) (tables : List Rows) → IsInOrder path_cmp tree → AllInOrder tables
     → IsInOrder path_cmp (viewed tree tables)
@@ -131,18 +134,21 @@ view-stack tree (table ∷ tables) g h =
     view-stacked tree (stack tables) table g (IsInOrder-stack tables h.1) h.0
     ∙ view-stack (view tree table) tables (IsInOrder-view tree table g h.0) h.1
 
--- the whole of a filled table and the stack of the others, as one merge
-pub whole-shown : (filled : Rows) (tables : List Rows) → IsInOrder path_cmp filled → AllInOrder tables
-    → merge path_cmp shown (stack tables) filled ≡ whole (filled ∷ tables)
-whole-shown filled tables g h =
-    let entries = IsInOrder-stack tables h in
-    let tree = IsInOrder-view [] filled tt g in
-    same_tree (merge path_cmp shown (stack tables) filled) (view (view [] filled) (stack tables)) (IsInOrder-merge path_cmp shown path_cmp_total (stack tables) filled entries g) (IsInOrder-view (view [] filled) (stack tables) tree entries) (λ path.
-    find-merge path_cmp shown path_cmp_total refl path (stack tables) filled entries g
-    ∙ ap (laid (node_at (stack tables) path)) (sym (node_at-view [] filled tt g path))
-    ∙ sym (node_at-view (view [] filled) (stack tables) tree entries path))
-    ∙ view-stack (view [] filled) tables tree h
+-- what an entry shows over nothing
+entry-none : (path : List ℕ) (entry : Record) (rest : Rows)
+    → entry_then path (laid (Some entry) None) rest ≡ (if is_mark entry then rest else ((path, entry) ∷ rest))
+entry-none path Deleted rest = refl
+entry-none path (File file) rest = refl
+entry-none path (Dir dir) rest = refl
+entry-none path (Link link) rest = refl
 
-pub IsInOrder-shown : (filled entries : Rows) → IsInOrder path_cmp filled → IsInOrder path_cmp entries
-    → IsInOrder path_cmp (merge path_cmp shown entries filled)
-IsInOrder-shown filled entries g h = IsInOrder-merge path_cmp shown path_cmp_total entries filled h g
+-- entries over nothing show those that are no deletion marks
+view-none : (entries : Rows) → view [] entries ≡ without_marks entries
+view-none [] = refl
+view-none (entry ∷ entries) =
+    entry-none entry.0 entry.1 (view [] entries)
+    ∙ ap (λ (rest : Rows). if is_mark entry.1 then rest else (entry ∷ rest)) (view-none entries)
+
+-- the whole of tables is what is no deletion mark of all entries laid over each other
+pub whole-stack : (tables : List Rows) → AllInOrder tables → without_marks (stack tables) ≡ whole tables
+whole-stack tables h = sym (view-none (stack tables)) ∙ view-stack [] tables tt h

@@ -1,21 +1,15 @@
 -- Several tables, from the filled one downwards: each next one holds the entries of the next older backup.
 --     whole tables      the tree that they show
 --     told tables path base      what they say of a path, over what is there without them
+--     fronted row rows      a row and those after it
 --     reverses newer trees      the entries that a list of trees, each older than the one before, is stored as
-use Rattle.std.specs.Prelude.{◌≡◌, ℕ, false, List, [], ◌∷◌, ◌++◌, Option, Some, None}
+use Rattle.std.specs.Prelude.{ℕ, List, [], ◌∷◌, Option, Some, None}
 use Rattle.std.specs.List.{AllByRecursion}
-use Rattle.std.proofs.Common.{refl, sym, ap, ◌∙◌}
 use Rattle.attr_records.specs.Paths.{path_cmp}
-use Rattle.attr_records.specs.PathLaws.{path_cmp_total}
 use Rattle.ordered_lists.specs.Order.{IsInOrder}
 use Rattle.attr_records.specs.Trees.{node_at}
-use Rattle.attr_records.specs.TreeLaws.{same_tree}
 use Rattle.attr_tables.specs.declared.records.Record.{Record}
-use Rattle.attr_tables.specs.declared.records.Record.TheVariants.{File, Dir, Link, Deleted}
-use Rattle.ordered_lists.specs.Merge.{merge}
-use Rattle.ordered_lists.specs.MergeLaws.{find-merge, IsInOrder-merge}
-use Rattle.merge_view.specs.Views.{Rows, laid, upper, view, reverse, stacked, IsWhole, is_marked}
-use Rattle.merge_view.specs.ViewLaws.{IsWhole-view, IsInOrder-view, IsInOrder-stacked, node_at-view, node_at-stacked, view-reverse, view-stacked, unmarked, unmarked-laid}
+use Rattle.merge_view.specs.Views.{Rows, laid, view, reverse, stacked}
 
 -- each table is in order
 abbrev pub AllInOrder : List Rows → Type 0
@@ -50,6 +44,7 @@ abbrev pub stack : List Rows → Rows
 stack [] = []
 stack (table ∷ tables) = stacked (stack tables) table
 
--- an entry over that of the filled table
-abbrev pub shown : Option Record → Option Record → Option Record
-shown entry filled = laid entry (laid filled None)
+-- a row before others, without which there is nothing
+abbrev pub fronted : Option (List ℕ × Record) → Rows → Rows
+fronted None rest = []
+fronted (Some row) rest = row ∷ rest

@@ -4,24 +4,13 @@
 --     stacked older newer      the entries of an older backup over those of a newer one
 --     trimmed tree entries      the entries that change the tree
 --     view-reverse, view-stacked, trimmed-view      how they go together
-use Rattle.std.specs.Prelude.{◌≡◌, ℕ, Bool, true, false, cond, List, [], ◌∷◌, Option, Some, None, if◌then◌else◌}
-use Rattle.std.specs.declared.cmp.Ordering.{Ordering}
-use Rattle.std.specs.declared.cmp.Ordering.TheVariants.{Less, Equal, Greater}
-use Rattle.std.specs.Ordering.{eq_by_cmp, is_eq}
-use Rattle.std.specs.Cmp.{tied_itself}
-use Rattle.std.proofs.Common.{refl, sym, ap, ◌∙◌}
+use Rattle.std.specs.Prelude.{◌≡◌, ℕ, Bool, true, false, List, [], ◌∷◌, Option, Some, None, if◌then◌else◌}
 use Rattle.attr_records.specs.Paths.{path_cmp}
-use Rattle.attr_records.specs.PathLaws.{path_cmp_total}
 use Rattle.ordered_lists.specs.Order.{IsInOrder}
-use Rattle.attr_records.specs.Trees.{node_at}
-use Rattle.attr_records.specs.TreeLaws.{same_tree}
 use Rattle.attr_tables.specs.Records.{is_same_record}
-use Rattle.attr_tables.specs.RecordLaws.{same_record, record_itself}
-use Rattle.ordered_lists.specs.OrderLaws.{find_below, below_alike}
 use Rattle.attr_tables.specs.declared.records.Record.{Record}
 use Rattle.attr_tables.specs.declared.records.Record.TheVariants.{File, Dir, Link, Deleted}
 use Rattle.ordered_lists.specs.Merge.{merge}
-use Rattle.ordered_lists.specs.MergeLaws.{find-merge, IsInOrder-merge}
 
 -- records with their paths: a whole tree, or entries over one
 abbrev pub Rows : Type 0
@@ -43,6 +32,11 @@ is_marked (Some entry) = is_mark entry
 abbrev pub HasNoMarks : Rows → Type 0
 HasNoMarks [] = Unit {0}
 HasNoMarks (row ∷ rows) = (is_mark row.1 ≡ false) × HasNoMarks rows
+
+-- the rows that are no deletion marks
+abbrev pub without_marks : Rows → Rows
+without_marks [] = []
+without_marks (row ∷ rows) = if is_mark row.1 then without_marks rows else row ∷ without_marks rows
 
 -- rows that are a whole tree: in order, and without deletion marks
 pub record IsWhole (rows : Rows) : Type 0 where

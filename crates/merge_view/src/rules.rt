@@ -2,7 +2,6 @@ ghost use Rattle.std.specs.Prelude.{◌≡◌, Option};
 ghost use Rattle.std.specs.Option.{option_copied};
 ghost use Rattle.attr_tables.specs.declared.records.Record.{Record};
 ghost use Rattle.merge_view.specs.Views.{laid, difference, upper, needed};
-ghost use Rattle.merge_view.specs.Tables.{shown};
 ghost use Rattle.merge_view.specs.Chosen.{chosen};
 
 use attr_tables::Record;
@@ -36,35 +35,6 @@ impl PathRule for Laid {
     fn choose(left: Option<&Record>, _right: Option<&Record>) -> Choice {
         match left {
             None => Choice::Right,
-            Some(entry) => {
-                if entry.is_mark() {
-                    Choice::Nothing
-                } else {
-                    Choice::Left
-                }
-            }
-        }
-    }
-}
-
-/// Entries over a filled table, whose deletion marks count as nothing.
-pub struct Shown;
-
-impl PathRule for Shown {
-    ghost gives = { shown };
-
-    fn choose(left: Option<&Record>, right: Option<&Record>) -> Choice {
-        match left {
-            None => match right {
-                None => Choice::Nothing,
-                Some(filled) => {
-                    if filled.is_mark() {
-                        Choice::Nothing
-                    } else {
-                        Choice::Right
-                    }
-                }
-            },
             Some(entry) => {
                 if entry.is_mark() {
                     Choice::Nothing

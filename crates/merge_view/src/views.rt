@@ -5,10 +5,11 @@ ghost use Rattle.attr_records.specs.Paths.{path_cmp};
 ghost use Rattle.ordered_lists.specs.Order.{IsInOrder};
 ghost use Rattle.attr_records.specs.Trees.{node_at};
 ghost use Rattle.merge_view.specs.Views.{Rows, IsWhole, laid, difference, upper, needed, view, reverse, stacked, trimmed};
-ghost use Rattle.merge_view.specs.Tables.{whole, stack, reverses, oldest, AllInOrder};
+ghost use Rattle.merge_view.specs.Tables.{whole, reverses, oldest};
 
+use crate::merges::Merge;
 use crate::merging::merge;
-use crate::rules::{Difference, Laid, Needed, Shown, Upper};
+use crate::rules::{Difference, Laid, Needed, Upper};
 use attr_records::PathName;
 use attr_tables::{Record, Table, find};
 use std::alloc::{AllocError, Global};
@@ -61,46 +62,21 @@ pub fn trimmed(alloc: Global, tree: &Table, entries: &Table) -> Result<Table, Al
     Ok(Table::from_rows(rows))
 }
 
-/// All entries laid over each other, those of the last table uppermost, or want of memory. They are put
-/// together in halves, so that each row is copied once for each time that the tables can be halved.
-#[tactic(auto, using(crate::proofs::Orders::stacks))]
-fn stack(alloc: Global, tables: &[Table]) -> Result<Table, AllocError>
-    ensures value { IfOk result (λ entries. entries ≡ stack tables.now) }
-    ensures in_order { IfOk result (λ _. AllInOrder tables.now) }
-{
-    match tables {
-        [] => Ok(Table::new(alloc)),
-        [table] => {
-            let rows = merge::<Upper>(alloc, table.rows(), Table::new(alloc).rows())?;
-            Ok(Table::from_rows(rows))
-        }
-        _ => {
-            let middle = tables.len() / 2;
-            let newer = stack(alloc, &tables[..middle])?;
-            let older = stack(alloc, &tables[middle..])?;
-            Ok(stacked(alloc, &older, &newer)?)
-        }
-    }
-}
-
-/// The tree that tables show, or want of memory. The first is that of a filled backup, and each next one
-/// holds the entries of the next older backup. The filled table is passed over once, after the entries of the
-/// others are laid over each other. If the tables are what a list of trees is stored as, this is the last.
-#[tactic(auto, using(crate::proofs::Orders::stacks))]
+/// The tree that tables show, or want of memory: one pass over all of them, which copies each row of the tree once.
+/// The first is that of a filled backup, and each next one holds the entries of the next older backup. If the tables
+/// are what a list of trees is stored as, this is the last.
 pub fn whole(alloc: Global, tables: &[Table]) -> Result<Table, AllocError>
     ensures value { IfOk result (λ tree. tree ≡ whole tables.now) }
     ensures is_whole { IfOk result (λ tree. IsWhole tree) }
     ensures stored { IfOk result (λ tree. (filled : Rows) (trees : List Rows) → IsWhole filled → AllByRecursion IsWhole trees
         → tables.now ≡ filled ∷ reverses filled trees → tree ≡ oldest filled trees) }
 {
-    match tables {
-        [] => Ok(Table::new(alloc)),
-        [filled, others @ ..] => {
-            let entries = stack(alloc, others)?;
-            let rows = merge::<Shown>(alloc, entries.rows(), filled.rows())?;
-            Ok(Table::from_rows(rows))
-        }
+    let mut merge = Merge::new(alloc, tables)?;
+    let mut rows = Vec::new(alloc);
+    'given: while let Some(row) = merge.next() {
+        rows.push(row.copy(alloc)?)?;
     }
+    Ok(Table::from_rows(rows))
 }
 
 /// What an entry makes of what is there without it.
