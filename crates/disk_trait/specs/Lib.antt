@@ -6,3 +6,4 @@ pub mod Memory
 pub mod Image
 pub mod Order
 pub mod Maps
+pub mod ScriptImages

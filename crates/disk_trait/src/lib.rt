@@ -13,6 +13,7 @@ mod list;
 mod log;
 mod map;
 mod memory;
+mod script_images;
 
 pub use bytes::Bytes;
 pub use disk::{Disk, DiskError, Failed};
@@ -20,3 +21,4 @@ pub use ids::{FileId, PoolId};
 pub use image::Choice;
 pub use list::FileList;
 pub use memory::{DiskRoom, MemoryDisk};
+pub use script_images::{ScriptImage, ScriptImages};

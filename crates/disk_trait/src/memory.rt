@@ -28,7 +28,7 @@ pub struct DiskRoom {
 /// syncs that are past its room, and no others. A call that failed takes none of the room. Its
 /// moments are counted from 0, too: each change and sync that it kept makes one, a change that
 /// failed among them.
-#[derive(Debug, Drop)]
+#[derive(Debug)]
 pub struct MemoryDisk {
     log: Log,
     fails: Vec<u64>,
@@ -36,6 +36,19 @@ pub struct MemoryDisk {
     whole: DiskRoom,
     faults: u64,
     ghost is_whole: { IsWhole log } by { IsWhole-prop log },
+}
+
+/// Written out: what is in it is then dropped here, for the prover too, and not in each crate above.
+impl Drop for MemoryDisk {
+    fn drop(self) {
+        let MemoryDisk {
+            log: _,
+            fails: _,
+            calls: _,
+            whole: _,
+            faults: _,
+        } = self;
+    }
 }
 
 /// Whether the call is one of these.

@@ -136,18 +136,26 @@ fn expect_image(
     Ok(())
 }
 
-#[test]
-fn images_at_each_moment_with_each_choice(rt: HostRuntime) -> Result<(), Fail> {
-    let alloc = rt.alloc();
+/// A disk with eight moments, one of whose calls failed.
+fn changed_disk(alloc: Global) -> Result<MemoryDisk, Fail> {
     let fails = Vec::from_array(alloc, [4])?;
     let mut disk = MemoryDisk::new(alloc, fails, AMPLE)?;
     disk.write(FileId::Head, b"a")?;
     disk.sync()?;
     disk.write(TABLE, b"t")?;
     disk.append(FileId::Head, b"b")?;
-    assert!(rt; disk.write(STAGE, b"s").is_err());
+    if disk.write(STAGE, b"s").is_ok() {
+        return Err(Fail::new("no call fails"));
+    }
     disk.remove(FileId::Head)?;
     disk.sync()?;
+    Ok(disk)
+}
+
+#[test]
+fn images_at_each_moment_with_each_choice(rt: HostRuntime) -> Result<(), Fail> {
+    let alloc = rt.alloc();
+    let disk = changed_disk(alloc)?;
     assert_eq!(rt; disk.moment(), 7);
     let rows = [
         (" - - -", " - - -", " - - -"),
@@ -164,6 +172,55 @@ fn images_at_each_moment_with_each_choice(rt: HostRuntime) -> Result<(), Fail> {
         expect_image(alloc, &disk, moment, Choice::Absent, absent)?;
         expect_image(alloc, &disk, moment, Choice::One(b'!'), one)?;
     }
+    Ok(())
+}
+
+/// Fails where an image isn't the one of this moment and this choice, or holds anything else than that.
+fn expect_given(
+    alloc: Global,
+    disk: &MemoryDisk,
+    image: &ScriptImage,
+    moment: usize,
+    choice: Choice,
+) -> Result<(), Fail> {
+    if image.moment != moment || image.choice != choice || moment > disk.moment() {
+        return Err(Fail::new("an image of another moment or choice"));
+    }
+    let mut given = image.disk.image(alloc, 0, Choice::Written)?;
+    let mut asked = disk.image(alloc, moment, choice)?;
+    if held(alloc, &mut given)?.as_slice() != held(alloc, &mut asked)?.as_slice() {
+        return Err(Fail::new("another image"));
+    }
+    Ok(())
+}
+
+/// How many images are handed out, each with its moment and its choice, and with what the image holds that is asked for by these.
+fn images_given(alloc: Global, disk: &MemoryDisk, choices: &[Choice]) -> Result<usize, Fail> {
+    let mut images = disk.script_images(choices);
+    for count in 0..100usize {
+        let Some(image) = images.next(alloc)? else {
+            return Ok(count);
+        };
+        let moment = count.checked_div(choices.len()).unwrap_or(0);
+        let place = count.checked_rem(choices.len()).unwrap_or(0);
+        let choice = choices.get(place).copied().unwrap_or(Choice::Written);
+        expect_given(alloc, disk, &image, moment, choice)?;
+    }
+    Err(Fail::new("images without an end"))
+}
+
+#[test]
+fn images_one_by_one_are_those_of_each_moment_with_each_choice(
+    rt: HostRuntime,
+) -> Result<(), Fail> {
+    let alloc = rt.alloc();
+    let disk = changed_disk(alloc)?;
+    let three = [Choice::Written, Choice::Absent, Choice::One(b'!')];
+    assert_eq!(rt; images_given(alloc, &disk, &three)?, 24);
+    assert_eq!(rt; images_given(alloc, &disk, &[Choice::Absent])?, 8);
+    assert_eq!(rt; images_given(alloc, &disk, &[])?, 0);
+    let blank = MemoryDisk::new(alloc, Vec::new(alloc), AMPLE)?;
+    assert_eq!(rt; images_given(alloc, &blank, &three)?, 3);
     Ok(())
 }
 

@@ -195,7 +195,7 @@ fn run_with_fault(alloc: Global, call: u64) -> Result<(u8, u8), AllocError> {
 #[test]
 fn each_fault_halts_until_it_is_reopened(rt: HostRuntime) -> Result<(), Fail> {
     let alloc = rt.alloc();
-    for call in 0..22u64 {
+    for call in 0..24u64 {
         let (state, promised) = run_with_fault(alloc, call)?;
         assert!(rt;
             state == promised || (promised < state && state < 3),
@@ -225,16 +225,49 @@ fn foreign_bytes(alloc: Global, disk: MemoryDisk) -> Option<Bytes> {
     }
 }
 
+/// The call of a first commit that makes an open Gate durable: behind two of the opening, the write of Intent and its sync, and
+/// the write of Gate.
+const GATE_SYNC: u64 = 5;
+
+/// Whether the disk has these bytes in Intent, and this one in Gate.
+fn is_laid_out(alloc: Global, disk: &mut MemoryDisk, intent: &[u8], gate: u8) -> bool {
+    match (
+        disk.read(alloc, FileId::Intent),
+        disk.read(alloc, FileId::Gate),
+    ) {
+        (Ok(Some(found)), Ok(Some(byte))) => {
+            found.as_slice() == intent && byte.as_slice() == [gate].as_slice()
+        }
+        _ => false,
+    }
+}
+
+/// The disk of a journal that made the changes to 2, or failed this of its calls.
+fn disk_after(alloc: Global, fails: &[u64]) -> Result<Option<MemoryDisk>, AllocError> {
+    let disk = MemoryDisk::new(alloc, Vec::from_slice(alloc, fails)?, ROOM)?;
+    match Journal::open(alloc, disk) {
+        Ok(mut journal) => {
+            let done = journal.commit(alloc, &changes_to(alloc, 2)?);
+            if done.is_ok() == fails.is_empty() {
+                Ok(Some(journal.close()))
+            } else {
+                Ok(None)
+            }
+        }
+        Err(_) => Ok(None),
+    }
+}
+
 #[test]
 fn intent_and_gate_are_laid_out(rt: HostRuntime) -> Result<(), Fail> {
     let alloc = rt.alloc();
-    let disk = MemoryDisk::new(alloc, Vec::new(alloc), ROOM)?;
-    let mut journal = Journal::open(alloc, disk).ok().expect(&rt, "no journal");
-    assert!(rt; journal.commit(alloc, &changes_to(alloc, 2)?).is_ok());
-    let intent = journal.get(alloc, FileId::Intent).expect(&rt, "read");
-    assert_eq!(rt; intent.expect(&rt, "there").as_slice(), INTENT.as_slice());
-    let gate = journal.get(alloc, FileId::Gate).expect(&rt, "read");
-    assert_eq!(rt; gate.expect(&rt, "there").as_slice(), b"C".as_slice());
+    let mut cut = disk_after(alloc, &[GATE_SYNC])?.expect(&rt, "no fault");
+    assert!(rt; is_laid_out(alloc, &mut cut, &INTENT, b'O'));
+    let opened = Journal::open(alloc, cut).ok().expect(&rt, "no journal");
+    let mut opened = opened.close();
+    assert!(rt; is_laid_out(alloc, &mut opened, b"", b'C'));
+    let mut done = disk_after(alloc, &[])?.expect(&rt, "no commit");
+    assert!(rt; is_laid_out(alloc, &mut done, b"", b'C'));
     Ok(())
 }
 
