@@ -32,7 +32,7 @@ impl From<AllocError> for BadHostName {
 
 /// The name of a host: 1 to 64 bytes of `a` to `z`, `0` to `9`, `.`, `_` and `-`, the first a letter or
 /// a digit.
-#[derive(Debug, Drop)]
+#[derive(Debug)]
 pub struct HostName {
     bytes: Vec<u8>,
 }
@@ -43,6 +43,13 @@ impl Model for HostName {
     ghost view = { λ h. h.bytes.items };
 
     ghost invariant = { λ h. is_host_name h.bytes.items ≡ true };
+}
+
+/// Written out: what is in it is then dropped here, for the prover too, and not in each crate above.
+impl Drop for HostName {
+    fn drop(self) {
+        let HostName { bytes: _ } = self;
+    }
 }
 
 impl HostName {
@@ -108,7 +115,7 @@ impl From<AllocError> for BadTarget {
 }
 
 /// The target of a link: 1 to 4,096 bytes of UTF-8 without a byte 0.
-#[derive(Debug, Drop)]
+#[derive(Debug)]
 pub struct LinkTarget {
     bytes: Vec<u8>,
 }
@@ -119,6 +126,13 @@ impl Model for LinkTarget {
     ghost view = { λ t. t.bytes.items };
 
     ghost invariant = { λ t. is_link_target t.bytes.items ≡ true };
+}
+
+/// Written out: what is in it is then dropped here, for the prover too, and not in each crate above.
+impl Drop for LinkTarget {
+    fn drop(self) {
+        let LinkTarget { bytes: _ } = self;
+    }
 }
 
 impl LinkTarget {

@@ -49,7 +49,7 @@ impl From<AllocError> for BadPath {
 
 /// A path: 1 to 4,096 bytes of UTF-8, components of 1 to 255 bytes joined by slashes, without a byte
 /// 0, and no component `.` or `..`. Paths are ordered component by component, each by its bytes.
-#[derive(Debug, Drop)]
+#[derive(Debug)]
 pub struct PathName {
     bytes: Vec<u8>,
 }
@@ -60,6 +60,13 @@ impl Model for PathName {
     ghost view = { λ p. p.bytes.items };
 
     ghost invariant = { λ p. broken_path_rule p.bytes.items ≡ None };
+}
+
+/// Written out: what is in it is then dropped here, for the prover too, and not in each crate above.
+impl Drop for PathName {
+    fn drop(self) {
+        let PathName { bytes: _ } = self;
+    }
 }
 
 impl PathName {

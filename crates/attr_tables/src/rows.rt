@@ -9,7 +9,7 @@ use std::cmp::Ordering;
 use std::marker::Model;
 
 /// A path and what a table says of it.
-#[derive(Debug, Drop)]
+#[derive(Debug)]
 pub struct Row {
     path: PathName,
     node: Record,
@@ -25,6 +25,13 @@ impl Model for Row {
     ghost view = { λ r. (r.path, r.node) };
 
     ghost invariant = { λ r. IsSound r.node };
+}
+
+/// Written out: what is in it is then dropped here, for the prover too, and not in each crate above.
+impl Drop for Row {
+    fn drop(self) {
+        let Row { path: _, node: _ } = self;
+    }
 }
 
 impl Row {
@@ -53,7 +60,8 @@ impl Row {
         ensures value { result ≡ self }
         ensures sound { IsSound result.1 }
     {
-        (self.path, self.node)
+        let Row { path, node } = self;
+        (path, node)
     }
 
     /// An equal row, or want of memory.

@@ -42,7 +42,7 @@ pub enum PushFault {
 }
 
 /// Rows in the order of their paths, one for each path.
-#[derive(Debug, Drop)]
+#[derive(Debug)]
 pub struct Table {
     rows: Vec<Row>,
 }
@@ -58,6 +58,13 @@ impl Model for Table {
     ghost view = { λ t. t.rows.items };
 
     ghost invariant = { λ t. IsInOrder path_cmp t.rows.items };
+}
+
+/// Written out: what is in it is then dropped here, for the prover too, and not in each crate above.
+impl Drop for Table {
+    fn drop(self) {
+        let Table { rows: _ } = self;
+    }
 }
 
 impl Table {
@@ -83,7 +90,8 @@ impl Table {
         ensures rows { result.items ≡ self }
         ensures in_order { IsInOrder path_cmp result.items }
     {
-        self.rows
+        let Table { rows } = self;
+        rows
     }
 
     pub fn rows(&self) -> &[Row]

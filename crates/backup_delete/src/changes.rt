@@ -14,7 +14,7 @@ use std::alloc::{AllocError, Global};
 use std::marker::Model;
 
 /// What becomes of the table of a backup, by its number: another table, or none where it is removed.
-#[derive(Debug, Drop)]
+#[derive(Debug)]
 pub struct TableChange {
     number: u32,
     table: Option<Table>,
@@ -27,6 +27,16 @@ impl Model for TableChange {
     ghost Value = { ℕ × Option (List (List ℕ × Record)) };
 
     ghost view = { λ c. (c.number, c.table) };
+}
+
+/// Written out: what is in it is then dropped here, for the prover too, and not in each crate above.
+impl Drop for TableChange {
+    fn drop(self) {
+        let TableChange {
+            number: _,
+            table: _,
+        } = self;
+    }
 }
 
 impl TableChange {
@@ -53,7 +63,8 @@ impl TableChange {
     pub fn into_parts(self) -> (u32, Option<Table>)
         ensures { result ≡ self }
     {
-        (self.number, self.table)
+        let TableChange { number, table } = self;
+        (number, table)
     }
 }
 

@@ -66,7 +66,7 @@ fn may_stand(len: usize, index: usize, filled: bool) -> bool
 
 /// What the store knows of a host. The numbers of its lines strictly rise and are below the next one, which is at most
 /// 2^32, and the last line is filled.
-#[derive(Debug, Drop)]
+#[derive(Debug)]
 pub struct HostIndex {
     host: u32,
     name: HostName,
@@ -86,6 +86,21 @@ impl Model for HostIndex {
     ghost view = { λ i. index_of i.host i.name i.rules i.good i.bad i.next i.lines };
 
     ghost invariant = { λ i. IsSound i.next i.lines };
+}
+
+/// Written out: what is in it is then dropped here, for the prover too, and not in each crate above.
+impl Drop for HostIndex {
+    fn drop(self) {
+        let HostIndex {
+            host: _,
+            name: _,
+            rules: _,
+            good: _,
+            bad: _,
+            next: _,
+            lines: _,
+        } = self;
+    }
 }
 
 impl HostIndex {

@@ -13,7 +13,7 @@ use std::alloc::{AllocError, Global};
 use std::marker::Model;
 
 /// New values for some settings, each in its range.
-#[derive(Debug, Drop)]
+#[derive(Debug)]
 pub struct RuleChange {
     numbers: Named,
     full_keep_cnt: Option<KeepCounts>,
@@ -31,6 +31,18 @@ impl Model for RuleChange {
     ghost view = { λ c. change_from c.numbers c.full_keep_cnt c.blackout_periods c.old_full_keep_cnt };
 
     ghost invariant = { λ c. IsChange (change_from c.numbers c.full_keep_cnt c.blackout_periods c.old_full_keep_cnt) };
+}
+
+/// Written out: what is in it is then dropped here, for the prover too, and not in each crate above.
+impl Drop for RuleChange {
+    fn drop(self) {
+        let RuleChange {
+            numbers: _,
+            full_keep_cnt: _,
+            blackout_periods: _,
+            old_full_keep_cnt: _,
+        } = self;
+    }
 }
 
 /// Equal numbers, where there are some.

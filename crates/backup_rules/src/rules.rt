@@ -12,7 +12,7 @@ use std::alloc::{AllocError, Global};
 use std::marker::Model;
 
 /// The settings of a host, each in its range.
-#[derive(Debug, Drop)]
+#[derive(Debug)]
 pub struct Rules {
     numbers: Numbers,
     full_keep_cnt: KeepCounts,
@@ -29,6 +29,18 @@ impl Model for Rules {
     ghost view = { λ r. rules_from r.numbers r.full_keep_cnt r.blackout_periods r.old_full_keep_cnt };
 
     ghost invariant = { λ r. IsRules (rules_from r.numbers r.full_keep_cnt r.blackout_periods r.old_full_keep_cnt) };
+}
+
+/// Written out: what is in it is then dropped here, for the prover too, and not in each crate above.
+impl Drop for Rules {
+    fn drop(self) {
+        let Rules {
+            numbers: _,
+            full_keep_cnt: _,
+            blackout_periods: _,
+            old_full_keep_cnt: _,
+        } = self;
+    }
 }
 
 impl Rules {

@@ -26,7 +26,7 @@ impl NodeKind {
 }
 
 /// A record that may be put: no deletion mark, and with a content exactly where it is a File of some bytes.
-#[derive(Debug, Drop)]
+#[derive(Debug)]
 pub struct Node {
     inner: Record,
 }
@@ -42,6 +42,13 @@ impl Model for Node {
     ghost view = { λ n. n.inner };
 
     ghost invariant = { λ n. IsSound n.inner × (is_mark n.inner ≡ false) };
+}
+
+/// Written out: what is in it is then dropped here, for the prover too, and not in each crate above.
+impl Drop for Node {
+    fn drop(self) {
+        let Node { inner: _ } = self;
+    }
 }
 
 impl Node {

@@ -13,10 +13,16 @@ use folder_trait::{Folder, FolderFault};
 use std::alloc::Global;
 
 /// A directory that was made, and isn't finished.
-#[derive(Drop)]
 pub(crate) struct OpenDir {
     pub path: PathName,
     pub dir: Dir,
+}
+
+/// Written out: what is in it is then dropped here, for the prover too, and not in each crate above.
+impl Drop for OpenDir {
+    fn drop(self) {
+        let OpenDir { path: _, dir: _ } = self;
+    }
 }
 
 /// Whether a path lies within a directory.

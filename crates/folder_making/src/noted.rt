@@ -16,10 +16,16 @@ use std::alloc::Global;
 use tree_frames::FileNode;
 
 /// A file that was made, of a group of hard links.
-#[derive(Drop)]
 pub(crate) struct Noted {
     pub path: PathName,
     pub node: FileNode,
+}
+
+/// Written out: what is in it is then dropped here, for the prover too, and not in each crate above.
+impl Drop for Noted {
+    fn drop(self) {
+        let Noted { path: _, node: _ } = self;
+    }
 }
 
 /// Whether attributes are equal.

@@ -44,7 +44,7 @@ fn row_of(alloc: Global, directory: Option<&PathName>, found: Found) -> Result<R
     ensures row { IfOk result (λ row. row ≡ row_in (option_copied directory.entry) found) }
     ensures cause { IfErr result (IsRowFault (path_in (option_copied directory.entry) found.name)) }
 {
-    let Found { name, node } = found;
+    let (name, node) = found.into_parts();
     let Ok(bytes) = joined(alloc, directory, name.as_slice()) else {
         return Err(DumpRefusal::Memory);
     };

@@ -9,7 +9,7 @@ use tree_office::TreeOffice;
 type TestPort = DirectPort<MemoryDisk, Md5Namer>;
 
 const ROOM: DiskRoom = DiskRoom {
-    changes: 200,
+    changes: 400,
     bytes: 20_000,
 };
 

@@ -12,10 +12,17 @@ use ordered_lists::Entry;
 use std::cmp::Ordering;
 
 /// The name of a host, and its number.
-#[derive(Debug, Drop)]
+#[derive(Debug)]
 pub(crate) struct NamedHost {
     pub(crate) name: HostName,
     pub(crate) number: u32,
+}
+
+/// Written out: what is in it is then dropped here, for the prover too, and not in each crate above.
+impl Drop for NamedHost {
+    fn drop(self) {
+        let NamedHost { name: _, number: _ } = self;
+    }
 }
 
 impl Entry for NamedHost {

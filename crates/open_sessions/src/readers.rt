@@ -10,7 +10,6 @@ use pool_name::Namer;
 use std::alloc::{AllocError, Global};
 
 /// An open reader of a file's content. `S` is a digest that is being made.
-#[derive(Drop)]
 pub struct OpenReader<S: Drop> {
     pub number: u64,
     /// The content, unless it is empty.
@@ -22,6 +21,20 @@ pub struct OpenReader<S: Drop> {
     pub digest: S,
     /// The digest of the whole content, if that isn't the one in its name.
     pub wrong: Option<[u8; 16]>,
+}
+
+/// Written out: what is in it is then dropped here, for the prover too, and not in each crate above.
+impl<S: Drop> Drop for OpenReader<S> {
+    fn drop(self) {
+        let OpenReader {
+            number: _,
+            content: _,
+            size: _,
+            given: _,
+            digest: _,
+            wrong: _,
+        } = self;
+    }
 }
 
 /// The open readers, in the order of opening: so their numbers strictly rise.

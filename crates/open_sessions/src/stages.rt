@@ -11,7 +11,6 @@ use std::alloc::{AllocError, Global};
 
 /// An open stage: bytes of a large file of a dump, which come piece by piece into a file of their own. `S` is a digest that
 /// is being made.
-#[derive(Drop)]
 pub struct OpenStage<S: Drop> {
     pub number: u64,
     /// The dump that it belongs to.
@@ -20,6 +19,18 @@ pub struct OpenStage<S: Drop> {
     pub size: u64,
     /// Their digest.
     pub digest: S,
+}
+
+/// Written out: what is in it is then dropped here, for the prover too, and not in each crate above.
+impl<S: Drop> Drop for OpenStage<S> {
+    fn drop(self) {
+        let OpenStage {
+            number: _,
+            dump: _,
+            size: _,
+            digest: _,
+        } = self;
+    }
 }
 
 /// The open stages, in the order of opening: so their numbers strictly rise.

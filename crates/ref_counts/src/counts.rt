@@ -14,7 +14,7 @@ use std::cmp::Ordering;
 use std::marker::Model;
 
 /// How often each content of the pool is named: items in the order of their ids, each with a number of at least 1.
-#[derive(Debug, Drop)]
+#[derive(Debug)]
 pub struct Counts {
     items: Vec<CountItem>,
 }
@@ -29,6 +29,13 @@ impl Model for Counts {
     ghost view = { λ c. c.items.items };
 
     ghost invariant = { λ c. AreCounts c.items.items };
+}
+
+/// Written out: what is in it is then dropped here, for the prover too, and not in each crate above.
+impl Drop for Counts {
+    fn drop(self) {
+        let Counts { items: _ } = self;
+    }
 }
 
 impl Counts {

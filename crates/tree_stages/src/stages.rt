@@ -14,7 +14,6 @@ use std::marker::Model;
 use tree_parts::{Dump, LAST_SEQUENCE, dump_index};
 
 /// An open stage of an open dump.
-#[derive(Drop)]
 pub struct Stage {
     number: u64,
     dump: SessionName,
@@ -27,6 +26,17 @@ impl Model for Stage {
     ghost Value = { StageValue };
 
     ghost view = { λ s. record { number = s.number; dump = s.dump; bytes = s.bytes.items } };
+}
+
+/// Written out: what is in it is then dropped here, for the prover too, and not in each crate above.
+impl Drop for Stage {
+    fn drop(self) {
+        let Stage {
+            number: _,
+            dump: _,
+            bytes: _,
+        } = self;
+    }
 }
 
 impl Stage {

@@ -8,14 +8,14 @@ use Rattle.store_commits.proofs.build.build.Goals as goal
 
 pub settle-requires : goal.settle-requires
 settle-requires g c =
-    listed_given _ c.in_ok-ids.ids.items c.deref.result.now c.args.rows c.rows-2.result.now c.in_ok-ids.ensures c.rows-2.ensures.rows c.deref.ensures.value
+    listed_given _ c.in_ok-ids.ids.items c.deref.result.now c.args.rows c.rows.result.now c.in_ok-ids.ensures c.rows.ensures.rows c.deref.ensures.value
 
 pub returns : goal.returns
 returns g c =
-    built_of c.args.parts.now c.args.host c.args.lines c.args.gathered.folding c.args.gathered.counts c.args.rows c.rows-2.result.now
+    built_of c.args.parts.now c.args.host c.args.lines c.args.gathered.folding c.args.gathered.counts c.args.rows c.rows.result.now
     c.is_none.result c.in_ok-catalog.catalog c.in_ok-index.index c.take_changes-pooled.new.self c.take_changes-pooled.result c.changes.result.now
     c.in_ok-changes.changes c.in_ok-files.files
-    c.is_none.ensures c.in_ok-catalog.ensures.proposes c.in_ok-catalog.ensures.fits c.rows-2.ensures.rows
+    c.is_none.ensures c.in_ok-catalog.ensures.proposes c.in_ok-catalog.ensures.fits c.rows.ensures.rows
     (subst (λ (ids : List PoolId). IsOf c.in_ok-index.index ids [] [] []) (c.deref.ensures.value ∙ c.in_ok-ids.ensures)
     c.in_ok-index.ensures.added)
     c.in_ok-index.ensures.leads

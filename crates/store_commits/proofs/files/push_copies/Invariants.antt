@@ -1,6 +1,0 @@
--- The changes so far, and the copies of those that are left.
-use Rattle.std.proofs.Common.{◌≡◌, ◌++◌, drop}
-use Rattle.store_commits.proofs.files.push_copies.Given as goal
-
-abbrev pub invariant-loop-change : goal.invariant-loop-change
-invariant-loop-change l = l.changes ++ drop l.change-index l.others ≡ l.fn.changes ++ l.others
