@@ -125,7 +125,7 @@ module _ {D N S : Type 0} {d : DiskGhosts D} {n : NamerGhosts N S} where
   table_of mid new E.Hosts file found of_night says = absurd says.1
   table_of mid new (E.Expire name now) file found of_night says =
       let here = says.0 in
-      let said = says.1 here.place here.index here.named here.here in
+      let said = says.1.0 here.place here.index here.named here.here in
       let damaged = said.1 here.index here.here in
       record {
         host = here.place;
@@ -137,7 +137,7 @@ module _ {D N S : Type 0} {d : DiskGhosts D} {n : NamerGhosts N S} where
           none = damaged.no_table.none;
         };
       }
-  table_of mid new (E.Clean bucket) file found of_night says = absurd says.1
+  table_of mid new (E.Clean bucket) file found of_night says = absurd says.1.0
   table_of mid new E.Sweep file found of_night says = absurd says.1.0
   table_of mid new event file found of_night says = absurd of_night
 

@@ -1,6 +1,8 @@
 //! What is said of words that are no line.
-ghost use Rattle.std.specs.Prelude.{◌≡◌, ◌++◌, List, ℕ, IfOk};
+ghost use Rattle.std.specs.Prelude.{◌≡◌, ◌++◌, [], List, ℕ, IfOk, map};
 ghost use Rattle.std.specs.String.{string_bytes};
+ghost use Rattle.clap.specs.Faults.{fault_of};
+ghost use Rattle.command_line.specs.Commands.{program_app};
 ghost use Rattle.command_line.specs.Line.{usage};
 
 use crate::commands::program;
@@ -11,8 +13,11 @@ use std::alloc::{AllocError, Global};
 pub const USAGE: &str =
     "usage: backup_server pipe --store DIR [--settings FILE]\n       backup_server serve --listen ADDR [--connections N] --store DIR [--settings FILE]\n       backup_server night [--scheduled] --store DIR [--settings FILE]\n       backup_server dump-folder --host H --kind full|incr --store DIR [--settings FILE] FOLDER\n       backup_server restore-folder --host H --number N --store DIR [--settings FILE] FOLDER\n       backup_server demo --store DIR [--settings FILE] NUMBER";
 
-/// clap's own message of what is wrong in the words, and nothing of words that it takes.
-fn message_of(alloc: Global, words: &[String]) -> Result<String, AllocError> {
+/// clap's own message of what is wrong in the words, and nothing of words that it takes. What it says of others is in no clause, since
+/// the `Display` of clap's error states no text.
+fn message_of(alloc: Global, words: &[String]) -> Result<String, AllocError>
+    ensures { fault_of program_app (map string_bytes words.now) ≡ [] → IfOk result (λ text. string_bytes text ≡ []) }
+{
     let command = program(alloc)?;
     match command.try_get_matches_from(words) {
         Ok(_) => Ok(String::new(alloc)),
@@ -37,7 +42,8 @@ fn with_usage(text: String) -> Result<String, AllocError>
 /// What standard error is told of words that are no line: clap's own message of what is wrong in them, and then the usage. Of
 /// words that clap takes, as those that are a line and those with a bad host or kind, there is no message.
 pub fn complaint(alloc: Global, words: &[String]) -> Result<String, AllocError>
-    ensures { IfOk result (λ text. (message : List ℕ) × (string_bytes text ≡ message ++ usage)) }
+    ensures usage { IfOk result (λ text. (message : List ℕ) × (string_bytes text ≡ message ++ usage)) }
+    ensures taken { fault_of program_app (map string_bytes words.now) ≡ [] → IfOk result (λ text. string_bytes text ≡ usage) }
 {
     let message = message_of(alloc, words)?;
     with_usage(message)

@@ -99,6 +99,7 @@ module _ {D N S : Type 0} {d : DiskGhosts D} {n : NamerGhosts N S} where
           (event_left state at);
       in_kind = runs.in_kind;
       damaged = tells old.parts event reply new.parts there says;
+      reopens = λ is. absurd (false≢true (sym other ∙ ap is_reopen is));
       counted = runs.counted;
     }
 
@@ -122,6 +123,7 @@ module _ {D N S : Type 0} {d : DiskGhosts D} {n : NamerGhosts N S} where
       crash = λ state at. FindsOnly-still old.parts.journal (MayRecover n.digest_of state event);
       in_kind = tt;
       damaged = tt;
+      reopens = λ is. absurd (false≢true (sym other ∙ ap is_reopen is));
       counted = counted_still (d.fault_count old.parts.journal.disk) (Err HaltedReply ≡ Err DiskFault) (λ e. absurd cc);
     }
 
@@ -138,6 +140,7 @@ module _ {D N S : Type 0} {d : DiskGhosts D} {n : NamerGhosts N S} where
         crash = crash;
         in_kind = reopens.in_kind;
         damaged = reopening_tells old.parts reply new.parts reopens;
+        reopens = λ is. reopens;
         counted = reopens.counted;
       })
 

@@ -1,4 +1,5 @@
 -- What an answer says of the files that its event called for, over any disk that tells its files.
+--     IsStill none old reply new      an event that finds nothing to be done reads and writes nothing
 --     IsThere old event reply      Ok and Damaged are said only of a host, a restore or a reader that is there
 --     NextSays, PartSays, PutSays, SweepSays, ReopeningSays      of a restore's next frame, of a reader's next part, of a put, of a sweep and
 --         of a reopening
@@ -12,6 +13,8 @@ use Rattle.pool_name.specs.declared.namer.Namer.{Ghosts as NamerGhosts}
 use Rattle.backup_index.specs.Index.{Index}
 use Rattle.journal_view.specs.View.{told}
 use Rattle.office_catalog.specs.Known.{host_named, names_of}
+use Rattle.office_model.specs.declared.answer.Answer.{Answer}
+use Rattle.office_model.specs.declared.answer.Answer.TheVariants.{Cleaned, Expired}
 use Rattle.office_model.specs.declared.event.Event.{Event}
 use Rattle.office_model.specs.declared.event.Event.TheVariants as E
 use Rattle.office_model.specs.declared.event.PutItem.{PutItem}
@@ -76,6 +79,10 @@ module _ {D N S : Type 0} {d : DiskGhosts D} {n : NamerGhosts N S} where
   ReopeningSays old (Err (R.Damaged file found)) new = IsForeignTo (d.files old.journal.disk) (d.files new.journal.disk) file found
   ReopeningSays old (Err refusal) new = ⊤
 
+  -- if this was answered, that nothing was to be done, the parts are as they were, and so is the disk: no call was made of it
+  abbrev pub IsStill : Answer → StoreParts D N S d n → Reply → StoreParts D N S d n → Type 0
+  IsStill none old reply new = reply ≡ Ok none → new ≡ old
+
   -- of a store at work, or one that was reopened; the other events call for no file, and say of none that it is damaged
   abbrev pub SaysOfFiles : StoreParts D N S d n → Event → Reply → StoreParts D N S d n → Type 0
   SaysOfFiles old (E.List host number directory) reply new =
@@ -97,9 +104,11 @@ module _ {D N S : Type 0} {d : DiskGhosts D} {n : NamerGhosts N S} where
   SaysOfFiles old (E.Delete host number) reply new =
       (place : ℕ) → Some place ≡ host_named (names_of old.catalog.hosts) host → SaysOfTables old new place (number ∷ []) reply
   SaysOfFiles old (E.Expire host now) reply new =
-      (place : ℕ) (index : Index) → Some place ≡ host_named (names_of old.catalog.hosts) host
+      ((place : ℕ) (index : Index) → Some place ≡ host_named (names_of old.catalog.hosts) host
       → slice_get old.catalog.hosts place ≡ Some index
-      → SaysOfTables old new place (named_numbers index.rules now index.lines) reply
+      → SaysOfTables old new place (named_numbers index.rules now index.lines) reply)
+      × IsStill (Expired 0) old reply new
+  SaysOfFiles old (E.Clean bucket) reply new = IsUndamaged reply × IsStill (Cleaned 0 0 0) old reply new
   SaysOfFiles old E.Reopen reply new = ReopeningSays old reply new
   SaysOfFiles old event reply new = IsUndamaged reply
 

@@ -17,7 +17,7 @@ use Rattle.store_parts.specs.Held.{IsEither}
 use Rattle.store_parts.specs.States.{InState}
 use Rattle.store_parts.specs.Runs.{Steps, MayRecover as MayRecoverOf}
 use Rattle.store_opening.specs.Begins.{MayLeave}
-use Rattle.store_opening.specs.Reopens.{first_of, second_of}
+use Rattle.store_opening.specs.Reopens.{first_of, second_of, Reopens}
 use Rattle.office_store.specs.declared.store.Store.{Store}
 use Rattle.office_store.specs.Damage.{TellsDamage}
 
@@ -38,11 +38,13 @@ MayRecover digest_of state event found = LeftBy digest_of (is_reopen event) stat
 module _ {D N S : Type 0} {d : DiskGhosts D} {n : NamerGhosts N S} where
   -- The store answered an event: from each state that it was in by a step to a state that it is in; and a crash meanwhile leaves
   -- what an opening finds to be an office of that step. Over any disk an answer is of the event's kind, and says of the files that were
-  -- called for whether they are damaged.
+  -- called for whether they are damaged. Of a reopening its own promise holds, too: from the first sync that succeeded on a crash leaves
+  -- one of the two offices alone, and after Ok the used names are those of the disk's Pool files.
   pub record Serves (old : Store D N S d n) (event : Event) (reply : Reply) (new : Store D N S d n) : Type 0 where
     pub steps : (state : State) → InState old.parts state → Steps state event reply new.parts
     pub crash : (state : State) → InState old.parts state
         → FindsOnly old.parts.journal new.parts.journal (MayRecover n.digest_of state event)
     pub in_kind : IfOk reply (IsAnswerTo event)
     pub damaged : TellsDamage old.parts event reply new.parts
+    pub reopens : event ≡ Reopen → Reopens old.parts reply new.parts
     pub counted : Counted (d.fault_count old.parts.journal.disk) (d.fault_count new.parts.journal.disk) (reply ≡ Err DiskFault)

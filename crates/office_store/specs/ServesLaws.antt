@@ -1,14 +1,15 @@
 -- What follows from the promise of an event.
 --     start_found      what an opening finds before the event, it may find after a crash during it
---     serves_left, serves_found      what an opening finds after a crash since its start
+--     serves_left      what an opening finds in what a crash since its start left;  serves_next      and on a disk that starts from that
 use Rattle.std.proofs.Common.{◌≡◌, Bool, true, false, sym, subst, inl, ⊎_elim, arith}
 use Rattle.disk_trait.specs.declared.disk.Disk.{Ghosts as DiskGhosts}
 use Rattle.disk_trait.specs.Files.{Files}
 use Rattle.pool_name.specs.declared.namer.Namer.{Ghosts as NamerGhosts}
 use Rattle.intent_journal.specs.declared.journal.Journal.{Journal}
-use Rattle.journal_view.specs.Found.{Finds, IsAlikeBut}
-use Rattle.journal_view.specs.FoundLaws.{finds_each}
-use Rattle.journal_view.specs.View.{OnlyNow, uncertain, moment, FindsNow, FindsOnly, FoundSince}
+use Rattle.journal_view.specs.Found.{Finds, FindsAll, IsAlikeBut}
+use Rattle.journal_view.specs.Chain.{Crashed}
+use Rattle.journal_view.specs.ChainLaws.{crash_then}
+use Rattle.journal_view.specs.View.{OnlyNow, uncertain, moment, FindsNow, FindsOnly}
 use Rattle.journal_view.specs.ViewLaws.{FindsNow-each, working_finds}
 use Rattle.office_model.specs.declared.event.Event.{Event}
 use Rattle.office_model.specs.Office.{Office, Names}
@@ -72,7 +73,8 @@ module _ {D N S : Type 0} {d : DiskGhosts D} {n : NamerGhosts N S} where
         found_since old.parts.journal new.parts.journal (MayRecover n.digest_of state event) only (start_found old state event at)
         (serves.crash state at)
 
-    pub serves_found : (found : Files) → FoundSince new.parts.journal (moment old.parts.journal) found
-        → MayRecover n.digest_of state event found
-    serves_found found since =
-        finds_each (MayRecover n.digest_of state event) since.image found (serves_left since.image since.left) since.in_image
+    pub serves_next : (next : D) → Crashed d old.parts.journal.disk new.parts.journal.disk next
+        → FindsAll (d.files next) (d.uncertain next) (MayRecover n.digest_of state event)
+    serves_next next crashed =
+        crash_then d only (MayRecover n.digest_of state event) old.parts.journal.disk new.parts.journal.disk next crashed.image crashed.all
+        (start_found old state event at) (serves.crash state at) crashed.left crashed.told crashed.same crashed.certain

@@ -19,10 +19,12 @@
 #![tactic(auto)]
 
 mod apply;
+mod laws;
 mod opening;
 mod port;
 mod store;
 
+pub use laws::a_crash_leaves_what_the_event_may;
 pub use port::DirectPort;
 pub use store::Store;
 pub use store_opening::OpenRefusal;

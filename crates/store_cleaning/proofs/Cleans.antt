@@ -1,4 +1,5 @@
 -- What a cleaning of a bucket leaves.
+--     none_counted      an answer of three numbers that are none
 --     protected_is_kept      a live name is kept exactly if its content is protected
 --     cleans_bad, cleans_nothing, cleans_refused, cleans      the answers
 use Rattle.std.specs.Prelude.{◌≡◌, ◌<◌, ◌≤◌, ◌/◌, ◌==◌, ◌&&◌, ◌||◌, nat_le, nat_lt, ℕ, Bool, true, false, List, [], ◌∷◌, length, Result, Option, Some, None, Ok, Err, is_some, option_map, if◌then◌else◌}
@@ -134,6 +135,14 @@ all_none a b c e = step (a == 0) refl (b == 0) refl (c == 0) refl e
     step true f true g false h e = absurd (false≢true (sym e))
     step true f false g r h e = absurd (false≢true (sym e))
     step false f q g r h e = absurd (false≢true (sym e))
+
+pub none_counted : (a b c : ℕ) (reply : Result Answer Refusal) → reply ≡ Ok (Cleaned a b c) → reply ≡ Ok (Cleaned 0 0 0)
+    → (a ≡ 0) × (b ≡ 0) × (c ≡ 0)
+none_counted a b c reply is none =
+    let first : a ≡ 0 = cc (is, none) in
+    let second : b ≡ 0 = cc (is, none) in
+    let third : c ≡ 0 = cc (is, none) in
+    (first, second, third)
 
 pub not_none : (a b c : ℕ) → false ≡ ((a == 0 && b == 0) && c == 0) → (a ≡ 0) × (b ≡ 0) × (c ≡ 0) → ⊥
 not_none a b c e none =

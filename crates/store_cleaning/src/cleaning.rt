@@ -1,6 +1,7 @@
 //! The cleaning of a bucket of the pool.
 
-ghost use Rattle.std.specs.Prelude.{◌≡◌, ◌==◌, ◌&&◌, false};
+ghost use Rattle.std.specs.Prelude.{◌≡◌, ◌==◌, ◌&&◌, false, Ok};
+ghost use Rattle.office_model.specs.declared.answer.Answer.TheVariants.{Cleaned};
 ghost use Rattle.office_model.specs.declared.event.Event.TheVariants.{Clean};
 ghost use Rattle.office_model.specs.History.{IsUndamaged};
 ghost use Rattle.store_parts.specs.Runs.{Runs};
@@ -33,6 +34,7 @@ pub fn clean<D: Disk, N: Namer>(
     requires { parts.old.journal.halted ≡ false }
     ensures runs { Runs parts.old (Clean bucket) result parts.new }
     ensures undamaged { IsUndamaged result }
+    ensures still { result ≡ Ok (Cleaned 0 0 0) → parts.new ≡ parts.old }
 {
     if bucket >= BUCKETS {
         return Err(Refusal::Broken(BrokenRule::BadBucket));

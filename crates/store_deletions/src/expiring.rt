@@ -1,8 +1,9 @@
 //! The event Expire.
 
-ghost use Rattle.std.specs.Prelude.{◌≡◌, ℕ, Some, slice_get, false};
+ghost use Rattle.std.specs.Prelude.{◌≡◌, ℕ, Some, Ok, slice_get, false};
 ghost use Rattle.backup_index.specs.Index.{Index};
 ghost use Rattle.office_catalog.specs.Known.{host_named, names_of};
+ghost use Rattle.office_model.specs.declared.answer.Answer.TheVariants.{Expired};
 ghost use Rattle.office_model.specs.declared.event.Event.TheVariants.{Expire};
 ghost use Rattle.store_parts.specs.Runs.{Runs};
 ghost use Rattle.store_deletions.specs.Called.{SaysOfTables, HasHost};
@@ -33,6 +34,7 @@ pub fn expire<D: Disk, N: Namer>(
         → slice_get parts.old.catalog.hosts place ≡ Some index
         → SaysOfTables parts.old parts.new place (named_numbers index.rules now index.lines) result }
     ensures host { HasHost parts.old host.now result }
+    ensures still { result ≡ Ok (Expired 0) → parts.new ≡ parts.old }
 {
     let at = parts.host(host)?;
     let numbers = named_numbers(alloc, &parts.catalog.hosts()[at], now)?;

@@ -1,6 +1,6 @@
 use Rattle.std.proofs.Common.{refl}
 use Rattle.store_parts.specs.RefusedLaws.{runs_no_memory}
-use Rattle.store_cleaning.proofs.Cleans.{beyond, below, all_none, not_none, cleaned_by, written_by, cleans_bad, cleans_nothing, cleans_refused, cleans}
+use Rattle.store_cleaning.proofs.Cleans.{beyond, below, all_none, not_none, none_counted, cleaned_by, written_by, cleans_bad, cleans_nothing, cleans_refused, cleans}
 use Rattle.store_parts.specs.UndamagedLaws.{undamaged_memory, undamaged_write}
 use Rattle.store_cleaning.proofs.cleaning.clean.Goals as goal
 
@@ -36,3 +36,8 @@ returns-in_err-cleaning-clause-undamaged g c = undamaged_memory c.from_residual.
 
 pub returns-in-Err-clause-undamaged : goal.returns-in-Err-clause-undamaged
 returns-in-Err-clause-undamaged g c = undamaged_write c.in-Err.refusal c.in-Err.ensures.kind
+
+pub returns-clause-still : goal.returns-clause-still
+returns-clause-still g c = λ is.
+    absurd (not_none _ _ _ c.if-changes_nothing.ensures
+    (none_counted c.in_ok-cleaning.cleaning.marked c.in_ok-cleaning.cleaning.unmarked c.in_ok-cleaning.cleaning.removed _ refl is))

@@ -13,7 +13,7 @@ use Rattle.store_deletions.specs.RunLaws.{runs_still}
 use Rattle.store_deletions.proofs.Flagging.{few_named}
 use Rattle.store_deletions.specs.Shortens.{named_numbers}
 use Rattle.store_deletions.proofs.Calling.{said_again, said_broken, said_memory, said_of_host, said_none, hostless_broken, hostless_memory, has_host}
-use Rattle.store_deletions.proofs.Lookups.{index_there, none_there, some_there}
+use Rattle.store_deletions.proofs.Lookups.{index_there, none_there, some_there, some_expired}
 use Rattle.store_deletions.proofs.expiring.expire.Goals as goal
 
 pub returns-in_err-at-clause-runs : goal.returns-in_err-at-clause-runs
@@ -129,3 +129,7 @@ returns-clause-host g c =
     c.in_ok-at.ensures.within c.index-hosts-at.is in
     has_host {A = Answer} c.args.parts.now c.args.host.now c.in_ok-at.at c.index-hosts-at.result c.in_ok-at.ensures.found there
     (Err c.in-Err.refusal)
+
+pub returns-in-Ok-clause-still : goal.returns-in-Ok-clause-still
+returns-in-Ok-clause-still g c = λ is.
+    absurd (some_expired c.as_slice-named.result.now _ (sym c.is_empty.ensures ∙ c.if-is_empty.false) refl is)
