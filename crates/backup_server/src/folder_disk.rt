@@ -9,6 +9,7 @@ use crate::open_files::most_handles;
 use crate::pending::Pending;
 use crate::reading::{Reader, Readers, room_for};
 use crate::store_folder::{Access, Opened, make_folder, open_file};
+use crate::store_state::StoreState;
 use crate::told::Told;
 use disk_trait::{Bytes, Disk, DiskError, Failed, FileId, FileList};
 use file_names::file_named;
@@ -36,6 +37,7 @@ pub struct FolderDisk<H: Threads + Drop> {
     pending: Pending,
     readers: Readers,
     is_doubtful: bool,
+    state: StoreState,
     told: Told,
     faults: FaultCount,
 }
@@ -54,6 +56,7 @@ impl<H: Threads + Drop> FolderDisk<H> {
             pending: Pending::new(alloc, most_handles()),
             readers: Readers::new(alloc),
             is_doubtful: false,
+            state: StoreState::default(),
             told: Told::new(alloc),
             faults: FaultCount::new(),
         })
@@ -187,7 +190,7 @@ impl<H: Threads + Drop> FolderDisk<H> {
         }
     }
 
-    /// Says on standard error what failed, and why: a cause at most once a minute.
+    /// Says on standard error what failed, and why: a cause at most once a minute. Then, if it halts the store, that.
     fn note(&mut self, fault: DiskFault)
         ensures { self.new.faults ≡ self.old.faults }
     {
@@ -195,6 +198,17 @@ impl<H: Threads + Drop> FolderDisk<H> {
             let rt = &self.rt;
             let folder = self.path.as_str();
             let _ = eprintln!(rt; "{folder}{fault}");
+        }
+        let change = self.state.failed();
+        self.tell(change);
+    }
+
+    /// Says on standard error what becomes of the store, if anything does.
+    fn tell(&self, change: Option<&str>) {
+        if let Some(change) = change {
+            let rt = &self.rt;
+            let folder = self.path.as_str();
+            let _ = eprintln!(rt; "{folder}: {change}");
         }
     }
 }
@@ -248,6 +262,7 @@ impl<H: Threads + Drop> Disk for FolderDisk<H> {
     ghost tells = { λ disk other told. told };
 
     fn read(&mut self, alloc: Global, file: FileId) -> Result<Option<Bytes>, DiskError> {
+        self.state.reads(file);
         match answer_of(self.bytes_of(alloc, file)) {
             Found::Some(bytes) => Ok(Some(Bytes::from_vec(bytes))),
             Found::Absent => Ok(None),
@@ -294,8 +309,13 @@ impl<H: Threads + Drop> Disk for FolderDisk<H> {
     }
 
     fn write(&mut self, file: FileId, bytes: &[u8]) -> Result<(), Failed> {
+        self.state.writes(file, bytes);
         match self.put(file, bytes) {
-            Ok(()) => Ok(()),
+            Ok(()) => {
+                let change = self.state.wrote(file, bytes);
+                self.tell(change);
+                Ok(())
+            }
             Err(error) => {
                 self.faults.raise();
                 self.note(DiskFault::of_file(file, error));
@@ -329,6 +349,8 @@ impl<H: Threads + Drop> Disk for FolderDisk<H> {
     /// After a failure each later sync fails too.
     fn sync(&mut self) -> Result<(), Failed> {
         if self.is_doubtful {
+            let change = self.state.failed();
+            self.tell(change);
             self.faults.raise();
             return Err(Failed);
         }

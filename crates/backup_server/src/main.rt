@@ -10,6 +10,7 @@ mod reading;
 mod serving;
 mod standard_streams;
 mod store_folder;
+mod store_state;
 mod system_clock;
 mod tcp_door;
 mod tcp_link;
