@@ -192,11 +192,11 @@ def fill(program, store, limit=None, under=()):
 
 def ended_full(run, refused, reasons=(27, 28), name=""):
     """What is wrong with the end of a run whose disk failed: a line for each cause has the file (of this name, if one is given)
-    or the folder, and the reason; the note comes behind them."""
+    or the folder, and the reason; behind it stands that the store was halted, and that it was reopened; the note comes last."""
     status, said = run.end()
     if refused not in (None, 500, 503):
         return f"a disk that failed was answered by {refused}"
-    lines = said.splitlines()
+    lines = [line for line in said.splitlines() if not line.endswith((": halted: reopen or restart", ": reopened"))]
     if status == 4 and lines[-1:] == ["disk failed"]:
         lines.pop()
     ends = tuple(f"{name}: {text} (os error {reason})" for reason in reasons for text in [os.strerror(reason)])
@@ -274,16 +274,17 @@ def full_disks(score, program, room):
 
 
 def last_room(score, program, room):
-    """A content that doesn't fit leaves the disk as much room as before it: the run goes on, and the store can be opened again."""
+    """A content that doesn't fit leaves the disk as much room as before it: the run goes on, and the store can be opened again. One
+    of more than 65,536 bytes takes its room twice until the next sweep, as a stage and in the pool."""
     place = os.path.join(room, "last_room")
     if not mount(place, "size=1m"):
         print("skipped: the last room of a disk, since no tmpfs can be mounted here", flush=True)
         return
     try:
         store = os.path.join(place, "store")
-        run, kept = Run(program, store), {0: b"1" * 900_000}
+        run, kept = Run(program, store), {0: b"1" * 400_000}
         answers = [run.ask(request("PUT /hosts/pc1"))]
-        for dump, body in (("1-0", kept[0]), ("1-1", b"2" * 900_000)):
+        for dump, body in (("1-0", kept[0]), ("1-1", b"2" * 400_000)):
             answers.append(run.ask(request("POST /hosts/pc1/dumps?kind=full")))
             answers.append(run.ask(request(f"PUT /dumps/{dump}/entry?path=f&kind=file", body)))
             if body == kept[0]:

@@ -137,6 +137,24 @@ kept=http://$address
     curl -s "$kept/hosts/pc2/backups/0/file?path=a.txt"
 } >said
 judge 'a dump, a night and a file given back, by serve' '{"host":"pc2"}{}{"number":0}hello'
+
+# A folder in the place of the journal fails each commit; what becomes of the store is told at that moment.
+rm kept/intent
+mkdir kept/intent
+{
+    curl -s -X PUT "$kept/hosts/pc3"
+    curl -s "$kept/stats"
+    curl -s -X POST "$kept/reopen"
+    rmdir kept/intent
+    curl -s -X POST "$kept/reopen"
+    curl -s -X PUT "$kept/hosts/pc3"
+} >said
+judge 'a halt and a reopening' '{"refused":"DiskFault"}{"refused":"Halted"}{"refused":"DiskFault"}{"epoch":2}{"host":"pc3"}'
+sed 1d listening >said
+judge 'a halt and a reopening are told' 'kept/intent: Is a directory (os error 21)
+kept: halted: reopen or restart
+kept: halted: reopen or restart
+kept: reopened'
 kill "$server"
 wait "$server"
 

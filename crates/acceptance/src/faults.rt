@@ -41,7 +41,7 @@ fn a_fault_of_the_disk_has_its_status(rt: HostRuntime) -> Result<(), Fail> {
 }
 
 /// How many calls of the disk the run has: most are of the opening, which looks for each file of the pool's index.
-const CALLS: u64 = 294;
+const CALLS: u64 = 297;
 
 /// A host of the name `a`.
 const ADD: &str = "PUT /hosts/a HTTP/1.1\r\nHost: b\r\n\r\n";

@@ -235,7 +235,7 @@ fn a_head_has_at_most_16384_bytes(rt: HostRuntime) -> Result<(), Fail> {
 }
 
 /// Heads that aren't taken, and the status and the name of what refuses them.
-const BAD_HEADS: [(&str, &str, &str); 8] = [
+const BAD_HEADS: [(&str, &str, &str); 13] = [
     ("GET /stats HTTP/1.1\r\n\r\n", "400 Bad Request", "BadHead"),
     (
         "GET /stats HTTP/1.1\r\nHost: a\r\nHost: a\r\n\r\n",
@@ -254,6 +254,26 @@ const BAD_HEADS: [(&str, &str, &str); 8] = [
         "BadHead",
     ),
     (
+        "PUT /hosts/a HTTP/1.1\r\nHost: b\r\nContent-Length: 1\r\nContent-Length: 2\r\n\r\nx",
+        "400 Bad Request",
+        "BadHead",
+    ),
+    (
+        "PUT /hosts/a HTTP/1.1\r\nHost: b\r\nContent-Length: 1\r\nTransfer-Encoding: chunked\r\n\r\n0\r\n\r\n",
+        "400 Bad Request",
+        "BadHead",
+    ),
+    (
+        "PUT /hosts/a HTTP/1.0\r\nTransfer-Encoding: chunked\r\n\r\n0\r\n\r\n",
+        "400 Bad Request",
+        "BadHead",
+    ),
+    (
+        "PUT /hosts/a HTTP/1.1\r\nHost: b\r\nTransfer-Encoding: chunked\r\nTransfer-Encoding: chunked\r\n\r\n0\r\n\r\n",
+        "411 Length Required",
+        "NoLength",
+    ),
+    (
         "PUT /hosts/a HTTP/1.1\r\nHost: b\r\nTransfer-Encoding: chunked, gzip\r\n\r\n0\r\n\r\n",
         "411 Length Required",
         "NoLength",
@@ -265,6 +285,11 @@ const BAD_HEADS: [(&str, &str, &str); 8] = [
     ),
     (
         "PUT /hosts/a HTTP/1.1\r\nHost: b\r\nContent-Length: 99999999999999999999\r\n\r\n",
+        "413 Payload Too Large",
+        "FileTooLarge",
+    ),
+    (
+        "PUT /hosts/a HTTP/1.1\r\nHost: b\r\nContent-Length: 999999999999999999999999999999\r\n\r\n",
         "413 Payload Too Large",
         "FileTooLarge",
     ),

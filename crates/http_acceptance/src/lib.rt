@@ -1,6 +1,6 @@
 //! What HTTP/1.1 gives over the plain office in memory and over the store by the command `pipe`, shown by examples, and nothing
-//! else: whole exchanges in exact bytes, bodies in chunks and in pieces, refusals of routes, queries and paths in their order, texts in JSON, and inputs that end
-//! early, at every byte.
+//! else: whole exchanges in exact bytes, bodies in chunks and in pieces, refusals of routes, queries and paths in their order, texts in JSON, the limits of a head, a
+//! length and the hosts, and inputs that end early, at every byte.
 #![tactic(auto)]
 
 #[cfg(test)]
@@ -9,6 +9,8 @@ mod bodies;
 mod cuts;
 #[cfg(test)]
 mod exchanges;
+#[cfg(test)]
+mod limits;
 #[cfg(test)]
 mod ports;
 #[cfg(test)]

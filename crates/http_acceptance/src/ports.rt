@@ -247,9 +247,10 @@ pub fn expect_from_office(
     expect_over(alloc, &mut office, input, output, end)
 }
 
-/// Fails where the command `pipe` over a new store doesn't answer an input so, or ends otherwise.
-fn expect_from_store(
+/// Fails where the command `pipe` over a store on this disk doesn't answer an input so, or ends otherwise.
+pub fn expect_from_store(
     rt: &impl Machine,
+    disk: MemoryDisk,
     input: &[&str],
     output: &[&str],
     end: &End,
@@ -259,7 +260,6 @@ fn expect_from_store(
     for word in ["backup_server", "pipe", "--store", "store"] {
         words.push(String::from_str(alloc, word)?)?;
     }
-    let disk = new_disk(alloc)?;
     let link = link_of(alloc, input)?;
     let mut clock = new_clock();
     let workers: Vec<Worker<ListDoor, FixedClock, OpenGate>> = Vec::new(alloc);
@@ -290,13 +290,14 @@ fn expect_from_store(
     Err(Fail::new(format_args!("{note:?}, {sent:?}")))
 }
 
-/// Fails where an input isn't answered so by a plain office and by a store, or a connection doesn't end so.
+/// Fails where an input isn't answered so by a plain office and by a new store, or a connection doesn't end so.
 pub fn expect_both(
     rt: &impl Machine,
     input: &[&str],
     output: &[&str],
     end: &End,
 ) -> Result<(), Fail> {
-    expect_from_office(rt.alloc(), input, output, end)?;
-    expect_from_store(rt, input, output, end)
+    let alloc = rt.alloc();
+    expect_from_office(alloc, input, output, end)?;
+    expect_from_store(rt, new_disk(alloc)?, input, output, end)
 }

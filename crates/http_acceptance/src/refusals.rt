@@ -121,7 +121,7 @@ fn the_first_broken_rule_refuses(rt: HostRuntime) -> Result<(), Fail> {
 }
 
 /// Texts that are no UTF-8 or hold U+FFFD itself, keys that their route doesn't take, keys that it lacks, and values of another form.
-const QUERIES: [Refused; 28] = [
+const QUERIES: [Refused; 32] = [
     ("GET /stats?%C3=", BAD, "BadQuery.Utf8"),
     (
         "DELETE /dumps/1-0/entry?path=a%EF%BF%BDb",
@@ -154,6 +154,13 @@ const QUERIES: [Refused; 28] = [
         "BadQuery.Repeated",
     ),
     (
+        "POST /hosts/pc1/dumps?kind=full&kind=full",
+        BAD,
+        "BadQuery.Repeated",
+    ),
+    ("PUT /dumps/1-0/entry", BAD, "BadQuery.Missing"),
+    ("DELETE /dumps/1-0/entry", BAD, "BadQuery.Missing"),
+    (
         "PUT /dumps/1-0/entry?path=a;kind=file",
         BAD,
         "BadQuery.Missing",
@@ -161,6 +168,7 @@ const QUERIES: [Refused; 28] = [
     ("POST /hosts/pc1/backups/0/keep", BAD, "BadQuery.Missing"),
     ("POST /night/clean?", BAD, "BadQuery.Missing"),
     ("POST /hosts/pc1/dumps?kind=Full", BAD, "BadQuery.Value"),
+    ("POST /hosts/pc1/dumps?kind=x", BAD, "BadQuery.Value"),
     ("POST /hosts/pc1/dumps?kind", BAD, "BadQuery.Value"),
     ("POST /hosts/pc1/backups/0/keep?on=2", BAD, "BadQuery.Value"),
     ("POST /hosts/pc1/contacts?good=true", BAD, "BadQuery.Value"),

@@ -1,7 +1,7 @@
 //! What a store keeps, shown by examples of the whole program, and nothing else: contents of one digest, trees over several backups
-//! with the exact bytes of their tables, the last number of a host, stops and faults around a commit's decision, nights and stops in
-//! one, what goes by the clock, dumps at the edge of what is usual, and files that were altered. Each test is a talk over `pipe`: requests,
-//! line by line, and the answers to them.
+//! with the exact bytes of their tables, the last number of a host, stops and faults around a commit's decision, nights, what goes by
+//! the clock, dumps at the edge of what is usual, and files that were altered. Each test is a talk over `pipe`: requests, line by line,
+//! and the answers to them.
 #![tactic(auto)]
 
 #[cfg(test)]
@@ -12,8 +12,6 @@ mod edges;
 mod hours;
 #[cfg(test)]
 mod last_number;
-#[cfg(test)]
-mod night_stops;
 #[cfg(test)]
 mod nights;
 #[cfg(test)]

@@ -1,22 +1,17 @@
 //! Stops in a night, whose leavings are compared with what the office in memory answers.
 
+use crate::plain::office_answers;
 use admin_cli::Note;
-use backup_rules::Rules;
-use browse_http::{End, Interface, Served, serve_connection};
 use disk_trait::{Choice, MemoryDisk};
 use pool_name::Md5Namer;
-use request_events::Defaults;
 use std::alloc::{AllocError, Global};
 use std::test::Fail;
 use store_talks::scripts::Step::{Ask, Clean, Dump, Expire};
 use store_talks::scripts::{At, Put, Script, expect_script};
 use store_talks::talks::{
-    CHOICES, DONE, HOST, Machine, NOW, Row, START, blank_disk, clock_of, expect, image_of, pipe,
-    put_request,
+    CHOICES, DONE, HOST, Machine, NOW, Row, START, blank_disk, expect, image_of, pipe, put_request,
 };
-use stream_traits::{MemoryLink, OpenGate};
 use tree_office::TreeOffice;
-use wake_schedule::Zone;
 
 /// Five backups: a full, two incrementals that become unfilled, and two fulls.
 const DAYS: &[At] = &[
@@ -67,38 +62,6 @@ fn questions(alloc: Global) -> Result<Vec<u8>, AllocError> {
         put_request(&mut bytes, alloc, ask, "")?;
     }
     Ok(bytes)
-}
-
-/// The interface with the default rules, and UTC.
-fn interface(alloc: Global) -> Result<Interface, Fail> {
-    let Ok(zone) = Zone::read("UTC") else {
-        return Err(Fail::new("no zone"));
-    };
-    let rules = Rules::defaults(alloc)?;
-    Ok(Interface::new(alloc, Defaults { rules, zone })?)
-}
-
-/// What the office in memory answers.
-fn office_answers(
-    alloc: Global,
-    office: &mut TreeOffice<Md5Namer>,
-    seconds: &[u64],
-    input: Vec<u8>,
-) -> Result<Vec<u8>, Fail> {
-    let link = MemoryLink::new(alloc, input, 65_536, Vec::new(alloc))?;
-    let mut clock = clock_of(alloc, seconds)?;
-    let Served { end, link } = serve_connection(
-        alloc,
-        office,
-        link,
-        &mut clock,
-        &mut OpenGate,
-        &interface(alloc)?,
-    );
-    match end {
-        End::Ended => Ok(Vec::from_slice(alloc, link.output())?),
-        _ => Err(Fail::new("the office in memory didn't answer")),
-    }
 }
 
 /// The days, and the first events of the night.
