@@ -277,12 +277,14 @@ fn an_index_is_edited_and_written(rt: HostRuntime) -> Result<(), Fail> {
 
 #[test]
 fn edits_that_break_a_rule(rt: HostRuntime) -> Result<(), Fail> {
-    let mut index = empty_index(rt.alloc())?;
-    expect(index.append(FULL).is_err(), "the last isn't filled")?;
+    let alloc = rt.alloc();
+    let mut index = empty_index(alloc)?;
     index.append(FILLED)?;
     expect(index.replace(0, FULL).is_err(), "the last isn't filled")?;
     expect(index.append(FILLED).is_err(), "a number twice")?;
-    expect(index.next() == 1, "another next number")
+    expect(index.next() == 1, "another next number")?;
+    let mut empty = empty_index(alloc)?;
+    expect(empty.append(FULL).is_err(), "the first isn't filled")
 }
 
 #[test]
