@@ -1,6 +1,6 @@
 //! The pieces of a body.
 
-ghost use Rattle.std.specs.Prelude.{◌≡◌, ◌||◌, nat_le, vec_len, [], IfOk, IfErr, OnOk, IsErrOf};
+ghost use Rattle.std.specs.Prelude.{◌≡◌, ◌≤◌, ◌||◌, nat_le, vec_len, vec_capacity, [], IfOk, IfErr, OnOk, IsErrOf};
 ghost use Rattle.fault_counts.specs.Counts.{Counted};
 ghost use Rattle.http_wire.specs.Wires.{left_of, written_of, faults_of};
 ghost use Rattle.http_bodies.specs.Bodies.{is_done};
@@ -10,7 +10,7 @@ use crate::body::Body;
 use crate::reading::step;
 use crate::stop::BodyStop;
 use http_wire::Wire;
-use std::alloc::Global;
+use std::alloc::{AllocError, Global};
 use stream_traits::{Faults, Link};
 
 /// The bytes of a piece, but for the last of a body.
@@ -28,7 +28,7 @@ pub fn next_piece<L: Link>(
     ensures written { written_of wire.new ≡ written_of wire.old }
     ensures counted { Counted (faults_of wire.old) (faults_of wire.new) (IsErrOf result BodyStop.LinkFault) }
 {
-    let mut piece = match Vec::with_capacity(alloc, body.piece_room()) {
+    let mut piece = match empty_piece(alloc, body) {
         Ok(piece) => piece,
         Err(_) => return Err(BodyStop::Memory),
     };
@@ -36,6 +36,15 @@ pub fn next_piece<L: Link>(
         Ok(()) => Ok(piece),
         Err(stop) => Err(stop),
     }
+}
+
+/// A piece without bytes yet, with room for no more than a full one, whatever length the body was announced with. What memory a piece has
+/// when it was filled is in no clause: that of a `Vec` to which bytes are added says only that its room doesn't shrink.
+fn empty_piece(alloc: Global, body: &Body) -> Result<Vec<u8>, AllocError>
+    ensures empty { IfOk result (λ piece. piece.items ≡ []) }
+    ensures room { IfOk result (λ piece. vec_capacity piece ≤ piece_size) }
+{
+    Vec::with_capacity(alloc, body.piece_room())
 }
 
 /// Whether the piece is full, or the body was read.

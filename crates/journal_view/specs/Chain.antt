@@ -5,11 +5,11 @@ use Rattle.std.specs.Prelude.{◌≡◌, ◌⊎◌, List, [], ◌∷◌, Some}
 use Rattle.disk_trait.specs.declared.ids.FileId.{FileId}
 use Rattle.disk_trait.specs.declared.disk.Disk.{Ghosts}
 use Rattle.disk_trait.specs.Files.{Files}
-use Rattle.disk_trait.specs.Images.{nothing, IsWithin, Leaves}
+use Rattle.disk_trait.specs.Images.{nothing, IsWithin}
 use Rattle.intent_journal.specs.declared.fault.OpenJournalFault.{OpenJournalFault}
 use Rattle.intent_journal.specs.declared.journal.Journal.{Journal}
 use Rattle.intent_journal.specs.Calls.{Opens, Refuses}
-use Rattle.journal_view.specs.Found.{Finds, FindsAll, CanFind}
+use Rattle.journal_view.specs.Found.{FindsAll, CanFind}
 
 -- an opening was tried, and came to an end
 abbrev pub IsTried : {D : Type 0} → Ghosts D → D → D → Type 0
@@ -52,18 +52,3 @@ AreRestartsOf {D} {d} journal disks = AreRestarts d journal.disk disks
 
 abbrev pub EachFindsOf : {D : Type 0} {d : Ghosts D} → Journal D d → List D → Type 0
 EachFindsOf {D} {d} journal disks = EachFinds d (CanFind (d.files journal.disk) (d.uncertain journal.disk)) disks
-
--- ---- lives: a run of any calls, and a crash
-
--- From a disk on which an opening finds what has P, a run of calls left nothing but what has Q; a crash since its start left an
--- image, from which a disk starts.
-pub record Lives {D : Type 0} (d : Ghosts D) (P Q : Files → Type 0) (start next : D) : Type 0 where
-  pub wider : (found : Files) → P found → Q found
-  pub stop : D
-  pub run : Leaves d.moment d.left_since start stop (Finds Q)
-  pub image : Files
-  pub left : d.left_since stop (d.moment start) image
-  pub all : Files
-  pub told : d.files next ≡ Some all
-  pub same : (asked : FileId) → all asked ≡ image asked
-  pub certain : IsWithin (d.uncertain next) nothing

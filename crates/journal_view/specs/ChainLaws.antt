@@ -10,10 +10,10 @@ use Rattle.intent_journal.specs.ChangesLaws.{applied_alike}
 use Rattle.intent_journal.specs.Layout.{is_open}
 use Rattle.intent_journal.specs.Overlay.{ComesTo}
 use Rattle.journal_view.specs.Found.{Finds, FindsAll}
-use Rattle.journal_view.specs.FoundLaws.{itself, finds_wider}
+use Rattle.journal_view.specs.FoundLaws.{itself}
 use Rattle.journal_view.specs.OpeningLaws.{recovered, refused_of}
 use Rattle.journal_view.specs.View.{OnlyNow}
-use Rattle.journal_view.specs.Chain.{IsTried, Restarts, Crashed, AreRestarts, EachFinds, Lives}
+use Rattle.journal_view.specs.Chain.{IsTried, Restarts, Crashed, AreRestarts, EachFinds}
 
 -- an opening and a crash
 pub restarts_of : {D : Type 0} (d : Ghosts D) (start stop next : D) → IsTried d start stop → Crashed d start stop next
@@ -96,9 +96,3 @@ restarts_find d only P start all [] is finds restarts = tt
 restarts_find d only P start all (next ∷ more) is finds restarts =
     let here = restarted d only P start next all is finds restarts.0 in
     (here, restarts_find d only P next restarts.0.all more restarts.0.told here restarts.1)
-
-pub lived : {D : Type 0} (d : Ghosts D) → OnlyNow d → (P Q : Files → Type 0) (start next : D)
-    → FindsAll (d.files start) (d.uncertain start) P → Lives d P Q start next → FindsAll (d.files next) (d.uncertain next) Q
-lived d only P Q start next finds life =
-    crash_then d only Q start life.stop next life.image life.all (λ image left. finds_wider P Q image life.wider (finds image left))
-    life.run life.left life.told life.same life.certain

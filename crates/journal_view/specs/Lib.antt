@@ -6,5 +6,3 @@ pub mod ViewLaws
 pub mod OpeningLaws
 pub mod Chain
 pub mod ChainLaws
-pub mod Beside
-pub mod BesideLaws

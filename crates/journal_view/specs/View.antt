@@ -4,11 +4,9 @@
 --     FindsOnly old new P      a crash since any earlier moment leaves what it left before, or what an opening finds to have P
 use Rattle.std.specs.Prelude.{◌≡◌, ◌⊎◌, ◌≤◌, ℕ, true, false, List, Option, Some, Result, Err, OnOk, is_some, option_map}
 use Rattle.fault_counts.specs.Counts.{Counted}
-use Rattle.disk_trait.specs.declared.ids.PoolId.{PoolId}
 use Rattle.disk_trait.specs.declared.ids.FileId.{FileId}
-use Rattle.disk_trait.specs.declared.ids.FileId.TheVariants.{Pool}
 use Rattle.disk_trait.specs.declared.disk.Disk.{Ghosts}
-use Rattle.disk_trait.specs.Names.{is_same_file, is_metadata}
+use Rattle.disk_trait.specs.Names.{is_same_file}
 use Rattle.disk_trait.specs.Files.{Files}
 use Rattle.disk_trait.specs.Images.{FileSet, nothing, also, IsWithin, MayLeave, Leaves}
 use Rattle.intent_journal.specs.declared.changes.Change.{Change}
@@ -18,11 +16,6 @@ use Rattle.intent_journal.specs.declared.journal.Journal.{Journal}
 use Rattle.intent_journal.specs.Changes.{applied}
 use Rattle.intent_journal.specs.Overlay.{intent_alone}
 use Rattle.journal_view.specs.Found.{seen, IsFoundIn, Finds, FindsAll, CanFind, IsAlikeBut}
-
--- found files have this metadata, and these contents
-pub record HasContents (given : PoolId → Type 0) (files found : Files) : Type 0 where
-  pub metadata : (asked : FileId) → is_metadata asked ≡ true → found asked ≡ files asked
-  pub contents : (id : PoolId) → given id → found (Pool id) ≡ files (Pool id)
 
 -- the files before a commit or after it, as an opening finds them
 abbrev pub IsOldOrNew : Files → FileSet → List Change → Files → Type 0

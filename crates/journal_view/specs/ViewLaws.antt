@@ -3,9 +3,7 @@ use Rattle.std.specs.Prelude.{◌≡◌, ◌⊎◌, ◌≤◌, ℕ, true, false,
 use Rattle.std.proofs.lemmas.Bool.{false≢true}
 use Rattle.std.proofs.Common.{inl, inr, ⊎_elim, refl, sym, ap, ◌∙◌, subst, arith}
 use Rattle.std.specs.Option.{ForSome}
-use Rattle.disk_trait.specs.declared.ids.PoolId.{PoolId}
 use Rattle.disk_trait.specs.declared.ids.FileId.{FileId}
-use Rattle.disk_trait.specs.declared.ids.FileId.TheVariants.{Pool}
 use Rattle.disk_trait.specs.declared.disk.Disk.{Ghosts}
 use Rattle.disk_trait.specs.Names.{is_same_file, same_file}
 use Rattle.disk_trait.specs.Files.{piece, IsListing, Files, SameButOne, changed, appended, with_bytes, with_more, bytes_of}
@@ -16,11 +14,11 @@ use Rattle.intent_journal.specs.declared.journal.Journal.{Journal}
 use Rattle.intent_journal.specs.Changes.{applied, AreChanges}
 use Rattle.intent_journal.specs.Overlay.{IsAtRest, IsBeforeOrAfter, intent_alone}
 use Rattle.intent_journal.specs.ChangesLaws.{either, with_bytes_there, with_bytes_other}
-use Rattle.intent_journal.specs.OverlayLaws.{start_image, also_other}
+use Rattle.intent_journal.specs.OverlayLaws.{start_image}
 use Rattle.intent_journal.specs.Calls.{Commits, Reads, Touches}
 use Rattle.journal_view.specs.Found.{ListsSeen, seen, is_seen, Finds, IsAlikeBut}
 use Rattle.journal_view.specs.FoundLaws.{finds_as, finds_wider, finds_each, but_seen, told_raw, rest_told, seen_applied, seen_there}
-use Rattle.journal_view.specs.View.{HasContents, IsOldOrNew, CountsNow, OnlyNow, told, uncertain, moment, MayFind, FoundSince, FindsNow, FindsOnly, Quiet, Committed, Staged}
+use Rattle.journal_view.specs.View.{IsOldOrNew, CountsNow, OnlyNow, told, uncertain, moment, MayFind, FoundSince, FindsNow, FindsOnly, Quiet, Committed, Staged}
 
 others_seen : (files others : Files) (asked : FileId) → others asked ≡ files asked → seen others asked ≡ seen files asked
 others_seen files others asked same = ap (λ (bytes : Option (List ℕ)). if is_seen asked then bytes else None) same
@@ -317,17 +315,3 @@ module _ {D : Type 0} {d : Ghosts D} where
           → OnErr r (SameButOne file (d.files old.disk) (d.files new.disk)) → SameButOne file (d.files old.disk) (d.files new.disk)
       whichever (Ok x) is_after failed = subst (λ (t : Option Files). SameButOne file (d.files old.disk) t) (sym is_after) same
       whichever (Err x) is_after failed = failed
-
-  -- what is listed stays in what is found while another file is staged or dropped
-  pub staged_keeps : (given : PoolId → Type 0) (old new : Journal D d) (id : PoolId) (all : Files)
-      → ((other : PoolId) → given other → is_same_file (Pool other) (Pool id) ≡ false)
-      → ((other : PoolId) → given other → uncertain old (Pool other) ≡ false)
-      → Staged old (Pool id) all new → FindsOnly old new (HasContents given all)
-  staged_keeps given old new id all apart certain staged =
-      FindsOnly-each (IsAlikeBut all (also (uncertain old) (Pool id))) (HasContents given all) old new
-      (λ found is. record {
-        metadata = is.metadata;
-        contents = λ other g. is.contents (Pool other) refl
-            (also_other (uncertain old) (Pool id) (Pool other) (apart other g) (certain other g));
-      })
-      staged.crash
