@@ -25,7 +25,8 @@ after_from_order before row more order = step (is_after path_cmp before row.0) r
     step true e = e
     step false e = absurd (not_rising path_cmp before row more e order)
 
-next_from_order : (layout : TableLayout) (before rows : Rows) → IsInOrder path_cmp (before ++ rows) → AllByRecursion (IsRow layout) rows
+-- rows in order, each of which is one of the layout, come next one behind the other, and back
+pub next_from_order : (layout : TableLayout) (before rows : Rows) → IsInOrder path_cmp (before ++ rows) → AllByRecursion (IsRow layout) rows
     → AreItems (IsNext layout) before rows
 next_from_order layout before [] order each = tt
 next_from_order layout before (row ∷ rows) order each = (
@@ -34,7 +35,7 @@ next_from_order layout before (row ∷ rows) order each = (
       (sym (append_assoc before (row ∷ []) rows)) order) each.1,
 )
 
-order_from_next : (layout : TableLayout) (before rows : Rows) → IsInOrder path_cmp before → AreItems (IsNext layout) before rows
+pub order_from_next : (layout : TableLayout) (before rows : Rows) → IsInOrder path_cmp before → AreItems (IsNext layout) before rows
     → IsInOrder path_cmp (before ++ rows) × AllByRecursion (IsRow layout) rows
 order_from_next layout before [] order are = (subst (λ (all : Rows). IsInOrder path_cmp all) (sym (append-nil before)) order, tt)
 order_from_next layout before (row ∷ rows) order are =

@@ -89,8 +89,10 @@ fn read_layout(reader: &mut Reader) -> Result<TableLayout, TableFault>
     }
 }
 
-/// Reads a row, wherever its path stands in the order.
-fn read_next(alloc: Global, reader: &mut Reader, layout: TableLayout) -> Result<Row, TableFault>
+/// The row that stands next, wherever its path stands in the order: its kind, its path, and what stands behind it. Refused
+/// exactly where none stands there, as `BadTable` at its first byte, or for want of memory; the reader may then stand behind
+/// what was read of it.
+pub fn next_row(alloc: Global, reader: &mut Reader, layout: TableLayout) -> Result<Row, TableFault>
     ensures { ReadsOrBreaks offset_of (λ row. row) (field (IsRow layout) (row_bytes layout)) reader.old result reader.new }
 {
     let start = reader.offset();
@@ -114,7 +116,7 @@ fn read_rows(
     let mut table = Table::new(alloc);
     for _i in 0..count {
         let start = reader.offset();
-        let row = read_next(alloc, reader, layout)?;
+        let row = next_row(alloc, reader, layout)?;
         match table.push(row) {
             Ok(()) => {}
             Err(PushFault::NotRising) => return Err(TableFault::BadTable(start)),

@@ -11,6 +11,7 @@
 //! | `TableLayout`, `TableFile` | `RTB1` or `RTB2`; a table with the layout that it was read in |
 //!
 //! `let file = read_table(alloc, &bytes)?` reads either layout; `write_table(alloc, &file.table)?` is always the second.
+//! A further layout that has rows of a table is read by `next_row` and written by `put_rows`.
 #![tactic(auto)]
 
 mod file;
@@ -21,9 +22,9 @@ mod rows;
 mod table;
 mod writing;
 
-pub use file::{TableFault, TableFile, read_table};
+pub use file::{TableFault, TableFile, next_row, read_table};
 pub use layouts::TableLayout;
 pub use records::{Record, StoredFile};
 pub use rows::Row;
 pub use table::{PushFault, Table, find, is_after};
-pub use writing::write_table;
+pub use writing::{put_rows, write_table};

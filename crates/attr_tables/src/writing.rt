@@ -118,8 +118,8 @@ fn put_row(out: &mut Vec<u8>, row: &Row) -> Result<(), AllocError>
     Ok(())
 }
 
-/// Writes rows, one behind the other.
-fn put_rows(out: &mut Vec<u8>, rows: &[Row]) -> Result<(), AllocError>
+/// Writes rows in the second layout, one behind the other, without their number; or some of them for want of memory.
+pub fn put_rows(out: &mut Vec<u8>, rows: &[Row]) -> Result<(), AllocError>
     ensures ok { OnOk result (out.new.items ≡ out.old.items ++ items_bytes (row_bytes TableLayout.Second) rows.now) }
     ensures fits { OnOk result (AllByRecursion (IsRow TableLayout.Second) rows.now) }
 {

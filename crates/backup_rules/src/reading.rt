@@ -233,8 +233,9 @@ pub fn read_rules(
     Ok(rules)
 }
 
-/// Reads a kind.
-fn read_kind(reader: &mut Reader) -> Result<Kind, FieldFault>
+/// Reads a kind, one byte: 1 full, 2 incremental. Refused exactly where another byte stands, or none; the reader may then stand
+/// behind it.
+pub fn read_kind(reader: &mut Reader) -> Result<Kind, FieldFault>
     ensures { Reads (λ kind. kind) (λ _. ⊤) kind_bytes reader.old result reader.new }
 {
     let start = reader.offset();

@@ -8,7 +8,7 @@ ghost use Rattle.backup_rules.specs.declared.layouts.RulesLayout.TheVariants.{Se
 ghost use Rattle.backup_rules.specs.Ranges.{IsRules};
 ghost use Rattle.backup_rules.specs.Runs.{run};
 ghost use Rattle.backup_rules.specs.Parts.{counts_grammar, period_bytes, periods_grammar, early_grammar, old_grammar, early_of, old_of};
-ghost use Rattle.backup_rules.specs.Layout.{rules_grammar, kind_number, line_bytes, IsLine};
+ghost use Rattle.backup_rules.specs.Layout.{rules_grammar, kind_number, kind_bytes, line_bytes, IsLine};
 
 use crate::counts::KeepCounts;
 use crate::lines::{Kind, Line};
@@ -157,6 +157,15 @@ fn kind_number(kind: Kind) -> u8
     }
 }
 
+/// Writes a kind, one byte; refused for want of memory, and then nothing is written.
+pub fn put_kind(out: &mut Vec<u8>, kind: Kind) -> Result<(), AllocError>
+    ensures ok { OnOk result (out.new.items ≡ out.old.items ++ kind_bytes kind) }
+    ensures err { OnErr result (out.new.items ≡ out.old.items) }
+{
+    put_u8(out, kind_number(kind))?;
+    Ok(())
+}
+
 /// Writes the fields of a line, or some of them for want of memory.
 #[tactic(auto, unfolding(crate::specs::Layout::line_bytes))]
 fn put_line_fields(out: &mut Vec<u8>, line: &Line) -> Result<(), AllocError>
@@ -167,7 +176,7 @@ fn put_line_fields(out: &mut Vec<u8>, line: &Line) -> Result<(), AllocError>
     put_u32(out, line.number)?;
     put_u64(out, line.start)?;
     put_u64(out, line.end)?;
-    put_u8(out, kind_number(line.kind))?;
+    put_kind(out, line.kind)?;
     put_flag(out, line.filled)?;
     put_flag(out, line.keep)?;
     Ok(())

@@ -1,4 +1,4 @@
--- No two values have one file: heads, indices of hosts in either layout, tables in either layout, files of the pool's index.
+-- No two values have one file: heads, indices of hosts in either layout, tables in either layout, partial dumps, files of the pool's index.
 use Rattle.std.specs.Prelude.{◌≡◌, List, Option, ℕ}
 use Rattle.wire_bytes.specs.Seal.{sealed}
 use Rattle.wire_bytes.specs.Grammar.{seen_as}
@@ -10,12 +10,16 @@ use Rattle.backup_index.specs.Stored.{index_grammar}
 use Rattle.attr_tables.specs.declared.file.TableFile.{TableFile}
 use Rattle.attr_tables.specs.Layout.{IsTable}
 use Rattle.attr_tables.specs.Tables.{table_grammar, table_file}
+use Rattle.partial_files.specs.declared.partial.PartialFile.{PartialFile}
+use Rattle.partial_files.specs.Layout.{IsPartial}
+use Rattle.partial_files.specs.Partials.{partial_grammar, partial_file}
 use Rattle.pool_index.specs.declared.item.IndexItem.{IndexItem}
 use Rattle.pool_index.specs.Layout.{IsIndex, index_file, index_grammar as pool_grammar}
 use Rattle.pool_index.specs.LayoutLaws.{fits_index}
 use Rattle.one_way_layouts.specs.OneWay.{sealed_once}
 use Rattle.one_way_layouts.specs.HostLaws.{head_once, index_once}
 use Rattle.one_way_layouts.specs.TableLaws.{table_once}
+use Rattle.one_way_layouts.specs.PartialLaws.{partial_once}
 use Rattle.one_way_layouts.specs.PoolLaws.{pool_index_once}
 
 -- the file of a head
@@ -38,6 +42,10 @@ pub one_table : (a b : TableFile) → IsTable a.layout a.table → IsTable b.lay
     → table_file a.layout a.table ≡ table_file b.layout b.table → a ≡ b
 unfolding seen_as
 one_table a b is_a is_b same = sealed_once table_grammar table_once a b is_a is_b same
+
+pub one_partial : (host : ℕ) (a b : PartialFile) → IsPartial a → IsPartial b → partial_file host a ≡ partial_file host b → a ≡ b
+unfolding seen_as partial_grammar
+one_partial host a b is_a is_b same = sealed_once (partial_grammar host) (partial_once host) a b is_a is_b same
 
 pub one_pool_index : (byte : Option ℕ) (a b : List IndexItem) → IsIndex byte a → IsIndex byte b → index_file byte a ≡ index_file byte b
     → a ≡ b

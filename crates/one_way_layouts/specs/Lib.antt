@@ -4,4 +4,5 @@ pub mod RuleLaws
 pub mod HostLaws
 pub mod TableLaws
 pub mod PoolLaws
+pub mod PartialLaws
 pub mod Files

@@ -98,7 +98,7 @@ small_kind : (kind : Kind) → IsNumber w8 (kind_number kind)
 small_kind Full = omega arith
 small_kind Incr = omega arith
 
-kind_once : IsReadOneWay (λ _. ⊤) kind_bytes
+pub kind_once : IsReadOneWay (λ _. ⊤) kind_bytes
 kind_once = λ a b x y is_a is_b same.
     let n = number_once w8 tt (kind_number a) (kind_number b) x y (small_kind a) (small_kind b) same in
     (kind_back a ∙ ap kind_at n.0 ∙ sym (kind_back b), n.1)

@@ -110,7 +110,7 @@ small_kind (Dir dir) = omega arith
 small_kind (Link link) = omega arith
 small_kind Deleted = omega arith
 
-row_once : (layout : TableLayout) → IsReadOneWay (IsRow layout) (row_bytes layout)
+pub row_once : (layout : TableLayout) → IsReadOneWay (IsRow layout) (row_bytes layout)
 unfolding row_bytes
 row_once layout = λ a b x y is_a is_b same.
     let kind = peel _ (number_once w8 tt) (kind_of a.1) (kind_of b.1) _ _ x y (small_kind a.1) (small_kind b.1) same in

@@ -8,6 +8,9 @@ ghost use Rattle.backup_index.specs.Index.{Index, IsStored};
 ghost use Rattle.attr_tables.specs.declared.file.TableFile.{TableFile as Table};
 ghost use Rattle.attr_tables.specs.Layout.{IsTable};
 ghost use Rattle.attr_tables.specs.Tables.{table_file};
+ghost use Rattle.partial_files.specs.declared.partial.PartialFile.{PartialFile as Partial};
+ghost use Rattle.partial_files.specs.Layout.{IsPartial};
+ghost use Rattle.partial_files.specs.Partials.{partial_file};
 ghost use Rattle.pool_index.specs.declared.item.IndexItem.{IndexItem as Item};
 ghost use Rattle.pool_index.specs.Layout.{IsIndex, index_file};
 ghost use Rattle.one_way_layouts.specs.Files.{head_file, host_file};
@@ -25,6 +28,11 @@ pub fn host_is_of_one_value()
 /// No two tables have one file, be it in one layout or in two.
 pub fn table_is_of_one_value()
     ensures { (a b : Table) → IsTable a.layout a.table → IsTable b.layout b.table → table_file a.layout a.table ≡ table_file b.layout b.table → a ≡ b }
+{}
+
+/// No two partial dumps of a host have one file.
+pub fn partial_is_of_one_value()
+    ensures { (host : ℕ) (a b : Partial) → IsPartial a → IsPartial b → partial_file host a ≡ partial_file host b → a ≡ b }
 {}
 
 /// No two lists of pooled contents have one file: those of a byte, and those of the one file of older stores.

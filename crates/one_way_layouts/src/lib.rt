@@ -1,5 +1,5 @@
-//! That the files of a store are told apart: no two heads, indices of hosts, tables or lists of pooled contents have the
-//! same bytes, whatever their layouts. The crate knows layouts alone, and has laws alone: functions of no body, whose
+//! That the files of a store are told apart: no two heads, indices of hosts, tables, partial dumps of a host
+//! or lists of pooled contents have the same bytes, whatever their layouts. The crate knows layouts alone, and has laws alone: functions of no body, whose
 //! clauses they are. They rest on `specs/OneWay`, which follows a grammar through each way in which it is put together:
 //! no print begins another, and no two values have one print.
 //!
@@ -9,5 +9,6 @@
 mod laws;
 
 pub use laws::{
-    head_is_of_one_value, host_is_of_one_value, pool_index_is_of_one_value, table_is_of_one_value,
+    head_is_of_one_value, host_is_of_one_value, partial_is_of_one_value,
+    pool_index_is_of_one_value, table_is_of_one_value,
 };

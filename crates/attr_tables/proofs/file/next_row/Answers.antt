@@ -4,7 +4,7 @@ use Rattle.wire_bytes.specs.GrammarLaws.{field_finds, field_refuses}
 use Rattle.wire_bytes.specs.GrammarReading.{Finds}
 use Rattle.wire_bytes.specs.Grammar.{field}
 use Rattle.attr_tables.specs.Layout.{row_bytes, IsRow}
-use Rattle.attr_tables.proofs.file.read_next.Goals as goal
+use Rattle.attr_tables.proofs.file.next_row.Goals as goal
 
 pub returns-in-Err : goal.returns-in-Err
 returns-in-Err c = field_refuses c.in-Err.ensures (ap (λ (n : ℕ). Some n) c.offset-start.ensures.value)
