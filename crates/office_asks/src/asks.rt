@@ -28,7 +28,13 @@ pub enum Ask {
     Part(u64),
     CloseFile(u64),
     Commit(u64),
+    /// Of an epoch.
+    CommitIn(u64, u64),
     Abort(u64),
+    Park(u64),
+    Resume(&'static str),
+    DropPartial(&'static str),
+    Partial(&'static str),
     List(&'static str, u32, &'static str),
     Lookup(&'static str, u32, &'static str),
     Read(&'static str, u32, &'static str),
@@ -181,7 +187,30 @@ fn session_event(alloc: Global, ask: Ask) -> Result<Event, Fail> {
     }
 }
 
-/// An event of a backup, or of a session.
+/// An event of a partial, or of a session.
+fn partial_event(alloc: Global, ask: Ask) -> Result<Event, Fail> {
+    match ask {
+        Ask::CommitIn(epoch, sequence) => Ok(Event::Commit {
+            dump: SessionName { epoch, sequence },
+            now: moment(START),
+        }),
+        Ask::Park(sequence) => Ok(Event::Park {
+            dump: session(sequence),
+        }),
+        Ask::Resume(name) => Ok(Event::Resume {
+            host: host(alloc, name)?,
+        }),
+        Ask::DropPartial(name) => Ok(Event::DropPartial {
+            host: host(alloc, name)?,
+        }),
+        Ask::Partial(name) => Ok(Event::PartialInfo {
+            host: host(alloc, name)?,
+        }),
+        _ => session_event(alloc, ask),
+    }
+}
+
+/// An event of a backup, or what else there is.
 fn backup_event(alloc: Global, ask: Ask) -> Result<Event, Fail> {
     match ask {
         Ask::List(name, number, place) => Ok(Event::List {
@@ -221,7 +250,7 @@ fn backup_event(alloc: Global, ask: Ask) -> Result<Event, Fail> {
             host: host(alloc, name)?,
             number,
         }),
-        _ => session_event(alloc, ask),
+        _ => partial_event(alloc, ask),
     }
 }
 

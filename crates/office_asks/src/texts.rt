@@ -48,6 +48,11 @@ fn answer_text(alloc: Global, answer: Answer) -> Result<String, Fail> {
         }
         Answer::Entry(node) => Ok(String::from_str(alloc, kind_of(&node))?),
         Answer::Stage(number) => Ok(format!(in alloc; "stage {number}")?),
+        Answer::Partial {
+            entries,
+            kind,
+            start,
+        } => Ok(format!(in alloc; "{entries} {kind:?} {start}")?),
         Answer::Opened { reader, size } => Ok(format!(in alloc; "reader {reader} of {size}")?),
         Answer::Content(bytes) | Answer::Part(bytes) => Ok(format!(in alloc;
             "{}",

@@ -1,7 +1,7 @@
 -- The office: hosts with their backups, the pool, the open dumps, restores, stages and readers. Trees are whole.
-use Rattle.std.specs.Prelude.{◌≡◌, ℕ, ◌+◌, ◌-◌, ◌<◌, ◌≤◌, ◌^◌, Bool, true, not, List, [], length, Option, Some, ◌==◌, ◌||◌, slice_get, bytes_eq}
+use Rattle.std.specs.Prelude.{◌≡◌, ℕ, ◌+◌, ◌-◌, ◌<◌, ◌≤◌, ◌^◌, Bool, true, false, not, List, [], length, Option, Some, IfSome, ◌==◌, ◌||◌, slice_get, bytes_eq}
 use Rattle.std.specs.List.{position_from, list_any, filter}
-use Rattle.std.specs.Option.{option_and_then}
+use Rattle.std.specs.Option.{option_and_then, option_map_or}
 use Rattle.attr_records.specs.Items.{Tree, is_dir, some_bytes}
 use Rattle.attr_records.specs.Trees as Trees
 use Rattle.ordered_lists.specs.Order.{IsInOrder}
@@ -18,6 +18,12 @@ pub record Backup : Type 0 where
   pub line : Line
   pub tree : Tree
 
+-- a dump that may be gone on with: its kind, its start and its tree
+pub record Partial : Type 0 where
+  pub kind : Kind
+  pub start : ℕ
+  pub tree : Tree
+
 -- good and bad count contacts; next is the number of the next backup
 pub record Host : Type 0 where
   pub name : List ℕ
@@ -26,6 +32,7 @@ pub record Host : Type 0 where
   pub bad : ℕ
   pub next : ℕ
   pub backups : List Backup
+  pub partial : Option Partial
 
 -- an open dump of the host at this index in order of adding, which began with the tree base
 pub record Dump : Type 0 where
@@ -152,8 +159,11 @@ backup_index backups number = position_from (λ backup. backup.line.number == nu
 
 -- ---- protected contents
 
+abbrev pub partial_holds : Option Partial → List ℕ → Bool
+partial_holds partial content = option_map_or (λ p. holds p.tree content) partial false
+
 abbrev pub host_holds : Host → List ℕ → Bool
-host_holds host content = list_any (λ backup. holds backup.tree content) host.backups
+host_holds host content = list_any (λ backup. holds backup.tree content) host.backups || partial_holds host.partial content
 
 abbrev pub in_hosts : List Host → List ℕ → Bool
 in_hosts hosts content = list_any (λ host. host_holds host content) hosts
@@ -221,6 +231,7 @@ pub record AreBackups (next : ℕ) (backups : List Backup) : Type 0 where
 pub record IsSoundHost (host : Host) : Type 0 where
   pub numbers : host.next ≤ number_limit
   pub backups : AreBackups host.next host.backups
+  pub partial : IfSome host.partial (λ (partial : Partial). IsTree partial.tree)
 
 -- at most 1,024 hosts of different names
 pub record AreHosts (hosts : List Host) : Type 0 where
@@ -255,11 +266,15 @@ IsPooledTree pool tree = (content : List ℕ) → holds tree content ≡ true �
 abbrev pub ArePooledHosts : Pool → List Host → Type 0
 ArePooledHosts pool hosts = AtEach (λ (host : Host). AtEach (λ (backup : Backup). IsPooledTree pool backup.tree) host.backups) hosts
 
--- what the disk keeps: its hosts, and a pool that has the contents of their backups
+abbrev pub IsPooledPartial : Pool → Host → Type 0
+IsPooledPartial pool host = IfSome host.partial (λ (partial : Partial). IsPooledTree pool partial.tree)
+
+-- what the disk keeps: its hosts, and a pool that has the contents of their backups and partials
 pub record IsSoundDurable (kept : Durable) : Type 0 where
   pub hosts : AreHosts kept.hosts
   pub pool_order : IsInOrder byte_cmp kept.pool
   pub of_backups : ArePooledHosts kept.pool kept.hosts
+  pub of_partials : AtEach (IsPooledPartial kept.pool) kept.hosts
 
 -- open dumps by themselves: at most one of a host
 pub record AreDumps (dumps : List Dump) : Type 0 where

@@ -3,6 +3,7 @@
 ghost use Rattle.office_model.specs.declared.event.Event.{Event};
 ghost use Rattle.office_model.specs.Meaning.{Reply};
 ghost use Rattle.office_model.specs.Step.{State, meaning_of, IsStep, IsSoundState};
+ghost use Rattle.office_model.specs.Partials.{PartialsStay, ParkedIsPartial, ResumedIsPartial, ParkedReads};
 ghost use Rattle.office_model.specs.laws.Lawful.{IsLawful};
 
 /// Each event is lawful: carried out in a sound office with its names, it answers what is of its kind and leaves a sound office, in
@@ -14,4 +15,16 @@ pub fn each_event_is_lawful()
 /// A step leads from a sound state to a sound one.
 pub fn a_step_keeps_a_sound_state()
     ensures { (old : State) (event : Event) (reply : Reply) (new : State) → IsSoundState old → IsStep old event reply new → IsSoundState new }
+{}
+
+/// A host keeps its partial through faults, halts and reopenings, until a dump of it is committed or parked, or the partial dropped.
+pub fn partials_stay()
+    ensures { PartialsStay }
+{}
+
+/// What a dump had when it was parked is its host's partial, a dump that is resumed begins with it, and no read of a backup shows it.
+pub fn what_is_parked_is_resumed()
+    ensures parked { ParkedIsPartial }
+    ensures resumed { ResumedIsPartial }
+    ensures reads { ParkedReads }
 {}

@@ -1,6 +1,8 @@
 ghost use Rattle.std.specs.Prelude.{◌≡◌, IfOk};
-ghost use Rattle.office_model.specs.Pool.{cleaned, fated, with_kept};
-ghost use Rattle.office_model.specs.Office.{host_holds, in_hosts, in_dumps, in_bases, in_restores};
+ghost use Rattle.std.specs.List.{list_any};
+ghost use Rattle.std.specs.Option.{option_copied};
+ghost use Rattle.office_model.specs.Pool.{holds, cleaned, fated, with_kept};
+ghost use Rattle.office_model.specs.Office.{partial_holds, host_holds, in_hosts, in_dumps, in_bases, in_restores};
 ghost use Rattle.office_model.specs.events.Clean.{is_protected, in_bucket};
 
 use crate::readers::{Reader, in_readers};
@@ -8,15 +10,31 @@ use office_model::{Fate, fate_of};
 use pool_name::Namer;
 use std::alloc::{AllocError, Global};
 use std::collections::BTreeMap;
-use tree_parts::{Content, Dump, Host, Restore, counted, holds};
+use tree_parts::{Backup, Content, Dump, Host, Partial, counted, holds};
+use tree_restores::Restore;
 
-/// Whether a tree of a host's backups has a File of these bytes.
+/// Whether the tree of a partial, if there is one, has a File of these bytes.
+pub fn partial_holds(partial: Option<&Partial>, content: &[u8]) -> bool
+    ensures { result ≡ partial_holds (option_copied partial.entry) content.now }
+{
+    match partial {
+        None => false,
+        Some(partial) => holds(partial.tree(), content),
+    }
+}
+
+/// Whether the tree of a backup has a File of these bytes.
+fn in_backups(backups: &[Backup], content: &[u8]) -> bool
+    ensures { result ≡ list_any (λ backup. holds backup.tree content.now) backups.now }
+{
+    backups.iter().any(|backup| holds(backup.tree(), content))
+}
+
+/// Whether a tree of a host's backups or of its partial has a File of these bytes.
 pub fn host_holds(host: &Host, content: &[u8]) -> bool
     ensures { result ≡ host_holds host.now content.now }
 {
-    host.backups()
-        .iter()
-        .any(|backup| holds(backup.tree(), content))
+    in_backups(host.backups(), content) || partial_holds(host.partial(), content)
 }
 
 pub fn in_hosts(hosts: &[Host], content: &[u8]) -> bool
@@ -45,7 +63,7 @@ pub fn in_restores(restores: &[Restore], content: &[u8]) -> bool
         .any(|restore| holds(restore.tree(), content))
 }
 
-/// Whether a backup, an open dump or an open restore holds a content, or an open reader gives it.
+/// Whether a backup, a partial, an open dump or an open restore holds a content, or an open reader gives it.
 pub fn is_protected(
     hosts: &[Host],
     dumps: &[Dump],

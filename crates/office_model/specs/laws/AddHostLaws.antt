@@ -5,7 +5,7 @@ use Rattle.std.proofs.lemmas.Bool.Decides.{nat_tests}
 use Rattle.backup_rules.specs.Values.{RuleSet}
 use Rattle.office_model.specs.declared.answer.Answer.TheVariants.{Done}
 use Rattle.office_model.specs.Places.{AtEach, AtEach-longer, Differ-longer, slice_get-longer}
-use Rattle.office_model.specs.Office.{Office, Host, Backup, host_index, host_limit, with_hosts, IsSound, AreHosts, IsSoundHost, HasHost, IsPooledTree}
+use Rattle.office_model.specs.Office.{Office, Host, Backup, host_index, host_limit, with_hosts, IsSound, AreHosts, IsSoundHost, HasHost, IsPooledTree, IsPooledPartial}
 use Rattle.office_model.specs.events.AddHost.{new_host, with_host, meaning}
 use Rattle.office_model.specs.laws.Judging.{bound, passed}
 use Rattle.office_model.specs.laws.Lookups.{host_index-none}
@@ -25,6 +25,7 @@ IsSoundHost-new name rules = record {
     numbered = record { rise = λ i j a b less e f. absurd (cc); below = λ i backup e. absurd (cc); trees = λ i backup e. absurd (cc) };
     last_filled = λ last e. absurd (cc);
   };
+  partial = tt;
 }
 
 AreHosts-added : (hosts : List Host) (name : List ℕ) (rules : RuleSet) → AreHosts hosts → host_index hosts name ≡ None
@@ -46,6 +47,7 @@ IsSound-with_host office name rules hosts sound e =
         hosts = AreHosts-added office.hosts name rules sound.hosts (is_none _ a.0) (below host_limit (length office.hosts) b.0);
         pool_order = sound.pool_order;
         of_backups = AtEach-longer (λ (host : Host). AtEach (λ (backup : Backup). IsPooledTree office.pool backup.tree) host.backups) office.hosts (new_host name rules) sound.of_backups (λ i backup e. absurd (cc));
+        of_partials = AtEach-longer (IsPooledPartial office.pool) office.hosts (new_host name rules) sound.of_partials tt;
       };
       now = sound.now;
       tied = record {

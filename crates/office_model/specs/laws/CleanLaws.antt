@@ -1,15 +1,15 @@
 -- The pool after cleaning: in order, with all that is protected.
-use Rattle.std.specs.Prelude.{◌≡◌, ℕ, Bool, true, false, cond, ◌||◌, List, [], ◌∷◌, Option, Some, None, is_some, nat_le, slice_get}
+use Rattle.std.specs.Prelude.{◌≡◌, ℕ, Bool, true, false, cond, ◌||◌, List, [], ◌∷◌, Option, Some, None, IfSome, is_some, nat_le, slice_get}
 use Rattle.std.specs.declared.cmp.Ordering.TheVariants.{Less}
 use Rattle.std.specs.Ordering.{eq_by_cmp}
-use Rattle.std.specs.List.{cons_option}
+use Rattle.std.specs.List.{cons_option, list_any}
 use Rattle.std.proofs.Common.{refl, sym, ap, ◌∙◌, subst}
 use Rattle.std.proofs.lemmas.Slice.Eq.{bytes_eq-Decides}
 use Rattle.attr_records.specs.Items.{some_bytes}
 use Rattle.ordered_lists.specs.Order.{IsInOrder, IsBelowAll}
 use Rattle.office_model.specs.Pool.{Pool, byte_cmp, mark_of, is_pooled, is_same_content, holds, fate, kept_as, cleaned}
 use Rattle.pool_fate.specs.Fates.{fate_of, mark_after}
-use Rattle.office_model.specs.Office.{Office, Host, Backup, Dump, Restore, Reader, with_pool, IsSound, host_holds, in_hosts, in_dumps, in_bases, in_restores}
+use Rattle.office_model.specs.Office.{Office, Host, Backup, Partial, Dump, Restore, Reader, with_pool, IsSound, IsPooledTree, host_holds, partial_holds, in_hosts, in_dumps, in_bases, in_restores}
 use Rattle.office_model.specs.Meaning.{Same}
 use Rattle.office_model.specs.events.Clean.{is_protected, in_bucket, meaning}
 use Rattle.office_model.specs.laws.Judging.{passed}
@@ -88,7 +88,15 @@ module _ (office : Office) (content : List ℕ) where
       → slice_get host.backups n ≡ Some backup → holds backup.tree content ≡ true
       → is_protected office.hosts office.dumps office.restores office.readers content ≡ true
   backup_safe i n host backup at at_backup h =
-      left (in_hosts office.hosts content) _ (any_at (λ (host : Host). host_holds host content) office.hosts i host at (any_at (λ (b : Backup). holds b.tree content) host.backups n backup at_backup h))
+      left (in_hosts office.hosts content) _ (any_at (λ (host : Host). host_holds host content) office.hosts i host at
+      (left (list_any (λ (b : Backup). holds b.tree content) host.backups) _ (any_at (λ (b : Backup). holds b.tree content) host.backups n backup at_backup h)))
+
+  pub partial_safe : (i : ℕ) (host : Host) (partial : Partial) → slice_get office.hosts i ≡ Some host → host.partial ≡ Some partial
+      → holds partial.tree content ≡ true
+      → is_protected office.hosts office.dumps office.restores office.readers content ≡ true
+  partial_safe i host partial at is h =
+      left (in_hosts office.hosts content) _ (any_at (λ (host : Host). host_holds host content) office.hosts i host at
+      (right (list_any (λ (b : Backup). holds b.tree content) host.backups) _ (ap (λ p. partial_holds p content) is ∙ h)))
 
   pub base_safe : (i : ℕ) (dump : Dump) → slice_get office.dumps i ≡ Some dump → holds dump.base content ≡ true
       → is_protected office.hosts office.dumps office.restores office.readers content ≡ true
@@ -117,6 +125,7 @@ IsSound-cleaned office inside sound = record {
     hosts = sound.hosts;
     pool_order = cleaned_order inside (is_protected office.hosts office.dumps office.restores office.readers) office.pool sound.pool_order;
     of_backups = λ i host at n backup at_backup content h. has content (backup_safe office content i n host backup at at_backup h) (sound.of_backups i host at n backup at_backup content h);
+    of_partials = λ i host at. partial_stays i host at host.partial refl (sound.of_partials i host at);
   };
   now = sound.now;
   tied = record {
@@ -131,6 +140,12 @@ IsSound-cleaned office inside sound = record {
     has : (content : List ℕ) → is_protected office.hosts office.dumps office.restores office.readers content ≡ true → is_pooled office.pool content ≡ true
         → is_pooled (cleaned inside (is_protected office.hosts office.dumps office.restores office.readers) office.pool) content ≡ true
     has content = cleaned_has inside (is_protected office.hosts office.dumps office.restores office.readers) byte_exact office.pool content
+
+    partial_stays : (i : ℕ) (host : Host) → slice_get office.hosts i ≡ Some host → (partial : Option Partial) → host.partial ≡ partial
+        → IfSome partial (λ (p : Partial). IsPooledTree office.pool p.tree)
+        → IfSome partial (λ (p : Partial). IsPooledTree (cleaned inside (is_protected office.hosts office.dumps office.restores office.readers) office.pool) p.tree)
+    partial_stays i host at None is was = was
+    partial_stays i host at (Some partial) is was = λ content h. has content (partial_safe office content i host partial at is h) (was content h)
 
 pub lawful : (bucket : ℕ) → IsLawful (meaning bucket)
 lawful bucket office names c sound e =

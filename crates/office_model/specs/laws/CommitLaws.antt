@@ -8,14 +8,14 @@ use Rattle.office_model.specs.declared.session.SessionName.{SessionName}
 use Rattle.office_model.specs.declared.refusal.BrokenRule.TheVariants.{NoSession}
 use Rattle.office_model.specs.Places.{AtEach, AtEach-set, AtEach-longer, slice_get-set_other, slice_get-remove, place_before, place_before-other}
 use Rattle.office_model.specs.Pool.{Pool, is_pooled, holds, with_tree}
-use Rattle.office_model.specs.Office.{Office, Host, Backup, Dump, Stage, stages_left, number_limit, IsSound, IsTree, IsSoundHost, HasHost, AreDumps, IsPooledTree, is_held}
+use Rattle.office_model.specs.Office.{Office, Host, Backup, Dump, Stage, stages_left, number_limit, IsSound, IsTree, IsSoundHost, HasHost, AreDumps, IsPooledTree, IsPooledPartial, is_held}
 use Rattle.office_model.specs.Session.{is_same_session}
 use Rattle.office_model.specs.Meaning.{Same, found}
 use Rattle.office_model.specs.Parts.{dump_at, with_last, with_newest, filled_as}
 use Rattle.backup_rules.specs.Fill.{stays_filled}
 use Rattle.office_model.specs.events.Commit.{Committing, committed, after, new_backup, with_commit, meaning}
 use Rattle.office_model.specs.laws.Judging.{bound, at_is, found_is}
-use Rattle.office_model.specs.laws.DurableLaws.{AreHosts-set}
+use Rattle.office_model.specs.laws.DurableLaws.{AreHosts-set, partial_more}
 use Rattle.office_model.specs.laws.VolatileLaws.{dump_removed, pooled_dump_removed, pooled_more}
 use Rattle.office_model.specs.laws.StageLaws.{AtEach-filter}
 use Rattle.office_model.specs.laws.Lookups.{named}
@@ -32,6 +32,7 @@ IsSoundHost-commit host dump now sound room tree = record {
     numbered = numbered_longer host.next _ (new_backup host dump now) (numbered_refilled host.next (λ last. stays_filled host.rules last.line) host.backups sound.backups.numbered) refl tree;
     last_filled = λ last e. ap (λ (x : Backup). x.line.filled) (last_longer (with_last (λ last. filled_as (stays_filled host.rules last.line) last) host.backups) (new_backup host dump now) last e);
   };
+  partial = tt;
 }
 
 -- another open dump is of another host
@@ -87,6 +88,8 @@ IsSound-committed office session now parts sound e =
         of_backups = AtEach-set (λ (h : Host). AtEach (λ (backup : Backup). IsPooledTree (with_tree office.pool dump.tree) backup.tree) h.backups) office.hosts dump.host (with_commit host dump now)
             (λ i h at n backup at_backup. more backup.tree (sound.of_backups i h at n backup at_backup))
             (pooled_newest office.pool (with_tree office.pool dump.tree) host.rules host.backups (new_backup host dump now) more (sound.of_backups dump.host host is_host) (tree_has office.pool dump.tree));
+        of_partials = AtEach-set (IsPooledPartial (with_tree office.pool dump.tree)) office.hosts dump.host (with_commit host dump now)
+            (λ i h at. partial_more office.pool (with_tree office.pool dump.tree) h more (sound.of_partials i h at)) tt;
       };
       now = dump_removed office.epoch office.volatile sound.now a.0.index dump session is_dump (named office.dumps session a.0.index dump (at_is _ office.dumps _ a.0 a.1).0 is_dump);
       tied = record {

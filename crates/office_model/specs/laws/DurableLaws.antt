@@ -1,9 +1,11 @@
 -- A host that changes at its place keeps an office sound.
-use Rattle.std.specs.Prelude.{◌≡◌, ◌≢◌, ◌<◌, ◌≤◌, ℕ, zero, suc, List, [], ◌∷◌, length, Some, slice_get, slice_set, ◌⊎◌}
+use Rattle.std.specs.Prelude.{◌≡◌, ◌≢◌, ◌<◌, ◌≤◌, ℕ, zero, suc, List, [], ◌∷◌, length, Option, None, Some, IfSome, slice_get, slice_set, ◌⊎◌}
 use Rattle.std.proofs.Common.{refl, sym, ap, ◌∙◌, subst, inl, inr}
 use Rattle.std.proofs.Math.ListN.{length-set}
 use Rattle.office_model.specs.Places.{AtEach, AtEach-set, Differ-set, in_set}
-use Rattle.office_model.specs.Office.{Office, Host, Backup, Dump, host_limit, with_hosts, IsSound, AreHosts, IsSoundHost, HasHost, IsPooledTree}
+use Rattle.office_model.specs.Pool.{Pool}
+use Rattle.attr_records.specs.Items.{Tree}
+use Rattle.office_model.specs.Office.{Office, Host, Backup, Partial, Dump, host_limit, with_hosts, IsSound, IsTree, AreHosts, IsSoundHost, HasHost, IsPooledTree, IsPooledPartial}
 
 pub AreHosts-set : (hosts : List Host) (p : ℕ) (old new : Host) → slice_get hosts p ≡ Some old → new.name ≡ old.name → IsSoundHost new
     → AreHosts hosts → AreHosts (slice_set hosts p new)
@@ -12,6 +14,15 @@ AreHosts-set hosts p old new was name sound are = record {
   differ = Differ-set (λ (h : Host). h.name) hosts p old new was name are.differ;
   each = AtEach-set IsSoundHost hosts p new are.each sound;
 }
+
+-- a partial is in a pool that has more
+pub partial_more : (pool pool' : Pool) (host : Host) → ((tree : Tree) → IsPooledTree pool tree → IsPooledTree pool' tree)
+    → IsPooledPartial pool host → IsPooledPartial pool' host
+partial_more pool pool' host more has = step host.partial has
+  where
+    step : (partial : Option Partial) → IfSome partial (λ (p : Partial). IsPooledTree pool p.tree) → IfSome partial (λ (p : Partial). IsPooledTree pool' p.tree)
+    step None has = has
+    step (Some partial) has = more partial.tree has
 
 -- what was at a place is there after a write, or was written over
 pub set_finds : {A : Type 0} (xs : List A) (p i : ℕ) (new x : A) → slice_get xs i ≡ Some x
@@ -28,7 +39,7 @@ set_finds (y ∷ ys) (suc p) (suc i) new x e = step (set_finds ys p i new x e)
     step (inr f) = inr (ap suc f.0, f.1)
 
 -- open dumps have their hosts where a host changes and keeps its next number
-hosted-set : (hosts : List Host) (dumps : List Dump) (p : ℕ) (old new : Host) → slice_get hosts p ≡ Some old → new.next ≡ old.next
+pub hosted-set : (hosts : List Host) (dumps : List Dump) (p : ℕ) (old new : Host) → slice_get hosts p ≡ Some old → new.next ≡ old.next
     → AtEach (HasHost hosts) dumps → AtEach (HasHost (slice_set hosts p new)) dumps
 hosted-set hosts dumps p old new was next are i dump at = has dump (are i dump at)
   where
@@ -44,13 +55,14 @@ hosted-set hosts dumps p old new was next are i dump at = has dump (are i dump a
 
 pub host_set : (office : Office) (p : ℕ) (old new : Host) → IsSound office → slice_get office.hosts p ≡ Some old
     → new.name ≡ old.name → new.next ≡ old.next → IsSoundHost new
-    → AtEach (λ (backup : Backup). IsPooledTree office.pool backup.tree) new.backups
+    → AtEach (λ (backup : Backup). IsPooledTree office.pool backup.tree) new.backups → IsPooledPartial office.pool new
     → IsSound (with_hosts office (slice_set office.hosts p new))
-host_set office p old new sound was name next host pooled = record {
+host_set office p old new sound was name next host pooled partial = record {
   kept = record {
     hosts = AreHosts-set office.hosts p old new was name host sound.hosts;
     pool_order = sound.pool_order;
     of_backups = AtEach-set (λ (h : Host). AtEach (λ (backup : Backup). IsPooledTree office.pool backup.tree) h.backups) office.hosts p new sound.of_backups pooled;
+    of_partials = AtEach-set (IsPooledPartial office.pool) office.hosts p new sound.of_partials partial;
   };
   now = sound.now;
   tied = record {
@@ -59,15 +71,20 @@ host_set office p old new sound was name next host pooled = record {
   };
 }
 
--- one that keeps its backups
+-- one that keeps its backups and its partial
 pub host_same : (office : Office) (p : ℕ) (old new : Host) → IsSound office → slice_get office.hosts p ≡ Some old
-    → new.name ≡ old.name → new.next ≡ old.next → new.backups ≡ old.backups
+    → new.name ≡ old.name → new.next ≡ old.next → new.backups ≡ old.backups → new.partial ≡ old.partial
     → IsSound (with_hosts office (slice_set office.hosts p new))
-host_same office p old new sound was name next same =
+host_same office p old new sound was name next same partial =
     let host : IsSoundHost old = sound.hosts.each p old was in
     host_set office p old new sound was name next
-    (record { numbers = rw next host.numbers; backups = rw (next, same) host.backups })
+    (record {
+      numbers = rw next host.numbers;
+      backups = rw (next, same) host.backups;
+      partial = subst (λ p. IfSome p (λ (x : Partial). IsTree x.tree)) (sym partial) host.partial;
+    })
     (subst (λ bs. AtEach (λ (backup : Backup). IsPooledTree office.pool backup.tree) bs) (sym same) (sound.of_backups p old was))
+    (subst (λ p. IfSome p (λ (x : Partial). IsPooledTree office.pool x.tree)) (sym partial) (sound.of_partials p old was))
 
 -- what is at a place after a write that leaves a key
 pub kept_key : {A K : Type 0} (key : A → K) (xs : List A) (p i : ℕ) (old new y : A) → slice_get xs p ≡ Some old → key new ≡ key old

@@ -67,6 +67,21 @@ may_open name kind now session hosts dumps new e =
       new_is = let g = f.1 in cc;
     }
 
+-- a further dump of a host that has none open and a number left, which begins with a tree whose contents are in the pool
+pub IsSound-opened : (office : Office) (index : ℕ) (host : Host) (kind : Kind) (start : ℕ) (base : Tree) → IsSound office
+    → slice_get office.hosts index ≡ Some host → dump_index_of_host office.dumps index ≡ None → host.next < number_limit
+    → IsTree base → IsPooledTree office.pool base
+    → IsSound (numbered (with_dumps office (office.dumps ++ new_dump (next_session office) index kind start base ∷ [])))
+IsSound-opened office index host kind start base sound is_host none room tree pooled = record {
+  kept = sound.kept;
+  now = dump_added office.epoch office.volatile sound.now (new_dump (next_session office) index kind start base) refl none tree tree;
+  tied = record {
+    hosted = AtEach-longer (HasHost office.hosts) office.dumps (new_dump (next_session office) index kind start base) sound.hosted
+        (record { host = host; is_host = is_host; has_number = room });
+    pooled = pooled_dump_added office.pool office.volatile sound.pooled (new_dump (next_session office) index kind start base) (office.sequence + 1) pooled;
+  };
+}
+
 pub IsSound-with_dump : (office : Office) (name : List ℕ) (kind : Kind) (now : ℕ) (hosts : List Host) (dumps : List Dump) → IsSound office
     → hosts ≡ office.hosts
     → with_dump name kind now (next_session office) hosts office.dumps ≡ Ok dumps
@@ -78,15 +93,8 @@ IsSound-with_dump office name kind now hosts dumps sound slice e =
     let tree : IsTree may.base = base_has IsTree kind may.host.value.backups may.base IsTree-nil host.backups.numbered.trees may.is_base in
     let pooled : IsPooledTree office.pool may.base = base_has (IsPooledTree office.pool) kind may.host.value.backups may.base (IsPooledTree-nil office.pool)
     (sound.of_backups may.host.index may.host.value may.is_host) may.is_base in
-    let dump : Dump = new_dump (next_session office) may.host.index kind now may.base in
-    subst (λ ds. IsSound (numbered (with_dumps office ds))) may.new_is (record {
-      kept = sound.kept;
-      now = dump_added office.epoch office.volatile sound.now dump refl may.none tree tree;
-      tied = record {
-        hosted = AtEach-longer (HasHost office.hosts) office.dumps dump sound.hosted (record { host = may.host.value; is_host = may.is_host; has_number = may.has_number });
-        pooled = pooled_dump_added office.pool office.volatile sound.pooled dump (office.sequence + 1) pooled;
-      };
-    })
+    subst (λ ds. IsSound (numbered (with_dumps office ds))) may.new_is
+    (IsSound-opened office may.host.index may.host.value kind now may.base sound may.is_host may.none may.has_number tree pooled)
 
 held-with_dump : (content : List ℕ) (office : Office) (name : List ℕ) (kind : Kind) (now : ℕ) (dumps : List Dump) → IsSound office
     → with_dump name kind now (next_session office) office.hosts office.dumps ≡ Ok dumps
@@ -98,7 +106,7 @@ held-with_dump content office name kind now dumps sound e h =
     longer_held content (is_pooled office.pool content ≡ true) office.dumps (new_dump (next_session office) may.host.index kind now may.base)
     (λ g. pooled content g) (ap (λ ds. in_dumps ds content) may.new_is ∙ h)
 
-was_opened : (content : List ℕ) (office : Office) → (in_dumps office.dumps content ≡ true) ⊎ (is_pooled office.pool content ≡ true)
+pub was_opened : (content : List ℕ) (office : Office) → (in_dumps office.dumps content ≡ true) ⊎ (is_pooled office.pool content ≡ true)
     → Reason content office Same
 was_opened content office (inl f) = was_in_dumps content office Same f
 was_opened content office (inr f) = was_pooled content office Same f

@@ -12,7 +12,7 @@ use Rattle.office_model.specs.laws.HeldLaws.{held_by, was_pooled}
 use Rattle.office_model.specs.laws.Lawful.{IsLawful, does}
 
 pub IsSoundDurable-raised : (kept : Durable) → IsSoundDurable kept → IsSoundDurable (raised kept)
-IsSoundDurable-raised kept sound = record { hosts = sound.hosts; pool_order = sound.pool_order; of_backups = sound.of_backups }
+IsSoundDurable-raised kept sound = record { hosts = sound.hosts; pool_order = sound.pool_order; of_backups = sound.of_backups; of_partials = sound.of_partials }
 
 pub IsSound-reopened : (kept : Durable) → IsSoundDurable kept → IsSound (reopened kept)
 IsSound-reopened kept sound = record {
