@@ -65,6 +65,13 @@ fn what_was_done_has_its_body(rt: HostRuntime) -> Result<(), Fail> {
     let text = "{\"restore\":\"18446744073709551615-0\"}";
     expect_json(alloc, &sweep, Answer::Restore(DUMP), text)?;
     expect_json(alloc, &sweep, Answer::Committed(0), "{\"number\":0}")?;
+    let partial = Answer::Partial {
+        entries: 3,
+        kind: Kind::Incr,
+        start: 1_700_000_000,
+    };
+    let text = "{\"entries\":3,\"kind\":\"incr\",\"start\":1700000000}";
+    expect_json(alloc, &sweep, partial, text)?;
     expect_json(alloc, &sweep, Answer::Stage(7), "{\"stage\":7}")?;
     let opened = Answer::Opened {
         reader: 3,

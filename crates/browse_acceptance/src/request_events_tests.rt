@@ -12,7 +12,7 @@ use stream_traits::Moment;
 use wake_schedule::Zone;
 
 /// Heads without their ends, each of which has an event.
-const TAKEN: [&str; 27] = [
+const TAKEN: [&str; 31] = [
     "GET /hosts",
     "PUT /hosts/pc1",
     "PUT /hosts/pc1/rules",
@@ -23,7 +23,11 @@ const TAKEN: [&str; 27] = [
     "DELETE /dumps/1-0/entry?path=a%2Fb",
     "POST /dumps/1-0/commit",
     "POST /dumps/x/commit",
+    "POST /dumps/1-0/park",
     "DELETE /dumps/1-0",
+    "POST /hosts/pc1/resume",
+    "DELETE /hosts/pc1/partial",
+    "GET /hosts/pc1/partial",
     "GET /hosts/pc1/backups",
     "DELETE /hosts/pc1/backups/4294967295",
     "GET /hosts/pc1/backups/0/list",
@@ -53,9 +57,13 @@ const MISSING: RequestRefusal = RequestRefusal::BadQuery(QueryRule::Missing);
 const VALUE: RequestRefusal = RequestRefusal::BadQuery(QueryRule::Value);
 
 /// Heads without their ends, and why each is refused.
-const REFUSED: [(&str, RequestRefusal); 30] = [
+const REFUSED: [(&str, RequestRefusal); 31] = [
     ("GET /host", RequestRefusal::NoRoute),
     ("PUT /hosts", RequestRefusal::NoMethod(Route::Hosts)),
+    (
+        "POST /hosts/a/partial",
+        RequestRefusal::NoMethod(Route::Partial),
+    ),
     ("PUT /hosts/PC1/rules?x=1", RequestRefusal::BadName),
     ("GET /hosts/A/backups/x/file", RequestRefusal::BadName),
     ("GET /hosts/a/backups/01/file", RequestRefusal::BadNumber),

@@ -90,6 +90,7 @@ rule_status B.NumbersSpent = 422
 rule_status B.NoSession = 404
 rule_status (B.Put rule) = put_rule_status rule
 rule_status B.NoBackup = 404
+rule_status B.NoPartial = 404
 rule_status B.ChainFull = 422
 rule_status B.NoPath = 404
 rule_status B.NotAFile = 409

@@ -68,6 +68,7 @@ fn rule_status(rule: BrokenRule) -> StatusCode
         BrokenRule::NoSession => StatusCode::NOT_FOUND,
         BrokenRule::Put(rule) => put_rule_status(rule),
         BrokenRule::NoBackup => StatusCode::NOT_FOUND,
+        BrokenRule::NoPartial => StatusCode::NOT_FOUND,
         BrokenRule::ChainFull => StatusCode::UNPROCESSABLE_ENTITY,
         BrokenRule::NoPath => StatusCode::NOT_FOUND,
         BrokenRule::NotAFile => StatusCode::CONFLICT,

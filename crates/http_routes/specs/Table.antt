@@ -7,7 +7,7 @@ use Rattle.matchit.specs.Route.{Scan, parse_route}
 use Rattle.matchit.specs.Router.{RouteOf, route_from}
 use Rattle.matchit.specs.declared.error.InsertError.{InsertError}
 use Rattle.http_routes.specs.declared.route.Route.{Route}
-use Rattle.http_routes.specs.declared.route.Route.TheVariants.{Hosts, Host, Rules, Dumps, Entry, Commit, Dump, Backups, Backup, BackupList, BackupEntry, BackupFile, Restores, Keep, Next, Restore, Expire, Contacts, Due, Clean, Sweep, Stats, Reopen}
+use Rattle.http_routes.specs.declared.route.Route.TheVariants.{Hosts, Host, Rules, Dumps, Entry, Commit, Park, Dump, Resume, Partial, Backups, Backup, BackupList, BackupEntry, BackupFile, Restores, Keep, Next, Restore, Expire, Contacts, Due, Clean, Sweep, Stats, Reopen}
 use Rattle.http_routes.specs.declared.route.Action.{Action}
 use Rattle.http_routes.specs.declared.route.Action.TheVariants as A
 use Rattle.http_routes.specs.declared.route.OfficeAction.TheVariants as O
@@ -28,7 +28,10 @@ routes =
     ∷ (codes "/hosts/{host}/dumps", Dumps)
     ∷ (codes "/dumps/{dump}/entry", Entry)
     ∷ (codes "/dumps/{dump}/commit", Commit)
+    ∷ (codes "/dumps/{dump}/park", Park)
     ∷ (codes "/dumps/{dump}", Dump)
+    ∷ (codes "/hosts/{host}/resume", Resume)
+    ∷ (codes "/hosts/{host}/partial", Partial)
     ∷ (codes "/hosts/{host}/backups", Backups)
     ∷ (codes "/hosts/{host}/backups/{number}", Backup)
     ∷ (codes "/hosts/{host}/backups/{number}/list", BackupList)
@@ -59,7 +62,10 @@ actions_of Rules = (codes "PUT", A.Host H.SetRules) ∷ []
 actions_of Dumps = (codes "POST", A.Host H.OpenDump) ∷ []
 actions_of Entry = (codes "PUT", A.Session S.Put) ∷ (codes "DELETE", A.Session S.Remove) ∷ []
 actions_of Commit = (codes "POST", A.Session S.Commit) ∷ []
+actions_of Park = (codes "POST", A.Session S.Park) ∷ []
 actions_of Dump = (codes "DELETE", A.Session S.Abort) ∷ []
+actions_of Resume = (codes "POST", A.Host H.Resume) ∷ []
+actions_of Partial = (codes "DELETE", A.Host H.DropPartial) ∷ (codes "GET", A.Host H.PartialInfo) ∷ []
 actions_of Backups = (codes "GET", A.Host H.Backups) ∷ []
 actions_of Backup = (codes "DELETE", A.Backup B.Delete) ∷ []
 actions_of BackupList = (codes "GET", A.Backup B.List) ∷ []

@@ -14,7 +14,10 @@ pub enum Route {
     Dumps,
     Entry,
     Commit,
+    Park,
     Dump,
+    Resume,
+    Partial,
     Backups,
     Backup,
     BackupList,
@@ -34,14 +37,17 @@ pub enum Route {
 }
 
 /// The table of routes: the text of each, in which `{name}` stands for one piece that isn't empty and has no slash.
-pub const ROUTES: [(&str, Route); 23] = [
+pub const ROUTES: [(&str, Route); 26] = [
     ("/hosts", Route::Hosts),
     ("/hosts/{host}", Route::Host),
     ("/hosts/{host}/rules", Route::Rules),
     ("/hosts/{host}/dumps", Route::Dumps),
     ("/dumps/{dump}/entry", Route::Entry),
     ("/dumps/{dump}/commit", Route::Commit),
+    ("/dumps/{dump}/park", Route::Park),
     ("/dumps/{dump}", Route::Dump),
+    ("/hosts/{host}/resume", Route::Resume),
+    ("/hosts/{host}/partial", Route::Partial),
     ("/hosts/{host}/backups", Route::Backups),
     ("/hosts/{host}/backups/{number}", Route::Backup),
     ("/hosts/{host}/backups/{number}/list", Route::BackupList),
@@ -87,6 +93,9 @@ pub enum HostAction {
     Add,
     SetRules,
     OpenDump,
+    Resume,
+    DropPartial,
+    PartialInfo,
     Backups,
     Expire,
     Contact,
@@ -110,6 +119,7 @@ pub enum SessionAction {
     Put,
     Remove,
     Commit,
+    Park,
     Abort,
     ReadNext,
     CloseRead,
@@ -130,7 +140,13 @@ impl Route {
                 ("DELETE", Action::Session(SessionAction::Remove)),
             ],
             Route::Commit => &[("POST", Action::Session(SessionAction::Commit))],
+            Route::Park => &[("POST", Action::Session(SessionAction::Park))],
             Route::Dump => &[("DELETE", Action::Session(SessionAction::Abort))],
+            Route::Resume => &[("POST", Action::Host(HostAction::Resume))],
+            Route::Partial => &[
+                ("DELETE", Action::Host(HostAction::DropPartial)),
+                ("GET", Action::Host(HostAction::PartialInfo)),
+            ],
             Route::Backups => &[("GET", Action::Host(HostAction::Backups))],
             Route::Backup => &[("DELETE", Action::Backup(BackupAction::Delete))],
             Route::BackupList => &[("GET", Action::Backup(BackupAction::List))],
@@ -157,6 +173,7 @@ impl Route {
     {
         match self {
             Route::Entry => "PUT, DELETE",
+            Route::Partial => "DELETE, GET",
             _ => self.actions()[0].0,
         }
     }

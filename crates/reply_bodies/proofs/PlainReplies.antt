@@ -94,6 +94,7 @@ unfolding plain_or_none
 short_plain event A.Done h s = done_plain event h
 short_plain event (A.Dump name) h s = rw (session_plain name s) refl
 short_plain event (A.Restore name) h s = rw (session_plain name s) refl
+short_plain event (A.Partial entries kind start) h s = rw (due_plain (Some kind)) refl
 short_plain event (A.Due blackout kind) h s = rw (due_plain kind) refl
 short_plain event answer h s = refl
 

@@ -54,6 +54,8 @@ abbrev pub short_fields : Event → Answer → Option (List Field)
 short_fields event A.Done = Some (done_fields event)
 short_fields event (A.Dump name) = Some ((codes "dump", Text (session_text name)) ∷ [])
 short_fields event (A.Committed number) = Some ((codes "number", Count number) ∷ [])
+short_fields event (A.Partial entries kind start) =
+    Some ((codes "entries", Count entries) ∷ (codes "kind", Text (kind_text kind)) ∷ (codes "start", Count start) ∷ [])
 short_fields event (A.Stage number) = Some ((codes "stage", Count number) ∷ [])
 short_fields event (A.Opened reader size) = Some ((codes "reader", Count reader) ∷ (codes "size", Count size) ∷ [])
 short_fields event (A.Restore name) = Some ((codes "restore", Text (session_text name)) ∷ [])

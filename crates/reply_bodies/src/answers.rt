@@ -2,7 +2,7 @@ ghost use Rattle.std.specs.Prelude.{◌≡◌, ◌≤◌, [], ◌∷◌, codes, 
 ghost use Rattle.std.specs.Option.{option_map};
 ghost use Rattle.office_model.specs.Session.{session_text};
 ghost use Rattle.reply_bodies.specs.Objects.{Text as TextValue, Count, Flag, object_text};
-ghost use Rattle.reply_bodies.specs.Replies.{done_fields, stats_fields, due_text, short_fields, long_body, takes_memory};
+ghost use Rattle.reply_bodies.specs.Replies.{done_fields, stats_fields, kind_text, due_text, short_fields, long_body, takes_memory};
 
 use crate::entries::{entries_body, node_body};
 use crate::frames::next_body;
@@ -22,6 +22,11 @@ pub fn answer_text(event: &Event, answer: &Answer) -> Option<ShortText>
         Answer::Done => Some(done_text(event)),
         Answer::Dump(name) => Some(named(b"dump", session_name(*name).as_slice())),
         Answer::Committed(number) => Some(counted(b"number", u64::from(*number))),
+        Answer::Partial {
+            entries,
+            kind,
+            start,
+        } => Some(partial_text(*entries, *kind, *start)),
         Answer::Stage(number) => Some(counted(b"stage", *number)),
         Answer::Opened { reader, size } => Some(opened_text(*reader, *size)),
         Answer::Restore(name) => Some(named(b"restore", session_name(*name).as_slice())),
@@ -64,6 +69,21 @@ fn done_text(event: &Event) -> ShortText
         Event::AddHost { host, .. } => named(b"host", host.as_slice()),
         _ => empty(),
     }
+}
+
+/// How many paths a partial has, its kind, and its start.
+#[tactic(auto, unfolding(crate::specs::Objects::object_text))]
+fn partial_text(entries: u64, kind: Kind, start: u64) -> ShortText
+    ensures { result ≡ object_text ((codes "entries", Count entries) ∷ (codes "kind", TextValue (kind_text kind)) ∷ (codes "start", Count start) ∷ []) }
+{
+    let kind = due_text(Some(kind));
+    let mut text = ShortText::new();
+    text.push(b"{");
+    push_count(&mut text, false, b"entries", entries);
+    push_text(&mut text, true, b"kind", kind.as_bytes());
+    push_count(&mut text, true, b"start", start);
+    text.push(b"}");
+    text
 }
 
 /// The number of a reader, and how many bytes it gives.

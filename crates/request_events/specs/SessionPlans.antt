@@ -36,6 +36,7 @@ abbrev pub session_plan : SessionAction → SessionName → List Pair → Said P
 session_plan A.Put session pairs = put_plan session pairs
 session_plan A.Remove session pairs = path_in pairs >>= λ path. Ok (P.Ready (E.Remove session path))
 session_plan A.Commit session pairs = Ok (P.Commit session)
+session_plan A.Park session pairs = Ok (P.Ready (E.Park session))
 session_plan A.Abort session pairs = Ok (P.Ready (E.Abort session))
 session_plan A.ReadNext session pairs = Ok (P.Ready (E.ReadNext session))
 session_plan A.CloseRead session pairs = Ok (P.Ready (E.CloseRead session))

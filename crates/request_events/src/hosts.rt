@@ -31,6 +31,9 @@ pub fn host_plan(
             let kind = dump_kind_in(query)?;
             Ok(Plan::OpenDump { host, kind })
         }
+        HostAction::Resume => Ok(Plan::Ready(Event::Resume { host })),
+        HostAction::DropPartial => Ok(Plan::Ready(Event::DropPartial { host })),
+        HostAction::PartialInfo => Ok(Plan::Ready(Event::PartialInfo { host })),
         HostAction::Backups => Ok(Plan::Ready(Event::Backups { host })),
         HostAction::Expire => Ok(Plan::Expire { host }),
         HostAction::Contact => {

@@ -64,6 +64,7 @@ pub fn session_plan(
             }))
         }
         SessionAction::Commit => Ok(Plan::Commit { dump: session }),
+        SessionAction::Park => Ok(Plan::Ready(Event::Park { dump: session })),
         SessionAction::Abort => Ok(Plan::Ready(Event::Abort { dump: session })),
         SessionAction::ReadNext => Ok(Plan::Ready(Event::ReadNext { restore: session })),
         SessionAction::CloseRead => Ok(Plan::Ready(Event::CloseRead { restore: session })),
