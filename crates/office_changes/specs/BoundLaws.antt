@@ -2,8 +2,9 @@
 --     few_occurrences      rows name a content no more often than there are rows
 --     few_backups      a host has fewer backups than numbers
 --     length-map_values      values that change leave the length
---     few_counted      how often the tables of a host's backups name a content
-use Rattle.std.specs.Prelude.{◌≡◌, ℕ, zero, suc, ◌+◌, ◌-◌, ◌*◌, ◌^◌, ◌<◌, ◌≤◌, Bool, true, false, List, [], ◌∷◌, length, Option, Some, None, slice_get, if◌then◌else◌}
+--     few_stored, few_counted      how often the tables of a host's backups name a content
+--     few_counted_in      how often all that is counted of the host does
+use Rattle.std.specs.Prelude.{◌≡◌, ℕ, zero, suc, ◌+◌, ◌-◌, ◌*◌, ◌^◌, ◌<◌, ◌≤◌, Bool, true, false, List, [], ◌∷◌, length, Option, Some, None, IfSome, slice_get, if◌then◌else◌}
 use Rattle.std.proofs.Common.{refl, sym, ap, ◌∙◌, arith}
 use Rattle.std.specs.Ordering.{match_ordering}
 use Rattle.std.specs.declared.cmp.Ordering.{Ordering}
@@ -15,10 +16,11 @@ use Rattle.merge_view.specs.Views.{Rows, reverse, difference}
 use Rattle.stored_trees.specs.Values.{map_values}
 use Rattle.stored_trees.specs.Occurrences.{names, occurrences}
 use Rattle.ref_counts.specs.Numbers.{total}
-use Rattle.ref_counts.specs.Stored.{Backup as StoredBackup, stored_before, stored}
-use Rattle.office_model.specs.Office.{Backup, AreNumbered, number_limit}
+use Rattle.ref_counts.specs.Stored.{Backup as StoredBackup, StoredHost, stored_before, stored, of_partial, counted}
+use Rattle.ref_counts.specs.StoredLaws.{total-counted}
+use Rattle.office_model.specs.Office.{Backup, Partial, Host, IsTree, AreNumbered, number_limit}
 use Rattle.office_files.specs.Pairs.{AtEachPair, other_at}
-use Rattle.office_files.specs.Hosts.{IsShown}
+use Rattle.office_files.specs.Hosts.{IsShown, StandsPartial}
 
 -- ---- a merge has no more entries than both lists
 
@@ -122,11 +124,10 @@ pub length-map_values : {K X Y : Type 0} (f : X → Y) (xs : List (K × X)) → 
 length-map_values f [] = refl
 length-map_values f (x ∷ xs) = ap suc (length-map_values f xs)
 
--- how often the tables of a host's backups name a content
-pub few_counted : (given : PoolId → Type 0) (contents : PoolId → List ℕ) (next : ℕ) (backups : List Backup) (shown : List StoredBackup)
+pub few_stored : (given : PoolId → Type 0) (contents : PoolId → List ℕ) (next : ℕ) (backups : List Backup) (shown : List StoredBackup)
     → AreNumbered next backups → next ≤ number_limit → AtEachPair (λ i. IsShown given contents) backups shown → (id : PoolId)
-    → total id (stored shown) < 2 ^ 64
-few_counted given contents next backups shown numbered limit pairs id =
+    → total id (stored shown) ≤ 2 ^ 53
+few_stored given contents next backups shown numbered limit pairs id =
     let all = few_total id shown few in
     let many = few_backups next backups numbered in
     let same = pairs.counted in
@@ -139,3 +140,32 @@ few_counted given contents next backups shown numbered limit pairs id =
         let tree = numbered.trees i w.0 w.1 in
         let size : length w.0.tree ≡ length b.rows = ap length is.tree ∙ length-map_values _ b.rows in
         omega (arith, size, tree.few)
+
+-- how often the tables of a host's backups name a content
+pub few_counted : (given : PoolId → Type 0) (contents : PoolId → List ℕ) (next : ℕ) (backups : List Backup) (shown : List StoredBackup)
+    → AreNumbered next backups → next ≤ number_limit → AtEachPair (λ i. IsShown given contents) backups shown → (id : PoolId)
+    → total id (stored shown) < 2 ^ 64
+few_counted given contents next backups shown numbered limit pairs id =
+    let few = few_stored given contents next backups shown numbered limit pairs id in omega (arith, few)
+
+few_parked : (given : PoolId → Type 0) (contents : PoolId → List ℕ) (number : ℕ) (partial : Option Partial) (rows : Option Rows)
+    (found : Option (List ℕ)) → IfSome partial (λ (partial : Partial). IsTree partial.tree)
+    → StandsPartial given contents number partial rows found → (id : PoolId) → total id (of_partial rows) ≤ 1048576
+few_parked given contents number None None found tree stands id = omega arith
+few_parked given contents number None (Some rows) found tree stands id = absurd stands
+few_parked given contents number (Some partial) None found tree stands id = absurd stands
+few_parked given contents number (Some partial) (Some rows) found tree stands id =
+    let few = few_occurrences id rows in
+    let size : length partial.tree ≡ length rows = ap length stands.tree ∙ length-map_values _ rows in
+    omega (arith, few, size, tree.few)
+
+-- and those with its partial's
+pub few_counted_in : (given : PoolId → Type 0) (contents : PoolId → List ℕ) (number : ℕ) (host : Host) (of : StoredHost) (found : Option (List ℕ))
+    → AreNumbered host.next host.backups → host.next ≤ number_limit → IfSome host.partial (λ (partial : Partial). IsTree partial.tree)
+    → AtEachPair (λ i. IsShown given contents) host.backups of.backups → StandsPartial given contents number host.partial of.partial found
+    → (id : PoolId) → total id (counted of) < 2 ^ 64
+few_counted_in given contents number host of found numbered limit tree shown parked id =
+    let all = few_stored given contents host.next host.backups of.backups numbered limit shown id in
+    let more = few_parked given contents number host.partial of.partial found tree parked id in
+    let sum = total-counted id of in
+    omega (arith, all, more, sum)

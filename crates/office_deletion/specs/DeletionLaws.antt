@@ -18,17 +18,17 @@ use Rattle.disk_trait.specs.Files.{Files}
 use Rattle.backup_rules.specs.declared.lines.Line.{Line}
 use Rattle.merge_view.specs.Views.{Rows}
 use Rattle.ref_counts.specs.Numbers.{total}
-use Rattle.ref_counts.specs.Stored.{Backup as StoredBackup, stored, AreWhole}
+use Rattle.ref_counts.specs.Stored.{Backup as StoredBackup, StoredHost, stored, counted, AreWhole}
 use Rattle.backup_delete.specs.Trees.{backups, is_gone, are_gone}
 use Rattle.backup_delete.specs.Folds.{filled as filled_line, left_lines, left_trees, folded_tables, changes, change_at, changed, table_at}
 use Rattle.backup_delete.specs.FoldLaws.{folded-stored}
 use Rattle.backup_delete.specs.TableLaws.{changed-left}
-use Rattle.office_model.specs.Office.{Host, Backup, AreNumbered, backup_index}
+use Rattle.office_model.specs.Office.{Host, Backup, Partial, AreNumbered, backup_index}
 use Rattle.office_model.specs.Parts.{lines_of, with_last, filled_as}
 use Rattle.office_files.specs.Pairs.{AtEachPair, no_pairs}
 use Rattle.office_files.specs.Layouts.{IsHostFile, IsTableFile, IsCountsFile}
-use Rattle.office_files.specs.Hosts.{index_of_host, IsShown, StandsHost}
-use Rattle.office_files.specs.KeptLaws.{IsTableFile-same}
+use Rattle.office_files.specs.Hosts.{index_of_host, IsShown, StandsPartial, StandsHost}
+use Rattle.office_files.specs.KeptLaws.{IsTableFile-same, partial_given}
 use Rattle.office_changes.specs.ChangeLaws.{shown_given}
 
 -- the backups of other numbers, the last of them filled
@@ -292,22 +292,30 @@ deleted_left all i b rise e =
 
 -- ---- a host
 
+-- what is stored of a host without the backups of these numbers
+abbrev pub shortened : List ℕ → List Line → StoredHost → StoredHost
+shortened numbers lines of = record of { backups = backups (left_lines numbers lines) (left_trees numbers lines (rows_of of.backups)) }
+
 -- The backups of these numbers are deleted from a host: its index, its tables as the changes of the deletion make them, and
--- its counts.
-pub record IsDeletion (numbers : List ℕ) (files image : Files) (number : ℕ) (host new : Host) (shown : List StoredBackup) : Type 0 where
+-- its counts. Its partial stays.
+pub record IsDeletion (numbers : List ℕ) (files image : Files) (number : ℕ) (host new : Host) (of : StoredHost) : Type 0 where
   pub backups_are : new.backups ≡ left_backups numbers host.backups
   pub numbered : AreNumbered new.next new.backups
   pub index : IsHostFile (index_of_host number new) (image (F.Host number))
-  pub tables : (n : ℕ) → IsChangedTo (change_at (changes numbers (lines_of host.backups) (stored shown)) n) (files (F.Table number n)) (image (F.Table number n))
+  pub tables : (n : ℕ) → IsChangedTo (change_at (changes numbers (lines_of host.backups) (stored of.backups)) n) (files (F.Table number n)) (image (F.Table number n))
   pub counts : IsCountsFile number
-      (λ id. total id (stored (backups (left_lines numbers (lines_of host.backups)) (left_trees numbers (lines_of host.backups) (rows_of shown)))))
-      (image (F.Counts number))
+      (λ id. total id (counted (shortened numbers (lines_of host.backups) of))) (image (F.Counts number))
+  pub parked : new.partial ≡ host.partial
+  pub partial : image (F.Partial number) ≡ files (F.Partial number)
 
 module _ (given given' : PoolId → Type 0) (contents contents' : PoolId → List ℕ)
     (same : (id : PoolId) → given id → given' id × (contents id ≡ contents' id)) (numbers : List ℕ) (files image : Files) (number : ℕ)
-    (host new : Host) (shown : List StoredBackup) (stands : StandsHost given contents files number host shown)
+    (host new : Host) (of : StoredHost) (stands : StandsHost given contents files number host of)
     (none : (n : ℕ) → is_some (backup_index host.backups n) ≡ false → files (F.Table number n) ≡ None)
-    (deletion : IsDeletion numbers files image number host new shown) where
+    (deletion : IsDeletion numbers files image number host new of) where
+  abbrev shown : List StoredBackup
+  shown = of.backups
+
   abbrev lines : List Line
   lines = lines_of host.backups
 
@@ -347,7 +355,7 @@ module _ (given given' : PoolId → Type 0) (contents contents' : PoolId → Lis
   stored_length (s ∷ []) = refl
   stored_length (s ∷ t ∷ all) = ap suc (stored_length (t ∷ all))
 
-  pub host_shortened : StandsHost given' contents' image number new left
+  pub host_shortened : StandsHost given' contents' image number new (shortened numbers lines of)
   host_shortened = record {
     index = deletion.index;
     shown = shown_left;
@@ -357,6 +365,9 @@ module _ (given given' : PoolId → Type 0) (contents contents' : PoolId → Lis
           subst (λ (t : Option Rows). IsTableOf t (image (F.Table number b.line.number)))
           (at_number new.backups (stored left) deletion.numbered.rise i b rows e f) (table_of b.line.number);
     };
+    partial = subst (λ (p : Option Partial). StandsPartial given' contents' number p of.partial (image (F.Partial number))) (sym deletion.parked)
+        (partial_given given given' contents contents' same number host.partial of.partial (files (F.Partial number)) (image (F.Partial number))
+        deletion.partial stands.partial);
     counts = deletion.counts;
   }
 

@@ -8,9 +8,7 @@ use Rattle.disk_trait.specs.declared.ids.FileId.TheVariants as F
 use Rattle.disk_trait.specs.Names.{is_metadata}
 use Rattle.disk_trait.specs.Files.{Files, bytes_of}
 use Rattle.pool_index.specs.Index.{Index}
-use Rattle.ref_counts.specs.Stored.{Backup as StoredBackup}
-use Rattle.backup_delete.specs.Trees.{backups as backups_of}
-use Rattle.backup_delete.specs.Folds.{left_lines, left_trees}
+use Rattle.ref_counts.specs.Stored.{StoredHost}
 use Rattle.office_model.specs.Office.{Durable, Host, IsSoundDurable, backup_index}
 use Rattle.office_model.specs.Parts.{lines_of}
 use Rattle.office_files.specs.Hosts.{StandsHost}
@@ -19,10 +17,10 @@ use Rattle.office_files.specs.Pooled.{contents_of, IsListed}
 use Rattle.office_files.specs.Stands.{Stands}
 use Rattle.office_files.specs.KeptLaws.{tells_kept, one_kept, pool_kept}
 use Rattle.office_changes.specs.ChangeLaws.{is_of_host, host_changed}
-use Rattle.office_deletion.specs.DeletionLaws.{rows_of, IsDeletion, host_shortened, beyond_deletion}
+use Rattle.office_deletion.specs.DeletionLaws.{shortened, IsDeletion, host_shortened, beyond_deletion}
 
-module _ (digest_of : List ℕ → List ℕ) (index : Index) (backups : List (List StoredBackup)) (files image : Files) (office : Durable) (p : ℕ)
-    (host new : Host) (numbers : List ℕ) (shown : List StoredBackup) where
+module _ (digest_of : List ℕ → List ℕ) (index : Index) (backups : List StoredHost) (files image : Files) (office : Durable) (p : ℕ)
+    (host new : Host) (numbers : List ℕ) (shown : StoredHost) where
   -- the pool and its index stay, and so do the files of other hosts
   pub deletion_stands : slice_get office.hosts p ≡ Some host → new.name ≡ host.name → slice_get backups p ≡ Some shown
       → ((file : FileId) → is_metadata file ≡ true → is_of_host p file ≡ false → image file ≡ files file)
@@ -31,13 +29,11 @@ module _ (digest_of : List ℕ → List ℕ) (index : Index) (backups : List (Li
       → IsSoundDurable (record office { hosts = slice_set office.hosts p new })
       → Stands digest_of index backups files office
       → Stands digest_of index
-      (slice_set backups p
-      (backups_of (left_lines numbers (lines_of host.backups)) (left_trees numbers (lines_of host.backups) (rows_of shown))))
+      (slice_set backups p (shortened numbers (lines_of host.backups) shown))
       image (record office { hosts = slice_set office.hosts p new })
   deletion_stands here name there stays pooled deletion sound stands =
       host_changed digest_of index index backups files image office p host new
-      (backups_of (left_lines numbers (lines_of host.backups)) (left_trees numbers (lines_of host.backups) (rows_of shown)))
-      office.pool here name
+      (shortened numbers (lines_of host.backups) shown) office.pool here name
       (λ file metadata other not_index. stays file metadata other) still
       (beyond_deletion (IsListed index) (IsListed index) (contents_of files) (contents_of image) still numbers files image p host new shown
       stands_host none deletion)

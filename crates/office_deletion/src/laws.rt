@@ -8,9 +8,7 @@ ghost use Rattle.disk_trait.specs.declared.ids.FileId.TheVariants.{Table as Tabl
 ghost use Rattle.disk_trait.specs.Names.{is_metadata};
 ghost use Rattle.disk_trait.specs.Files.{Files};
 ghost use Rattle.pool_index.specs.Index.{Index};
-ghost use Rattle.ref_counts.specs.Stored.{Backup as StoredBackup};
-ghost use Rattle.backup_delete.specs.Trees.{backups};
-ghost use Rattle.backup_delete.specs.Folds.{left_lines, left_trees};
+ghost use Rattle.ref_counts.specs.Stored.{StoredHost};
 ghost use Rattle.office_model.specs.Office.{Durable, Host, Backup, AreBackups, IsSoundDurable, backup_index};
 ghost use Rattle.office_model.specs.Parts.{lines_of, with_last, filled_as};
 ghost use Rattle.office_model.specs.events.Expire.{unflagged};
@@ -19,19 +17,19 @@ ghost use Rattle.office_files.specs.Pooled.{contents_of, IsListed};
 ghost use Rattle.office_files.specs.Hosts.{StandsHost};
 ghost use Rattle.office_files.specs.Stands.{Stands};
 ghost use Rattle.office_changes.specs.ChangeLaws.{is_of_host};
-ghost use Rattle.office_deletion.specs.DeletionLaws.{rows_of, left_backups, IsDeletion};
+ghost use Rattle.office_deletion.specs.DeletionLaws.{left_backups, shortened, IsDeletion};
 ghost use Rattle.office_deletion.specs.ExpiryLaws.{flagged_numbers};
 
 /// A host after a deletion: files stand for it with the backups that are left, and no other table of it is there.
 pub fn host_after_a_deletion()
-    ensures stands { (index : Index) (numbers : List ℕ) (files image : Files) (number : ℕ) (host new : Host) (shown : List StoredBackup)
+    ensures stands { (index : Index) (numbers : List ℕ) (files image : Files) (number : ℕ) (host new : Host) (shown : StoredHost)
         → ((id : PoolId) → IsListed index id → contents_of files id ≡ contents_of image id)
         → StandsHost (IsListed index) (contents_of files) files number host shown
         → ((n : ℕ) → is_some (backup_index host.backups n) ≡ false → files (TableFile number n) ≡ None)
         → IsDeletion numbers files image number host new shown
         → StandsHost (IsListed index) (contents_of image) image number new
-        (backups (left_lines numbers (lines_of host.backups)) (left_trees numbers (lines_of host.backups) (rows_of shown))) }
-    ensures beyond { (index : Index) (numbers : List ℕ) (files image : Files) (number : ℕ) (host new : Host) (shown : List StoredBackup)
+        (shortened numbers (lines_of host.backups) shown) }
+    ensures beyond { (index : Index) (numbers : List ℕ) (files image : Files) (number : ℕ) (host new : Host) (shown : StoredHost)
         → ((id : PoolId) → IsListed index id → contents_of files id ≡ contents_of image id)
         → StandsHost (IsListed index) (contents_of files) files number host shown
         → ((n : ℕ) → is_some (backup_index host.backups n) ≡ false → files (TableFile number n) ≡ None)
@@ -58,8 +56,8 @@ pub fn flagged_backups_are_deleted()
 
 /// If one host's files have a deletion, and others the same bytes, files stand for the office with that host in its place.
 pub fn office_after_a_deletion()
-    ensures { (digest_of : List ℕ → List ℕ) (index : Index) (stored : List (List StoredBackup)) (files image : Files) (office : Durable)
-        (number : ℕ) (host new : Host) (numbers : List ℕ) (shown : List StoredBackup)
+    ensures { (digest_of : List ℕ → List ℕ) (index : Index) (stored : List StoredHost) (files image : Files) (office : Durable)
+        (number : ℕ) (host new : Host) (numbers : List ℕ) (shown : StoredHost)
         → slice_get office.hosts number ≡ Some host → new.name ≡ host.name → slice_get stored number ≡ Some shown
         → ((file : FileId) → is_metadata file ≡ true → is_of_host number file ≡ false → image file ≡ files file)
         → ((id : PoolId) → IsListed index id → image (PoolFile id) ≡ files (PoolFile id))
@@ -67,6 +65,6 @@ pub fn office_after_a_deletion()
         → IsSoundDurable (record office { hosts = slice_set office.hosts number new })
         → Stands digest_of index stored files office
         → Stands digest_of index
-        (slice_set stored number (backups (left_lines numbers (lines_of host.backups)) (left_trees numbers (lines_of host.backups) (rows_of shown))))
+        (slice_set stored number (shortened numbers (lines_of host.backups) shown))
         image (record office { hosts = slice_set office.hosts number new }) }
 {}

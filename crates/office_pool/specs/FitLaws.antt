@@ -20,7 +20,7 @@ use Rattle.pool_changes.specs.Listed.{item_of, index_of}
 use Rattle.pool_store.specs.Pools.{IsCertain}
 use Rattle.pool_store.specs.Fits.{Fits}
 use Rattle.stored_trees.specs.Resolved.{IsOneToOne}
-use Rattle.ref_counts.specs.Stored.{Backup as StoredBackup}
+use Rattle.ref_counts.specs.Stored.{StoredHost}
 use Rattle.office_model.specs.Office.{Durable}
 use Rattle.office_files.specs.Pooled.{contents_of, IsListed}
 use Rattle.office_files.specs.KeptLaws.{listed_held}
@@ -53,7 +53,7 @@ live_item id (Some (Staged size claims)) e = absurd (false≢true e)
 live_item id (Some Doomed) e = absurd (false≢true e)
 
 -- a pool without staged names whose index the files tell fits them
-pub fits_stands : (digest_of : List ℕ → List ℕ) (slots : Slots) (backups : List (List StoredBackup)) (files : Files) (office : Durable)
+pub fits_stands : (digest_of : List ℕ → List ℕ) (slots : Slots) (backups : List StoredHost) (files : Files) (office : Durable)
     (uncertain : FileSet) → ((id : PoolId) → is_given (slots id) ≡ true → is_live (slots id) ≡ true) → IsCertain slots uncertain
     → Stands digest_of (index_of slots) backups files office → Fits digest_of slots uncertain files
 fits_stands digest_of slots backups files office uncertain live certain stands = record {

@@ -11,7 +11,7 @@ ghost use Rattle.pool_store.specs.Pools.{IsCertain};
 ghost use Rattle.pool_store.specs.Fits.{Fits};
 ghost use Rattle.merge_view.specs.Views.{Rows};
 ghost use Rattle.stored_trees.specs.Resolved.{IsOneToOne};
-ghost use Rattle.ref_counts.specs.Stored.{Backup as StoredBackup};
+ghost use Rattle.ref_counts.specs.Stored.{StoredHost};
 ghost use Rattle.office_model.specs.Office.{Durable};
 ghost use Rattle.office_files.specs.Pooled.{contents_of};
 ghost use Rattle.office_files.specs.Stands.{Stands};
@@ -20,7 +20,7 @@ ghost use Rattle.office_pool.specs.AddedLaws.{is_among};
 
 /// A pool without staged names, by whose live names files stand for an office, fits the files.
 pub fn pool_fits_an_opened_office()
-    ensures { (digest_of : List ℕ → List ℕ) (slots : Slots) (backups : List (List StoredBackup)) (files : Files) (office : Durable) (uncertain : FileSet)
+    ensures { (digest_of : List ℕ → List ℕ) (slots : Slots) (backups : List StoredHost) (files : Files) (office : Durable) (uncertain : FileSet)
         → ((id : PoolId) → is_given (slots id) ≡ true → is_live (slots id) ≡ true) → IsCertain slots uncertain
         → Stands digest_of (index_of slots) backups files office → Fits digest_of slots uncertain files }
 {}

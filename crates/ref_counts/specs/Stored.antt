@@ -1,7 +1,9 @@
--- What a list of backups is stored as, the oldest first.
+-- What a host is stored as: its backups, the oldest first, and its partial dump.
 --     stored backups      a table for each: its tree, or its entries relative to the next newer one
+--     counted host      these, and the rows of the partial: what the counts of a host are of
 --     IsNamed id backups, IsHeld told content backups      some backup's tree names the id;  has the content
-use Rattle.std.specs.Prelude.{ℕ, ◌<◌, ◌⊎◌, Bool, List, [], ◌∷◌, ◌++◌, if◌then◌else◌}
+--     IsNamedIn id host, IsHeldIn told content host      some backup's tree, or the partial's
+use Rattle.std.specs.Prelude.{ℕ, ◌<◌, ◌⊎◌, Bool, List, [], ◌∷◌, ◌++◌, Option, Some, None, IfSome, if◌then◌else◌}
 use Rattle.disk_trait.specs.declared.ids.PoolId.{PoolId}
 use Rattle.attr_records.specs.Items.{contents}
 use Rattle.merge_view.specs.Views.{Rows, IsWhole, reverse}
@@ -23,6 +25,20 @@ stored [] = []
 stored (backup ∷ []) = backup.rows ∷ []
 stored (backup ∷ next ∷ more) = stored_before backup next.rows ∷ stored (next ∷ more)
 
+-- what is stored of a host
+pub record StoredHost : Type 0 where
+  pub backups : List Backup
+  pub partial : Option Rows
+
+-- the table of a partial, if there is one
+abbrev pub of_partial : Option Rows → List Rows
+of_partial None = []
+of_partial (Some rows) = rows ∷ []
+
+-- all tables that are counted of a host
+abbrev pub counted : StoredHost → List Rows
+counted host = stored host.backups ++ of_partial host.partial
+
 -- the trees of all of them are whole
 abbrev pub AreWhole : List Backup → Type 0
 AreWhole [] = Unit {0}
@@ -42,6 +58,32 @@ IsHeld told content (backup ∷ backups) = (0 < times content (contents (resolve
 abbrev pub AreAllTold : (PoolId → Type 0) → (PoolId → List ℕ) → List Backup → Type 0
 AreAllTold given told [] = Unit {0}
 AreAllTold given told (backup ∷ backups) = AreTold given told backup.rows × AreAllTold given told backups
+
+-- ---- a host
+
+-- there is a partial, whose tree names the id
+abbrev pub IsNamedParked : PoolId → Option Rows → Type 0
+IsNamedParked id None = ⊥
+IsNamedParked id (Some rows) = 0 < occurrences id rows
+
+-- some backup's tree names the id, or the partial's
+abbrev pub IsNamedIn : PoolId → StoredHost → Type 0
+IsNamedIn id host = IsNamed id host.backups ⊎ IsNamedParked id host.partial
+
+-- there is a partial, whose tree has the content
+abbrev pub IsHeldParked : (PoolId → List ℕ) → List ℕ → Option Rows → Type 0
+IsHeldParked told content None = ⊥
+IsHeldParked told content (Some rows) = 0 < times content (contents (resolved told rows))
+
+-- some backup's tree has the content, or the partial's
+abbrev pub IsHeldIn : (PoolId → List ℕ) → List ℕ → StoredHost → Type 0
+IsHeldIn told content host = IsHeld told content host.backups ⊎ IsHeldParked told content host.partial
+
+-- the contents of all ids of its backups and of its partial are told
+abbrev pub AreAllToldIn : (PoolId → Type 0) → (PoolId → List ℕ) → StoredHost → Type 0
+AreAllToldIn given told host = AreAllTold given told host.backups × IfSome host.partial (AreTold given told)
+
+-- ---- commits
 
 -- backups after a commit: the former newest, filled or not, and a new one behind it
 abbrev pub with_new : List Backup → Backup → Bool → Backup → List Backup

@@ -1,8 +1,10 @@
 -- Laws of stored backups.
 --     named_from_total, total_from_named      tables name an id exactly if some backup's tree does
 --     held_from_named, named_from_held      the same of the content of a given id
+--     total-counted      the counts of a host are those of its backups and of its partial
+--     named_in_from_total, total_from_named_in, held_in_from_named, named_in_from_held      the same of a host
 --     stored-before, stored-with_new      what a commit changes
-use Rattle.std.specs.Prelude.{◌≡◌, ℕ, ◌+◌, ◌<◌, ◌⊎◌, Bool, true, false, cond, List, [], ◌∷◌, ◌++◌, Option, Some, None, if◌then◌else◌}
+use Rattle.std.specs.Prelude.{◌≡◌, ℕ, ◌+◌, ◌<◌, ◌⊎◌, Bool, true, false, cond, List, [], ◌∷◌, ◌++◌, Option, Some, None, IfSome, if◌then◌else◌}
 use Rattle.std.specs.declared.cmp.Ordering.{Ordering}
 use Rattle.std.specs.declared.cmp.Ordering.TheVariants.{Less, Equal, Greater}
 use Rattle.std.specs.Ordering.{is_eq, eq_by_cmp}
@@ -22,10 +24,10 @@ use Rattle.merge_view.specs.Views.{Rows, IsWhole, difference, reverse}
 use Rattle.merge_view.specs.ViewLaws.{IsInOrder-reverse, node_at-reverse}
 use Rattle.stored_trees.specs.Occurrences.{names, occurrences}
 use Rattle.stored_trees.specs.OccurrenceLaws.{occurrences-resolved}
-use Rattle.stored_trees.specs.Resolved.{IsOneToOne}
+use Rattle.stored_trees.specs.Resolved.{IsOneToOne, AreTold}
 use Rattle.ref_counts.specs.Numbers.{total}
 use Rattle.ref_counts.specs.NumberLaws.{total-append}
-use Rattle.ref_counts.specs.Stored.{Backup, stored_before, stored, AreWhole, IsNamed, IsHeld, AreAllTold, with_new, older_tables}
+use Rattle.ref_counts.specs.Stored.{Backup, StoredHost, stored_before, stored, of_partial, counted, AreWhole, IsNamed, IsHeld, AreAllTold, IsNamedParked, IsNamedIn, IsHeldParked, IsHeldIn, AreAllToldIn, with_new, older_tables}
 
 -- ---- rows that name an id
 
@@ -201,6 +203,57 @@ module _ (given : PoolId → Type 0) (told : PoolId → List ℕ) (one : IsOneTo
   named_from_held id [] g h w = w
   named_from_held id (backup ∷ backups) g h (inl n) = inl (subst (λ m. 0 < m) (sym (occurrences-resolved given told one id backup.rows g h.0)) n)
   named_from_held id (backup ∷ backups) g h (inr w) = inr (named_from_held id backups g h.1 w)
+
+-- ---- a host, with its partial
+
+pub total-counted : (id : PoolId) (host : StoredHost)
+    → total id (counted host) ≡ total id (stored host.backups) + total id (of_partial host.partial)
+total-counted id host = total-append id (stored host.backups) (of_partial host.partial)
+
+parked_from_total : (id : PoolId) (partial : Option Rows) → 0 < total id (of_partial partial) → IsNamedParked id partial
+parked_from_total id None n = absurd (omega (arith, n))
+parked_from_total id (Some rows) n = omega (arith, n)
+
+total_from_parked : (id : PoolId) (partial : Option Rows) → IsNamedParked id partial → 0 < total id (of_partial partial)
+total_from_parked id None n = absurd n
+total_from_parked id (Some rows) n = omega (arith, n)
+
+pub named_in_from_total : (id : PoolId) (host : StoredHost) → AreWhole host.backups → 0 < total id (counted host) → IsNamedIn id host
+named_in_from_total id host whole n =
+    step (some_or_more (total id (stored host.backups)) (total id (of_partial host.partial)) (subst (λ m. 0 < m) (total-counted id host) n))
+  where
+    step : (0 < total id (stored host.backups)) ⊎ (0 < total id (of_partial host.partial)) → IsNamedIn id host
+    step (inl m) = inl (named_from_total id host.backups whole m)
+    step (inr m) = inr (parked_from_total id host.partial m)
+
+pub total_from_named_in : (id : PoolId) (host : StoredHost) → AreWhole host.backups → IsNamedIn id host → 0 < total id (counted host)
+total_from_named_in id host whole named = subst (λ m. 0 < m) (sym (total-counted id host)) (step named)
+  where
+    step : IsNamedIn id host → 0 < total id (stored host.backups) + total id (of_partial host.partial)
+    step (inl n) = some_first (total id (stored host.backups)) (total id (of_partial host.partial)) (total_from_named id host.backups whole n)
+    step (inr n) = some_later (total id (stored host.backups)) (total id (of_partial host.partial)) (total_from_parked id host.partial n)
+
+module _ (given : PoolId → Type 0) (told : PoolId → List ℕ) (one : IsOneToOne given told) where
+  parked_held : (id : PoolId) (partial : Option Rows) → given id → IfSome partial (AreTold given told) → IsNamedParked id partial
+      → IsHeldParked told (told id) partial
+  parked_held id None g h n = n
+  parked_held id (Some rows) g h n = subst (λ m. 0 < m) (occurrences-resolved given told one id rows g h) n
+
+  held_parked : (id : PoolId) (partial : Option Rows) → given id → IfSome partial (AreTold given told)
+      → IsHeldParked told (told id) partial
+      → IsNamedParked id partial
+  held_parked id None g h n = n
+  held_parked id (Some rows) g h n = subst (λ m. 0 < m) (sym (occurrences-resolved given told one id rows g h)) n
+
+  pub held_in_from_named : (id : PoolId) (host : StoredHost) → given id → AreAllToldIn given told host → IsNamedIn id host
+      → IsHeldIn told (told id) host
+  held_in_from_named id host g h (inl n) = inl (held_from_named given told one id host.backups g h.0 n)
+  held_in_from_named id host g h (inr n) = inr (parked_held id host.partial g h.1 n)
+
+  pub named_in_from_held : (id : PoolId) (host : StoredHost) → given id → AreAllToldIn given told host → IsHeldIn told (told id) host
+      → IsNamedIn id host
+  named_in_from_held id host g h (inl n) = inl (named_from_held given told one id host.backups g h.0 n)
+  named_in_from_held id host g h (inr n) = inr (held_parked id host.partial g h.1 n)
 
 -- ---- commits
 

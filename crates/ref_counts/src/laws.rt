@@ -6,14 +6,14 @@ ghost use Rattle.merge_view.specs.Views.{reverse};
 ghost use Rattle.stored_trees.specs.Occurrences.{occurrences};
 ghost use Rattle.stored_trees.specs.Resolved.{IsOneToOne};
 ghost use Rattle.ref_counts.specs.Numbers.{Items, AreCounts, number, total};
-ghost use Rattle.ref_counts.specs.Stored.{Backup, stored, AreWhole, IsNamed, IsHeld, AreAllTold, with_new, older_tables};
+ghost use Rattle.ref_counts.specs.Stored.{Backup, StoredHost, stored, counted, AreWhole, IsNamedIn, IsHeldIn, AreAllToldIn, with_new, older_tables};
 
-/// The tables of backups name an id exactly if some backup's tree names it, and so if one has its content.
+/// What is counted of a host names an id exactly if the tree of a backup or of the partial names it, and so if one has its content.
 pub fn bridge_law()
-    ensures named { (id : PoolId) (backups : List Backup) → AreWhole backups → (0 < total id (stored backups)) ↔ IsNamed id backups }
+    ensures named { (id : PoolId) (host : StoredHost) → AreWhole host.backups → (0 < total id (counted host)) ↔ IsNamedIn id host }
     ensures held { (given : PoolId → Bool) (told : PoolId → List ℕ) → IsOneToOne (λ id. given id ≡ true) told
-        → (id : PoolId) (backups : List Backup) → given id ≡ true → AreAllTold (λ id. given id ≡ true) told backups → AreWhole backups
-        → (0 < total id (stored backups)) ↔ IsHeld told (told id) backups }
+        → (id : PoolId) (host : StoredHost) → given id ≡ true → AreAllToldIn (λ id. given id ≡ true) told host → AreWhole host.backups
+        → (0 < total id (counted host)) ↔ IsHeldIn told (told id) host }
 {}
 
 /// A commit changes the former newest backup's table alone, and adds one; so the numbers change by these tables' alone.

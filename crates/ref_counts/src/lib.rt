@@ -28,5 +28,5 @@ pub use fault::CountsFault;
 pub use item::CountItem;
 pub use laws::{bridge_law, commit_law, same_counts_law};
 pub use reading::read_counts;
-pub use tally::{Tally, count_tables, recount};
+pub use tally::{Tally, add_table, count_tables, recount, take_table};
 pub use writing::write_counts;

@@ -1,15 +1,15 @@
 //! Counts the ids that tables name.
 
-ghost use Rattle.std.specs.Prelude.{◌≡◌, ◌+◌, ◌<◌, ◌↔◌, [], ℕ, List, IfOk, OnOk, if◌then◌else◌};
+ghost use Rattle.std.specs.Prelude.{◌≡◌, ◌+◌, ◌-◌, ◌<◌, ◌↔◌, [], ℕ, List, IfOk, OnOk, if◌then◌else◌};
 ghost use Rattle.disk_trait.specs.declared.ids.PoolId.{PoolId};
 ghost use Rattle.ordered_lists.specs.Order.{IsInOrder};
 ghost use Rattle.pool_index.specs.Items.{id_cmp};
 ghost use Rattle.attr_tables.specs.Records.{is_same_id};
 ghost use Rattle.stored_trees.specs.Occurrences.{names, occurrences};
 ghost use Rattle.ref_counts.specs.Numbers.{AreSome, number, total, capped};
-ghost use Rattle.ref_counts.specs.Stored.{Backup, stored, AreWhole, IsNamed};
+ghost use Rattle.ref_counts.specs.Stored.{StoredHost, counted, AreWhole, IsNamedIn};
 
-use crate::counts::Counts;
+use crate::counts::{Counts, add, take};
 use crate::item::CountItem;
 use attr_tables::{Record, Row, Table};
 use disk_trait::PoolId;
@@ -124,12 +124,40 @@ pub fn count_tables(alloc: Global, tables: &[Table]) -> Result<Counts, AllocErro
     Ok(counts)
 }
 
-/// The counts of a host whose tables these are, or want of memory. If they are what backups are stored as, an id has
-/// a number above 0 exactly if some backup's tree names it.
+/// How often a table names each id, or want of memory; a number that would pass 2^64 - 1 stays at it.
+fn count_table(alloc: Global, table: &Table) -> Result<Counts, AllocError>
+    ensures { IfOk result (λ counts. (id : PoolId) → number counts id ≡ capped (occurrences id table.now)) }
+{
+    let mut tally = Tally::new(alloc);
+    tally.count(table)?;
+    let counts = tally.counts(alloc)?;
+    Ok(counts)
+}
+
+/// The counts with those of a further table, or want of memory. A number that would pass 2^64 - 1 stays at it.
+pub fn add_table(alloc: Global, counts: &Counts, table: &Table) -> Result<Counts, AllocError>
+    ensures { IfOk result (λ sum. (id : PoolId) → number sum id ≡ capped (number counts.now id + capped (occurrences id table.now))) }
+{
+    let more = count_table(alloc, table)?;
+    let sum = add(alloc, counts, &more)?;
+    Ok(sum)
+}
+
+/// The counts without those of a table, or want of memory. Of a number that is smaller than what is taken, nothing is left.
+pub fn take_table(alloc: Global, counts: &Counts, table: &Table) -> Result<Counts, AllocError>
+    ensures { IfOk result (λ rest. (id : PoolId) → number rest id ≡ number counts.now id - capped (occurrences id table.now)) }
+{
+    let less = count_table(alloc, table)?;
+    let rest = take(alloc, counts, &less)?;
+    Ok(rest)
+}
+
+/// The counts of a host whose tables these are, or want of memory. If they are what is counted of a host, an id has
+/// a number above 0 exactly if the tree of a backup or of the partial names it.
 pub fn recount(alloc: Global, tables: &[Table]) -> Result<Counts, AllocError>
     ensures number { IfOk result (λ counts. (id : PoolId) → number counts id ≡ capped (total id tables.now)) }
-    ensures bridge { IfOk result (λ counts. (backups : List Backup) → AreWhole backups → tables.now ≡ stored backups
-        → (id : PoolId) → (0 < number counts id) ↔ IsNamed id backups) }
+    ensures bridge { IfOk result (λ counts. (host : StoredHost) → AreWhole host.backups → tables.now ≡ counted host
+        → (id : PoolId) → (0 < number counts id) ↔ IsNamedIn id host) }
 {
     let counts = count_tables(alloc, tables)?;
     Ok(counts)

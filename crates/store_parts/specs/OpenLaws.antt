@@ -80,6 +80,7 @@ module _ {D N S : Type 0} {d : DiskGhosts D} {n : NamerGhosts N S} where
     quiet = Quiet-still parts.journal;
     catalog_same = refl;
     counts_same = refl;
+    partials_same = refl;
     views_same = refl;
     halted_same = refl;
     form_same = refl;
@@ -95,6 +96,7 @@ module _ {D N S : Type 0} {d : DiskGhosts D} {n : NamerGhosts N S} where
     quiet = subst (λ (p : StoreParts D N S d n). Quiet old.journal p.journal) (sym only) (Quiet-still old.journal);
     catalog_same = ap (λ (p : StoreParts D N S d n). p.catalog) only;
     counts_same = ap (λ (p : StoreParts D N S d n). p.counts) only;
+    partials_same = ap (λ (p : StoreParts D N S d n). p.partials) only;
     views_same = ap (λ (p : StoreParts D N S d n). p.views) only;
     halted_same = ap (λ (p : StoreParts D N S d n). p.halted) only;
     form_same = ap (λ (p : StoreParts D N S d n). p.pool.in_one_file) only;
@@ -118,9 +120,9 @@ module _ {D N S : Type 0} {d : DiskGhosts D} {n : NamerGhosts N S} where
       stored = record {
         journal_ready = stays.quiet.halted_same ∙ at.journal_ready;
         all = at.all;
-        backups = at.backups;
+        shown = at.shown;
         told_is = stays.quiet.told_same ∙ at.told_is;
-        stands = subst (λ (i : Index). Stands n.digest_of i at.backups at.all office.durable) (sym index) at.stands;
+        stands = subst (λ (i : Index). Stands n.digest_of i at.shown at.all office.durable) (sym index) at.stands;
         tells = subst (λ (i : Index). TellsIn new.pool.in_one_file i at.all) (sym index)
             (subst (λ (form : Bool). TellsIn form (index_of (slots old)) at.all) (sym stays.form_same) at.tells);
         fits = fits_less n.digest_of (slots old) (slots new) (uncertain old.journal) (uncertain new.journal) at.all at.all less
@@ -135,12 +137,13 @@ module _ {D N S : Type 0} {d : DiskGhosts D} {n : NamerGhosts N S} where
         digest = alike.digest_of ∙ at.digest;
         catalog_is = stays.catalog_same ∙ at.catalog_is;
       };
-      counted = subst (λ (counts : List Items). AreCountsOf counts at.backups) (sym stays.counts_same) at.counted;
+      counted = subst (λ (counts : List Items). AreCountsOf counts at.shown) (sym stays.counts_same) at.counted;
+      parked = stays.partials_same ∙ at.parked;
       sessions = AreSessions-claimed n.holds (given (slots old)) (contents_of at.all) (given (slots new)) (contents_of at.all)
           (staging_of at.all names') (staging_of at.all names') now new.sessions
           (record { staged = λ i stage there. refl; next_stage = refl; next_reader = refl })
           (λ id g some. ((stays.names id).given g (subst (λ (m : ℕ). 0 < m) (sym (claimed id)) some), refl)) sessions;
-      view = subst (λ (v : Views). IsKeptView v.kept office.hosts at.backups) (sym stays.views_same) at.view;
+      view = subst (λ (v : Views). IsKeptView v.kept office.hosts at.shown) (sym stays.views_same) at.view;
       sound = sound;
     };
     claimed = claimed;

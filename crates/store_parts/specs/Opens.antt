@@ -47,6 +47,7 @@ module _ {D N S : Type 0} {d : DiskGhosts D} {n : NamerGhosts N S} where
     pub quiet : Quiet old.journal new.journal
     pub catalog_same : new.catalog ≡ old.catalog
     pub counts_same : new.counts ≡ old.counts
+    pub partials_same : new.partials ≡ old.partials
     pub views_same : new.views ≡ old.views
     pub halted_same : new.halted ≡ old.halted
     pub form_same : new.pool.in_one_file ≡ old.pool.in_one_file

@@ -121,7 +121,8 @@ module _ {D N S : Type 0} {d : DiskGhosts D} {n : NamerGhosts N S} where
     unfolding staged_piece
     running_pieced now sessions claims sound = record {
       working = working_with old new office names at (ap (λ (p : StoreParts D N S d n). p.catalog) only)
-          (ap (λ (p : StoreParts D N S d n). p.counts) only) (ap (λ (p : StoreParts D N S d n). p.views) only)
+          (ap (λ (p : StoreParts D N S d n). p.counts) only) (ap (λ (p : StoreParts D N S d n). p.partials) only)
+          (ap (λ (p : StoreParts D N S d n). p.views) only)
           (ap (λ (p : StoreParts D N S d n). p.halted) only)
           (ap (λ (p : Pool N S n). p.in_one_file) pool_same) staged.halted_same staged_piece now
           (subst (λ (p : Pool N S n). AreSessions n.holds (given (slots_of p.names)) (contents_of staged.now)
@@ -137,7 +138,7 @@ module _ {D N S : Type 0} {d : DiskGhosts D} {n : NamerGhosts N S} where
     crash_pieced =
         FindsOnly-each (IsAlikeBut at.all (also (uncertain old.journal) (F.Stage number)))
         (λ found. StandsFor n.digest_of found office.durable) old.journal new.journal
-        (λ found alike. alike_stands n.digest_of (index_of (slots old)) at.backups at.all found office.durable
+        (λ found alike. alike_stands n.digest_of (index_of (slots old)) at.shown at.all found office.durable
         (also (uncertain old.journal) (F.Stage number))
         (λ id listed. also_other (uncertain old.journal) (F.Stage number) (F.Pool id) (content_apart id number)
         (at.fits.certain id (listed_live (slots old) id listed))) at.stands alike)
