@@ -50,12 +50,12 @@ module _ {D N S : Type 0} {d : DiskGhosts D} {n : NamerGhosts N S} where
       abbrev without : Office → Office
       without office = with_stages (with_dumps office (remove office.dumps index)) (stages_left session office.stages)
 
-      pub runs_aborted : new.journal ≡ old.journal → new.catalog ≡ old.catalog → new.counts ≡ old.counts → new.views ≡ old.views
+      pub runs_aborted : new.journal ≡ old.journal → new.catalog ≡ old.catalog → new.counts ≡ old.counts → new.partials ≡ old.partials → new.views ≡ old.views
           → new.halted ≡ old.halted
           → (((id : PoolId) → claims_of_dump dump id ≤ claims_of (slots old id))
           → LetsGo (λ id. claims_of_dump dump id) (slots old) (slots new))
           → new.pool.in_one_file ≡ old.pool.in_one_file → Runs old (Abort session) (Ok Done) new
-      runs_aborted journal catalog counts views halted go form =
+      runs_aborted journal catalog counts partials views halted go form =
           runs_kept old new (Abort session) Done journal
           (λ office names at.
           let found = dump_found old session index dump e there office names at in
@@ -65,7 +65,7 @@ module _ {D N S : Type 0} {d : DiskGhosts D} {n : NamerGhosts N S} where
             next = next;
             judged = judged;
             running = running_let_go old new office next names (λ id. claims_of_dump dump id)
-                (claims_in old.sessions) at.working at.claimed journal catalog counts views halted
+                (claims_in old.sessions) at.working at.claimed journal catalog counts partials views halted
                 (go (abort_enough index dump there office names at)) form
                 (claims_ended old.sessions mid new.sessions dump_out stages_out index dumps dump there)
                 (sessions_ended old.sessions mid new.sessions dump_out stages_out index dumps n.holds (given (slots old)) (contents_of at.all)

@@ -1,5 +1,6 @@
 -- What a dump begins with is what the model says.
 --     rows_given      rows name given ids
+--     rows_listed      so do those that name listed ids
 --     base_there, no_base      there is a base exactly if the kind wants none or the host has a backup
 --     begins_full, begins_newest, begins_none      the rows that are read are those of the base
 --     newest_fault      the newest backup's table isn't damaged
@@ -34,7 +35,7 @@ use Rattle.pool_changes.specs.declared.slot.Slot.{Slot}
 use Rattle.pool_changes.specs.declared.slot.Slot.TheVariants.{Live, Staged, Doomed}
 use Rattle.pool_changes.specs.Slots.{is_live, is_given}
 use Rattle.pool_changes.specs.Listed.{index_of}
-use Rattle.ref_counts.specs.Stored.{Backup as StoredBackup, stored}
+use Rattle.ref_counts.specs.Stored.{Backup as StoredBackup, StoredHost, stored}
 use Rattle.stored_trees.specs.Resolved.{IsTold, IsToldContent, AreTold}
 use Rattle.stored_trees.specs.ResolvedLaws.{AreTold-kept}
 use Rattle.stored_trees.specs.Occurrences.{is_content, names, occurrences}
@@ -148,19 +149,19 @@ module _ (given : PoolId → Type 0) (contents : PoolId → List ℕ) (files : F
     pub is_shown : IsShown given contents backup shown
     pub table : HasTable files place line shown.rows
 
-  newest_stands : (host : Host) (shown : List StoredBackup) → StandsHost given contents files place host shown → (line : Line)
+  newest_stands : (host : Host) (of : StoredHost) → StandsHost given contents files place host of → (line : Line)
       → newest_line (lines_of host.backups) ≡ Some line → IsNewest host.backups line
-  newest_stands host shown stands line e = step (newest host.backups) refl (sym (newest_lines host.backups) ∙ e)
+  newest_stands host of stands line e = step (newest host.backups) refl (sym (newest_lines host.backups) ∙ e)
     where
       step : (backup : Option Backup) → newest host.backups ≡ backup → option_map line_of backup ≡ Some line
           → IsNewest host.backups line
       step None f g = absurd cc
       step (Some backup) f g =
-          let pair = pair_at (λ i. IsShown given contents) host.backups shown stands.shown (length host.backups - 1) backup f in
-          let last : length host.backups - 1 ≡ length shown - 1 = ap (λ (k : ℕ). k - 1) (sym stands.shown.counted) in
+          let pair = pair_at (λ i. IsShown given contents) host.backups of.backups stands.shown (length host.backups - 1) backup f in
+          let last : length host.backups - 1 ≡ length of.backups - 1 = ap (λ (k : ℕ). k - 1) (sym stands.shown.counted) in
           let same : backup.line ≡ line = cc in
           let table = stands.tables.each (length host.backups - 1) backup pair.0.rows f
-          (last_stored shown (length host.backups - 1) pair.0 pair.1 last) in
+          (last_stored of.backups (length host.backups - 1) pair.0 pair.1 last) in
           record {
             backup = backup;
             shown = pair.0;
@@ -180,6 +181,14 @@ only_line line other zero e = cc
 only_line line other (suc i) e = absurd cc
 
 module _ {D N S : Type 0} {d : DiskGhosts D} {n : NamerGhosts N S} where
+  pub rows_listed : (parts : StoreParts D N S d n) (contents : PoolId → List ℕ) (rows : Rows)
+      → AreRowsOf (IsListed (index_of (slots parts))) contents rows → AreRowsOf (given (slots parts)) contents rows
+  rows_listed parts contents rows of = record {
+    whole = of.whole;
+    told = AreTold-kept (IsListed (index_of (slots parts))) (given (slots parts)) contents contents
+        (λ id listed. (live_given (slots parts id) (listed_live (slots parts) id listed), refl)) rows of.told;
+  }
+
   pub begins_full : (parts : StoreParts D N S d n) (place : ℕ) (rows : Rows) → rows ≡ [] → BeginsWith parts place Full rows
   begins_full parts place rows none office names at host is has =
       subst (IsBase (given (slots parts)) (contents_of at.all) Full host.backups) (sym none)
@@ -196,7 +205,7 @@ module _ {D N S : Type 0} {d : DiskGhosts D} {n : NamerGhosts N S} where
 
       newest_there : (line : Line) → newest_line index.lines ≡ Some line → Newest line
       newest_there line e =
-          let pair = pair_at (StandsHost (IsListed (index_of (slots parts))) (contents_of at.all) at.all) office.hosts at.backups
+          let pair = pair_at (StandsHost (IsListed (index_of (slots parts))) (contents_of at.all) at.all) office.hosts at.shown
           at.stands.hosts place host is in
           newest_stands (IsListed (index_of (slots parts))) (contents_of at.all) at.all place host pair.0 pair.2 line
           (ap newest_line (sym lines_are) ∙ e)
@@ -218,11 +227,7 @@ module _ {D N S : Type 0} {d : DiskGhosts D} {n : NamerGhosts N S} where
           subst (IsBase (given (slots parts)) (contents_of at.all) Incr host.backups) (sym rows_are) (record {
             is = ap (λ (o : Option Backup). found NoBackup (option_map (λ backup. backup.tree) o)) w.is
                 ∙ ap (λ (tree : Tree). Ok tree) w.is_shown.tree;
-            rows_of = record {
-              whole = w.is_shown.whole;
-              told = AreTold-kept (IsListed (index_of (slots parts))) (given (slots parts)) (contents_of at.all) (contents_of at.all)
-                  (λ id listed. (live_given (slots parts id) (listed_live (slots parts) id listed), refl)) w.shown.rows w.is_shown.told;
-            };
+            rows_of = rows_listed parts (contents_of at.all) w.shown.rows (record { whole = w.is_shown.whole; told = w.is_shown.told });
           })
 
       -- of the one line

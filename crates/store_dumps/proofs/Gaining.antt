@@ -54,15 +54,15 @@ module _ {D N S : Type 0} {d : DiskGhosts D} {n : NamerGhosts N S} where
 
   pub running_gains : (old new : StoreParts D N S d n) (office next : Office) (names : Names) (count : PoolId → ℕ)
       (at : IsRunning old office names) → Gains count (slots old) (slots new) → new.journal ≡ old.journal → new.catalog ≡ old.catalog
-      → new.counts ≡ old.counts → new.views ≡ old.views → new.halted ≡ old.halted
+      → new.counts ≡ old.counts → new.partials ≡ old.partials → new.views ≡ old.views → new.halted ≡ old.halted
       → new.pool.in_one_file ≡ old.pool.in_one_file
       → ((id : PoolId) → claims_in new.sessions id ≡ claims_in old.sessions id + count id)
       → (AreSessions n.holds (given (slots new)) (contents_of at.all) (staging_of at.all names) office.volatile old.sessions
       → AreSessions n.holds (given (slots new)) (contents_of at.all) (staging_of at.all names) next.volatile new.sessions)
       → next.durable ≡ office.durable → next.hosts ≡ office.hosts → AreSound next names → IsRunning new next names
   unfolding working_staged staged_gains
-  running_gains old new office next names count at gains journal catalog counts views halted form claims opens same hosts sound =
-      running_let_go mid new office next names (λ id. 0) (λ id. claims_of (slots new id)) working (λ id. refl) refl refl refl refl refl
+  running_gains old new office next names count at gains journal catalog counts partials views halted form claims opens same hosts sound =
+      running_let_go mid new office next names (λ id. 0) (λ id. claims_of (slots new id)) working (λ id. refl) refl refl refl refl refl refl
       (lets_go_none (slots new) (slots new) (λ id. 0) (λ id. refl)) refl
       (λ id. omega (arith, claims id, at.claimed id, (gains id).claims)) (opens working.sessions) same hosts sound
     where
@@ -70,5 +70,5 @@ module _ {D N S : Type 0} {d : DiskGhosts D} {n : NamerGhosts N S} where
       mid = record new { sessions = old.sessions }
 
       working : IsWorking mid office names
-      working = working_staged old mid office names at catalog counts refl views halted form (ap (λ (j : Journal D d). j.halted) journal)
+      working = working_staged old mid office names at catalog counts partials refl views halted form (ap (λ (j : Journal D d). j.halted) journal)
           (staged_gains old mid office names at count gains journal)

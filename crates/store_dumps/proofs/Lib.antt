@@ -6,3 +6,4 @@ pub mod Puts
 pub mod Gaining
 pub mod Bases
 pub mod Opens
+pub mod Resumes

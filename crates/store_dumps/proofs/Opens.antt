@@ -1,6 +1,8 @@
 -- What an opening of a dump leaves.
+--     judged_dump      the model opens a dump behind the rules that are those of any
+--     runs_begun, runs_base_memory, runs_base_fault      an event opened a dump; its base was read before, or wasn't
 --     no_host, refused_by      the rule that memory finds is that of the model
---     runs_base_opened, runs_base_memory, runs_base_fault      after its base was read, or wasn't
+--     runs_base_opened      a dump of this kind was opened after its base was read
 use Rattle.std.specs.Prelude.{◌≡◌, ◌<◌, ◌+◌, ◌==◌, ℕ, Bool, true, false, List, [], ◌∷◌, ◌++◌, nat_le, is_some, Option, Some, None, Result, Ok, Err, slice_get, if◌then◌else◌}
 use Rattle.std.specs.List.{position_from}
 use Rattle.std.specs.Result.{IsErrAnd}
@@ -23,6 +25,7 @@ use Rattle.open_sessions.specs.declared.sessions.Sessions.{Sessions}
 use Rattle.open_sessions.specs.Opened.{AreRowsOf, IsDump, Staging, AreSessions, claims_in}
 use Rattle.open_sessions.specs.CallLaws.{AreSessions-dump_opened, claims_in-dump_opened}
 use Rattle.open_sessions.specs.SessionLaws.{dump_index_of_host-sessions}
+use Rattle.office_model.specs.declared.answer.Answer.{Answer}
 use Rattle.office_model.specs.declared.answer.Answer.TheVariants.{Dump as DumpAnswer}
 use Rattle.office_model.specs.declared.event.Event.{Event}
 use Rattle.office_model.specs.declared.event.Event.TheVariants.{OpenDump as OpenDumpEvent}
@@ -31,9 +34,11 @@ use Rattle.office_model.specs.declared.refusal.BrokenRule.TheVariants.{NoHost, N
 use Rattle.office_model.specs.declared.refusal.Refusal.{Refusal}
 use Rattle.office_model.specs.declared.refusal.Refusal.TheVariants.{Broken, Halted, DiskFault, Damaged, Memory}
 use Rattle.office_model.specs.declared.session.SessionName.{SessionName}
-use Rattle.office_model.specs.Meaning.{Carried, Judged, Reply, ◌>>=◌, ◌>>◌, breaks}
+use Rattle.office_model.specs.Meaning.{Carried, Judged, Reply, Reads as ReadsFiles, ◌>>=◌, ◌>>◌, breaks}
 use Rattle.office_model.specs.Office.{Office, Host, Dump, Names, dump_index_of_host, number_limit, last_sequence, numbered_as, with_dumps}
 use Rattle.office_model.specs.Parts.{host_at, lines_of}
+use Rattle.office_model.specs.Step.{IsAnswerTo, meaning_of}
+use Rattle.office_model.specs.UsedNames.{AreNamesAfter}
 use Rattle.office_model.specs.laws.StateLaws.{AreSound-carried}
 use Rattle.office_model.specs.events.OpenDump as OpenDumpModel
 use Rattle.office_files.specs.Pooled.{contents_of}
@@ -44,9 +49,9 @@ use Rattle.store_parts.specs.Refusals.{IsReadFault}
 use Rattle.store_parts.specs.States.{slots, IsRunning, staging_of}
 use Rattle.store_parts.specs.Runs.{Runs, Reads}
 use Rattle.store_parts.specs.RunLaws.{runs_reads, runs_memory, runs_read_fault, counted_fine}
-use Rattle.store_dumps.specs.Base.{has_base, IsBase, BeginsWith, IsFaultOf}
+use Rattle.store_dumps.specs.Base.{has_base, BeginsWith, IsFaultOf}
 use Rattle.store_dumps.specs.Claims.{Gains}
-use Rattle.store_dumps.specs.Opening.{opening_rule, session_of, IsFresh, IsOpened, claims_at_first, HasOpened, HasKept, OpensDump}
+use Rattle.store_dumps.specs.Opening.{further_rule, opening_rule, session_of, IsFresh, IsOpened, claims_at_first, HasOpened, HasKept, OpensDump}
 use Rattle.store_dumps.proofs.Bases.{rows_given, base_there, no_base, lines_are}
 use Rattle.store_dumps.proofs.Gaining.{running_gains}
 use Rattle.store_dumps.proofs.Hosts.{index_named}
@@ -57,7 +62,7 @@ use Rattle.store_dumps.specs.RunningLaws.{Makes, runs_kept, runs_read_then, runs
 judged_from : {B : Type 0} (is_open : Bool) (next sequence : ℕ) (rest : Judged B)
     → (breaks SessionOpen is_open >>
     (breaks NumbersSpent (nat_le number_limit next) >> (breaks NumbersSpent (nat_le last_sequence sequence) >> rest)))
-    ≡ (opening_rule true is_open next sequence >> rest)
+    ≡ (further_rule is_open next sequence >> rest)
 judged_from true next sequence rest = refl
 judged_from false next sequence rest = second (nat_le number_limit next)
   where
@@ -72,39 +77,47 @@ judged_from false next sequence rest = second (nat_le number_limit next)
 
 -- what a further dump makes of an office
 abbrev pub with_fresh : Office → ℕ → Kind → ℕ → Tree → Office
-with_fresh office host kind now base =
-    numbered_as (with_dumps office (office.dumps ++ OpenDumpModel.new_dump (OpenDumpModel.next_session office) host kind now base ∷ []))
+with_fresh office host kind start base =
+    numbered_as (with_dumps office (office.dumps ++ OpenDumpModel.new_dump (OpenDumpModel.next_session office) host kind start base ∷ []))
     (office.sequence + 1)
 
-abbrev opened : Office → ℕ → Kind → ℕ → Tree → Carried
-opened office host kind now base = record {
+abbrev pub opened : Office → ℕ → Kind → ℕ → Tree → Carried
+opened office host kind start base = record {
   answer = DumpAnswer
       (OpenDumpModel.next_session office);
-  after = with_fresh office host kind now base;
+  after = with_fresh office host kind start base;
 }
+
+abbrev pub made : Office → List Dump → Judged Carried
+made office dumps = Ok (record {
+  answer = DumpAnswer
+      (OpenDumpModel.next_session office);
+  after = numbered_as (with_dumps office dumps) (office.sequence + 1);
+})
+
+pub judged_dump : (office : Office) (place : ℕ) (kind : Kind) (start next : ℕ) (base : Tree)
+    → ((breaks SessionOpen (is_some (dump_index_of_host office.dumps place)) >>
+    (breaks NumbersSpent (nat_le number_limit next) >> (breaks NumbersSpent (nat_le last_sequence office.sequence) >>
+    Ok (office.dumps ++ OpenDumpModel.new_dump (OpenDumpModel.next_session office) place kind start base ∷ [])))) >>= made office)
+    ≡ (further_rule (is_some (dump_index_of_host office.dumps place)) next office.sequence >> Ok (opened office place kind start base))
+judged_dump office place kind start next base =
+    ap (λ (j : Judged (List Dump)). j >>= made office)
+    (judged_from (is_some (dump_index_of_host office.dumps place)) next office.sequence (Ok dumps))
+    ∙ moved (further_rule (is_some (dump_index_of_host office.dumps place)) next office.sequence)
+  where
+    dumps : List Dump
+    dumps = office.dumps ++ OpenDumpModel.new_dump (OpenDumpModel.next_session office) place kind start base ∷ []
+
+    moved : (rule : Option BrokenRule) → ((rule >> Ok dumps) >>= made office) ≡ (rule >> made office dumps)
+    moved None = refl
+    moved (Some rule) = refl
 
 pub judged_at : (name : List ℕ) (kind : Kind) (now : ℕ) (office : Office) (place : ℕ) (host : Host) (base : Tree)
     → host_at office.hosts name ≡ Ok (record { index = place; value = host }) → OpenDumpModel.base_of kind host.backups ≡ Ok base
     → OpenDumpModel.carried name kind now office
-    ≡ (opening_rule true (is_some (dump_index_of_host office.dumps place)) host.next office.sequence
+    ≡ (further_rule (is_some (dump_index_of_host office.dumps place)) host.next office.sequence
     >> Ok (opened office place kind now base))
-judged_at name kind now office place host base at is =
-    rw (at, is) (ap (λ (j : Judged (List Dump)). j >>= made)
-    (judged_from (is_some (dump_index_of_host office.dumps place)) host.next office.sequence
-    (Ok (office.dumps ++ OpenDumpModel.new_dump (OpenDumpModel.next_session office) place kind now base ∷ [])))
-    ∙ moved (opening_rule true (is_some (dump_index_of_host office.dumps place)) host.next office.sequence)
-    (office.dumps ++ OpenDumpModel.new_dump (OpenDumpModel.next_session office) place kind now base ∷ []))
-  where
-    made : List Dump → Judged Carried
-    made dumps = Ok (record {
-      answer = DumpAnswer
-          (OpenDumpModel.next_session office);
-      after = numbered_as (with_dumps office dumps) (office.sequence + 1);
-    })
-
-    moved : (rule : Option BrokenRule) (dumps : List Dump) → ((rule >> Ok dumps) >>= made) ≡ (rule >> made dumps)
-    moved None dumps = refl
-    moved (Some rule) dumps = refl
+judged_at name kind now office place host base at is = rw (at, is) (judged_dump office place kind now host.next base)
 
 -- ---- the sessions with one dump more
 
@@ -163,6 +176,103 @@ pub not_failed : {T : Type 0} (x : T) → Failed (Ok x) → ⊥
 not_failed x e = cc
 
 module _ {D N S : Type 0} {d : DiskGhosts D} {n : NamerGhosts N S} where
+  -- ---- any event that opens a dump
+
+  -- the rule that memory finds is that of the model
+  pub rule_same : (old : StoreParts D N S d n) (place : ℕ) (index : Index) → slice_get old.catalog.hosts place ≡ Some index
+      → (office : Office) (names : Names) → IsRunning old office names → (host : Host) → slice_get office.hosts place ≡ Some host
+      → further_rule (is_some (dump_index_of_host office.dumps place)) host.next office.sequence
+      ≡ further_rule (is_some (position_from (λ dump. dump.host == place) 0 old.sessions.dumps.items)) index.next old.sessions.sequence
+  rule_same old place index there office names at host is =
+      λ i. further_rule (is_some (open_same i)) (next_same i) (sequence_same i)
+    where
+      open_same : dump_index_of_host office.dumps place ≡ position_from (λ dump. dump.host == place) 0 old.sessions.dumps.items
+      open_same = dump_index_of_host-sessions (given (slots old))
+          (contents_of at.all) office.dumps old.sessions.dumps.items at.sessions.dumps place
+
+      next_same : host.next ≡ index.next
+      next_same = sym (ap (λ (i : Index). i.next) (index_named office.durable old.catalog at.catalog_is place host index is there))
+
+      sequence_same : office.sequence ≡ old.sessions.sequence
+      sequence_same = sym at.sessions.sequence
+
+  module _ (old : StoreParts D N S d n) (event : Event) (place : ℕ) (kind : Kind) (start : ℕ) (rows : Rows) where
+    -- an office lets the event open a dump that begins with the tree of these rows
+    pub record MayOpen (office : Office) (names : Names) (at : IsRunning old office names) : Type 0 where
+      pub judged : (meaning_of event).carried office names ≡ Ok (opened office place kind start (resolved (contents_of at.all) rows))
+      pub rows_of : AreRowsOf (given (slots old)) (contents_of at.all) rows
+
+    pub runs_begun : (new : StoreParts D N S d n) (session : SessionName)
+        → ((office : Office) (names : Names) (at : IsRunning old office names) → MayOpen office names at)
+        → ((office : Office) (names : Names) (answer : Answer) → AreNamesAfter office names (meaning_of event) (Ok answer) names)
+        → IsAnswerTo event (DumpAnswer session) → HasOpened old place kind start rows session new
+        → Runs old event (Ok (DumpAnswer session)) new
+    runs_begun new session may stay in_kind has =
+        runs_kept old new event (DumpAnswer session) has.journal makes (λ office names. stay office names (DumpAnswer session)) in_kind
+      where
+        makes : (office : Office) (names : Names) → IsRunning old office names → Makes event (DumpAnswer session) office names new
+        makes office names at = record { next = next; judged = judged; running = running }
+          where
+            next : Office
+            next = with_fresh office place kind start (resolved (contents_of at.all) rows)
+
+            epoch : old.catalog.epoch ≡ office.epoch
+            epoch = ap (λ (k : Known). k.epoch) at.catalog_is
+
+            answer : session ≡ OpenDumpModel.next_session office
+            answer = has.sessions.name_is ∙ (λ i. session_of (epoch i) (at.sessions.sequence i))
+
+            judged : (meaning_of event).carried office names ≡ Ok (record { answer = DumpAnswer session; after = next })
+            judged =
+                (may office names at).judged
+                ∙ ap (λ (s : SessionName). Ok (record { answer = DumpAnswer s; after = next })) (sym answer)
+
+            rows_were : AreRowsOf (given (slots old)) (contents_of at.all) rows
+            rows_were = (may office names at).rows_of
+
+            gains : Gains (claims_at_first rows) (slots old) (slots new)
+            gains = has.claims (λ id some. rows_given (given (slots old)) (contents_of at.all) id rows rows_were.told
+                (one_of_two (occurrences id rows) some))
+
+            rows_are : AreRowsOf (given (slots new)) (contents_of at.all) rows
+            rows_are = record {
+              whole = rows_were.whole;
+              told = AreTold-kept (given (slots old)) (given (slots new)) (contents_of at.all) (contents_of at.all)
+                  (λ id g. ((gains id).given ∙ g, refl)) rows rows_were.told;
+            }
+
+            running : IsRunning new next names
+            running = running_gains old new office next names (claims_at_first rows) at gains has.journal has.catalog has.counts has.partials
+                has.views has.halted has.form
+                (λ id. claims_opened old.sessions new.sessions old.catalog.epoch place kind start rows session has.sessions id)
+                (λ are. sessions_opened (given (slots new)) (contents_of at.all) office place kind start rows rows_are n.holds
+                (staging_of at.all names) old.sessions new.sessions old.catalog.epoch session epoch are has.sessions)
+                refl refl
+                (AreSound-carried office names event (record { answer = DumpAnswer session; after = next }) names at.sound judged
+                (stay office names (DumpAnswer session)))
+
+  -- its base was read, and memory was wanting
+  pub runs_base_memory : (old mid : StoreParts D N S d n) (event : Event) → Reads old mid → {failed : Type 0}
+      → Counted (d.fault_count old.journal.disk) (d.fault_count mid.journal.disk) failed
+      → (failed → ⊥) → (new : StoreParts D N S d n) → HasKept mid new → Runs old event (Err Memory) new
+  runs_base_memory old mid event reads counted fine new kept =
+      runs_read_then old mid new event (Err Memory) reads counted fine (runs_kept_memory mid new event kept)
+
+  -- it wasn't read
+  pub runs_base_fault : (old mid : StoreParts D N S d n) (event : Event) (refusal : Refusal) {T : Type 0} → Reads old mid
+      → ((office : Office) (names : Names) → (meaning_of event).touches office names ≡ ReadsFiles)
+      → Counted (d.fault_count old.journal.disk) (d.fault_count mid.journal.disk) (Failed {T = T} (Err refusal))
+      → IsReadFault old refusal → Runs old event (Err refusal) mid
+  runs_base_fault old mid event (Damaged file found) reads touches counted fault =
+      runs_reads old mid event (Err (Damaged file found)) reads
+      (λ office names at. absurd (fault office names at)) (λ office names at. absurd (fault office names at)) tt
+      (counted_fine counted (λ e. cc) (λ e. cc))
+  runs_base_fault old mid event DiskFault reads touches counted fault = runs_read_fault old mid event reads touches counted refl
+  runs_base_fault old mid event Memory reads touches counted fault =
+      runs_memory old mid event reads (counted_fine counted (λ e. cc) (λ e. e))
+  runs_base_fault old mid event Halted reads touches counted fault = absurd fault
+  runs_base_fault old mid event (Broken rule) reads touches counted fault = absurd fault
+
   -- ---- refusals
 
   module _ (old : StoreParts D N S d n) (name : List ℕ) (kind : Kind) (now : ℕ) where
@@ -189,18 +299,8 @@ module _ {D N S : Type 0} {d : DiskGhosts D} {n : NamerGhosts N S} where
             → OpenDumpModel.carried name kind now office ≡ (rule_for true >> Ok (opened office place kind now base))
         judged_has base base_is =
             judged_at name kind now office place named.host base named.judged base_is
-            ∙ (λ i. opening_rule true (is_some (open_same i)) (next_same i) (sequence_same i) >> Ok (opened office place kind now base))
-          where
-            open_same : dump_index_of_host office.dumps place ≡ position_from (λ dump. dump.host == place) 0 old.sessions.dumps.items
-            open_same = dump_index_of_host-sessions (given (slots old))
-                (contents_of at.all) office.dumps old.sessions.dumps.items at.sessions.dumps place
-
-            next_same : named.host.next ≡ index.next
-            next_same = sym (ap (λ (i : Index). i.next)
-                (index_named office.durable old.catalog at.catalog_is place named.host index named.is_host there))
-
-            sequence_same : office.sequence ≡ old.sessions.sequence
-            sequence_same = sym at.sessions.sequence
+            ∙ ap (λ (r : Option BrokenRule). r >> Ok (opened office place kind now base))
+            (rule_same old place index there office names at named.host named.is_host)
 
         judged_lacks : has_base kind index.lines ≡ false → OpenDumpModel.carried name kind now office ≡ Err NoBackup
         judged_lacks lacks = rw (named.judged, no_base kind named.host.backups (sym has_same ∙ lacks)) refl
@@ -241,48 +341,11 @@ module _ {D N S : Type 0} {d : DiskGhosts D} {n : NamerGhosts N S} where
         runs_opened : (new : StoreParts D N S d n) (session : SessionName) (rows : Rows) → BeginsWith old place kind rows
             → HasOpened old place kind now rows session new → Runs old Event' (Ok (DumpAnswer session)) new
         runs_opened new session rows begins has =
-            runs_kept old new Event' (DumpAnswer session) has.journal makes (λ office names. refl) refl
-          where
-            makes : (office : Office) (names : Names) → IsRunning old office names → Makes Event' (DumpAnswer session) office names new
-            makes office names at = record { next = next; judged = judged; running = running }
-              where
-                base : IsBase (given (slots old)) (contents_of at.all) kind (named office names at).host.backups rows
-                base = begins office names at (named office names at).host (named office names at).is_host
-                    (sym (has_same office names at) ∙ base_wanted)
-
-                next : Office
-                next = with_fresh office place kind now (resolved (contents_of at.all) rows)
-
-                epoch : old.catalog.epoch ≡ office.epoch
-                epoch = ap (λ (k : Known). k.epoch) at.catalog_is
-
-                answer : session ≡ OpenDumpModel.next_session office
-                answer = has.sessions.name_is ∙ (λ i. session_of (epoch i) (at.sessions.sequence i))
-
-                judged : OpenDumpModel.carried name kind now office ≡ Ok (record { answer = DumpAnswer session; after = next })
-                judged =
-                    opened_by office names at (resolved (contents_of at.all) rows) base.is
-                    ∙ ap (λ (s : SessionName). Ok (record { answer = DumpAnswer s; after = next })) (sym answer)
-
-                gains : Gains (claims_at_first rows) (slots old) (slots new)
-                gains = has.claims (λ id some. rows_given (given (slots old)) (contents_of at.all) id rows base.rows_of.told
-                    (one_of_two (occurrences id rows) some))
-
-                rows_of : AreRowsOf (given (slots new)) (contents_of at.all) rows
-                rows_of = record {
-                  whole = base.rows_of.whole;
-                  told = AreTold-kept (given (slots old)) (given (slots new)) (contents_of at.all) (contents_of at.all)
-                      (λ id g. ((gains id).given ∙ g, refl)) rows base.rows_of.told;
-                }
-
-                running : IsRunning new next names
-                running = running_gains old new office next names (claims_at_first rows) at gains has.journal has.catalog has.counts has.views
-                    has.halted has.form
-                    (λ id. claims_opened old.sessions new.sessions old.catalog.epoch place kind now rows session has.sessions id)
-                    (λ are. sessions_opened (given (slots new)) (contents_of at.all) office place kind now rows rows_of n.holds
-                    (staging_of at.all names) old.sessions new.sessions old.catalog.epoch session epoch are has.sessions)
-                    refl refl
-                    (AreSound-carried office names Event' (record { answer = DumpAnswer session; after = next }) names at.sound judged refl)
+            runs_begun old Event' place kind now rows new session (λ office names at.
+            let base = begins office names at (named office names at).host (named office names at).is_host
+            (sym (has_same office names at) ∙ base_wanted) in
+            record { judged = opened_by office names at (resolved (contents_of at.all) rows) base.is; rows_of = base.rows_of })
+            (λ office names answer. refl) refl has
 
   -- ---- its base is read before
 
@@ -300,28 +363,6 @@ module _ {D N S : Type 0} {d : DiskGhosts D} {n : NamerGhosts N S} where
         (subst (λ (s : Sessions S). None ≡ opening_rule (has_base kind index.lines)
         (is_some (position_from (λ dump. dump.host == place) 0 s.dumps.items)) index.next s.sequence) (sym reads.sessions_same) is)
         new session rows begins has)
-
-    pub runs_base_memory : (failed → ⊥) → (new : StoreParts D N S d n) → HasKept mid new
-        → Runs old (OpenDumpEvent name kind now) (Err Memory) new
-    runs_base_memory fine new kept =
-        runs_read_then old mid new (OpenDumpEvent name kind now) (Err Memory) reads counted fine
-        (runs_kept_memory mid new (OpenDumpEvent name kind now) kept)
-
-  -- it wasn't read
-  pub runs_base_fault : (old mid : StoreParts D N S d n) (name : List ℕ) (kind : Kind) (now : ℕ) (refusal : Refusal) {T : Type 0}
-      → Reads old mid
-      → Counted (d.fault_count old.journal.disk) (d.fault_count mid.journal.disk) (Failed {T = T} (Err refusal))
-      → IsReadFault old refusal → Runs old (OpenDumpEvent name kind now) (Err refusal) mid
-  runs_base_fault old mid name kind now (Damaged file found) reads counted fault =
-      runs_reads old mid (OpenDumpEvent name kind now) (Err (Damaged file found)) reads
-      (λ office names at. absurd (fault office names at)) (λ office names at. absurd (fault office names at)) tt
-      (counted_fine counted (λ e. cc) (λ e. cc))
-  runs_base_fault old mid name kind now DiskFault reads counted fault =
-      runs_read_fault old mid (OpenDumpEvent name kind now) reads (λ office names. refl) counted refl
-  runs_base_fault old mid name kind now Memory reads counted fault =
-      runs_memory old mid (OpenDumpEvent name kind now) reads (counted_fine counted (λ e. cc) (λ e. e))
-  runs_base_fault old mid name kind now Halted reads counted fault = absurd fault
-  runs_base_fault old mid name kind now (Broken rule) reads counted fault = absurd fault
 
   -- ---- whatever the files hold
 
@@ -346,6 +387,12 @@ module _ {D N S : Type 0} {d : DiskGhosts D} {n : NamerGhosts N S} where
   broken_base old name kind now new (Ok answer) rule is = absurd is
   broken_base old name kind now new (Err refusal) rule is =
       subst (λ (r : Refusal). OpensDump old name kind now (Err r) new) (sym is) tt
+
+  -- at this moment
+  pub opened_at : (old new : StoreParts D N S d n) (place : ℕ) (kind : Kind) (start now : ℕ) (rows : Rows) (session : SessionName)
+      → start ≡ now → HasOpened old place kind start rows session new → HasOpened old place kind now rows session new
+  opened_at old new place kind start now rows session same has =
+      subst (λ (s : ℕ). HasOpened old place kind s rows session new) same has
 
   -- what is open since the base was read
   pub opened_since : (old mid : StoreParts D N S d n) → Reads old mid → (place : ℕ) (kind : Kind) (now : ℕ) (rows : Rows)

@@ -162,7 +162,7 @@ module _ {D N S : Type 0} {d : DiskGhosts D} {n : NamerGhosts N S} where
 
           -- the row was put
           pub runs_put : (new : StoreParts D N S d n) {failed : Type 0} → new.journal ≡ journal → new.catalog ≡ old.catalog
-              → new.counts ≡ old.counts → new.views ≡ old.views
+              → new.counts ≡ old.counts → new.partials ≡ old.partials → new.views ≡ old.views
               → new.halted ≡ old.halted
               → (((id : PoolId) → claims_of_content (content_found (node_at dump.tree path)) id ≤ claims_of (slots mid id))
               → LetsGo (λ id. claims_of_content (content_found (node_at dump.tree path)) id) (slots mid) (slots new))
@@ -170,8 +170,8 @@ module _ {D N S : Type 0} {d : DiskGhosts D} {n : NamerGhosts N S} where
               → new.sessions.dumps.items ≡ slice_set old.sessions.dumps.items index (with_record dump path (record_for item content))
               → OnlyDumps old.sessions new.sessions
               → Counted (d.fault_count old.journal.disk) (d.fault_count journal.disk) failed → (failed → ⊥) → Runs old event (Ok Done) new
-          runs_put new same catalog counts views halted go kept dumps only counted fine =
-              PutLaws.runs_put old session path (Whole item) journal pool form stays certain crash content new same catalog counts views halted
+          runs_put new same catalog counts partials views halted go kept dumps only counted fine =
+              PutLaws.runs_put old session path (Whole item) journal pool form stays certain crash content new same catalog counts partials views halted
               kept counted fine index dump e there go
               (λ office names at.
               let t = taken office names at in
@@ -190,15 +190,15 @@ module _ {D N S : Type 0} {d : DiskGhosts D} {n : NamerGhosts N S} where
           pub runs_put_back : (new : StoreParts D N S d n) {failed : Type 0} (fault : PutFault)
               → ((broken : PutRule) → fault ≡ PF.Broken broken → IsTree is_dir dump.tree
               → broken_rule is_dir dump.tree path (is_dir_item item) false ≡ Some broken)
-              → new.journal ≡ journal → new.catalog ≡ old.catalog → new.counts ≡ old.counts → new.views ≡ old.views
+              → new.journal ≡ journal → new.catalog ≡ old.catalog → new.counts ≡ old.counts → new.partials ≡ old.partials → new.views ≡ old.views
               → new.halted ≡ old.halted
               → (((id : PoolId) → claims_of_content content id ≤ claims_of (slots mid id))
               → LetsGo (λ id. claims_of_content content id) (slots mid) (slots new))
               → new.pool.in_one_file ≡ pool.in_one_file → AreAlike old.sessions new.sessions
               → Counted (d.fault_count old.journal.disk) (d.fault_count journal.disk) failed → (failed → ⊥)
               → Runs old event (Err (refused_put fault)) new
-          runs_put_back new fault says same catalog counts views halted go kept alike counted fine =
-              PutLaws.runs_put_back old session path (Whole item) journal pool form stays certain crash content new same catalog counts views
+          runs_put_back new fault says same catalog counts partials views halted go kept alike counted fine =
+              PutLaws.runs_put_back old session path (Whole item) journal pool form stays certain crash content new same catalog counts partials views
               halted kept counted fine fault
               (λ office names at broken is.
               let tree = tree_is office names at in

@@ -120,13 +120,13 @@ module _ {D N S : Type 0} {d : DiskGhosts D} {n : NamerGhosts N S} where
           )
 
       pub runs_removed : (new : StoreParts D N S d n) → is_some (node_at dump.tree path) ≡ true → new.journal ≡ old.journal
-          → new.catalog ≡ old.catalog → new.counts ≡ old.counts → new.views ≡ old.views → new.halted ≡ old.halted
+          → new.catalog ≡ old.catalog → new.counts ≡ old.counts → new.partials ≡ old.partials → new.views ≡ old.views → new.halted ≡ old.halted
           → (((id : PoolId) → occurrences id (within_rows path dump.tree) ≤ claims_of (slots old id))
           → LetsGo (λ id. occurrences id (within_rows path dump.tree)) (slots old) (slots new))
           → new.pool.in_one_file ≡ old.pool.in_one_file
           → new.sessions.dumps.items ≡ slice_set old.sessions.dumps.items index (removed dump path)
           → OnlyDumps old.sessions new.sessions → Runs old (Remove session path) (Ok Done) new
-      runs_removed new some journal catalog counts views halted go form dumps only =
+      runs_removed new some journal catalog counts partials views halted go form dumps only =
           runs_kept old new (Remove session path) Done journal
           (λ office names at.
           let found = dump_found old session index dump e there office names at in
@@ -137,7 +137,7 @@ module _ {D N S : Type 0} {d : DiskGhosts D} {n : NamerGhosts N S} where
             next = next;
             judged = judged;
             running = running_let_go old new office next names (λ id. occurrences id (within_rows path dump.tree))
-                (claims_in old.sessions) at.working at.claimed journal catalog counts views halted
+                (claims_in old.sessions) at.working at.claimed journal catalog counts partials views halted
                 (go (enough office names at)) form
                 (λ id. omega (
                   arith,

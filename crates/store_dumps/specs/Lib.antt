@@ -2,6 +2,7 @@ pub mod Claims
 pub mod ClaimLaws
 pub mod Base
 pub mod Opening
+pub mod Resuming
 pub mod Comparing
 pub mod Putting
 pub mod DumpLaws

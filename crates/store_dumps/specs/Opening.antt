@@ -1,7 +1,8 @@
 -- A further open dump.
---     opening_rule has_base is_open next sequence      the first rule that keeps a host's dump from being opened
---     IsOpened old epoch host kind now base name new      the sessions have one dump more, whose rows are those of its base
---     HasOpened old host kind now base name new      so have the parts of a store, and its rows and those of its base claim contents
+--     further_rule is_open next sequence      the first rule that keeps a further dump of a host from being opened, whatever it begins with
+--     opening_rule has_base is_open next sequence      and that of its base before it
+--     IsOpened old epoch host kind start base name new      the sessions have one dump more, whose rows are those of its base
+--     HasOpened old host kind start base name new      so have the parts of a store, and its rows and those of its base claim contents
 --     OpensDump old name kind now reply new      an answer opened a dump whose base the files tell; a damaged file is the newest table,
 --         for which an incremental alone is refused
 --     HasKept old new      the same is open, and claims the same
@@ -34,13 +35,15 @@ use Rattle.store_parts.specs.States.{slots}
 use Rattle.store_dumps.specs.Base.{TellsBase, IsNewestDamaged}
 use Rattle.store_dumps.specs.Claims.{Gains}
 
-abbrev pub opening_rule : (has_base is_open : Bool) (next sequence : ℕ) → Option BrokenRule
-opening_rule has_base is_open next sequence =
-    if not has_base then Some NoBackup
-    else (if is_open then Some SessionOpen
+abbrev pub further_rule : (is_open : Bool) (next sequence : ℕ) → Option BrokenRule
+further_rule is_open next sequence =
+    if is_open then Some SessionOpen
     else (if nat_le number_limit next then Some NumbersSpent
     else (if nat_le last_sequence sequence then Some NumbersSpent
-    else None)))
+    else None))
+
+abbrev pub opening_rule : (has_base is_open : Bool) (next sequence : ℕ) → Option BrokenRule
+opening_rule has_base is_open next sequence = if not has_base then Some NoBackup else further_rule is_open next sequence
 
 -- where a catalog has the host of this name
 pub record IsHostPlaced (known : Known) (name : List ℕ) : Type 0 where
@@ -53,18 +56,18 @@ abbrev pub session_of : ℕ → ℕ → SessionName
 session_of epoch sequence = record { epoch = epoch; sequence = sequence }
 
 -- a dump whose tree is still its base
-pub record IsFresh (name : SessionName) (host : ℕ) (kind : Kind) (now : ℕ) (base : Rows) (dump : OpenDump) : Type 0 where
+pub record IsFresh (name : SessionName) (host : ℕ) (kind : Kind) (start : ℕ) (base : Rows) (dump : OpenDump) : Type 0 where
   pub name_is : dump.name ≡ name
   pub host_is : dump.host ≡ host
   pub kind_is : dump.kind ≡ kind
-  pub start_is : dump.start ≡ now
+  pub start_is : dump.start ≡ start
   pub base_is : base_of dump ≡ base
   pub tree_is : dump.tree ≡ base
 
-pub record IsOpened {S : Type 0} (old : Sessions S) (epoch host : ℕ) (kind : Kind) (now : ℕ) (base : Rows) (name : SessionName)
+pub record IsOpened {S : Type 0} (old : Sessions S) (epoch host : ℕ) (kind : Kind) (start : ℕ) (base : Rows) (name : SessionName)
     (new : Sessions S) : Type 0 where
   pub dump : OpenDump
-  pub fresh : IsFresh (session_of epoch old.sequence) host kind now base dump
+  pub fresh : IsFresh (session_of epoch old.sequence) host kind start base dump
   pub name_is : name ≡ session_of epoch old.sequence
   pub dumps : new.dumps.items ≡ old.dumps.items ++ dump ∷ []
   pub beside : BesideDumps old new
@@ -76,15 +79,16 @@ claims_at_first base id = occurrences id base + occurrences id base
 
 module _ {D N S : Type 0} {d : DiskGhosts D} {n : NamerGhosts N S} where
   -- the contents are claimed if the names are given ones
-  pub record HasOpened (old : StoreParts D N S d n) (host : ℕ) (kind : Kind) (now : ℕ) (base : Rows) (name : SessionName)
+  pub record HasOpened (old : StoreParts D N S d n) (host : ℕ) (kind : Kind) (start : ℕ) (base : Rows) (name : SessionName)
       (new : StoreParts D N S d n) : Type 0 where
     pub journal : new.journal ≡ old.journal
     pub catalog : new.catalog ≡ old.catalog
     pub counts : new.counts ≡ old.counts
+    pub partials : new.partials ≡ old.partials
     pub views : new.views ≡ old.views
     pub halted : new.halted ≡ old.halted
     pub form : new.pool.in_one_file ≡ old.pool.in_one_file
-    pub sessions : IsOpened old.sessions old.catalog.epoch host kind now base name new.sessions
+    pub sessions : IsOpened old.sessions old.catalog.epoch host kind start base name new.sessions
     pub claims : ((id : PoolId) → 0 < claims_at_first base id → is_given (slots old id) ≡ true)
         → Gains (claims_at_first base) (slots old) (slots new)
 
@@ -92,6 +96,7 @@ module _ {D N S : Type 0} {d : DiskGhosts D} {n : NamerGhosts N S} where
     pub journal : new.journal ≡ old.journal
     pub catalog : new.catalog ≡ old.catalog
     pub counts : new.counts ≡ old.counts
+    pub partials : new.partials ≡ old.partials
     pub views : new.views ≡ old.views
     pub halted : new.halted ≡ old.halted
     pub form : new.pool.in_one_file ≡ old.pool.in_one_file

@@ -139,13 +139,13 @@ module _ {D N S : Type 0} {d : DiskGhosts D} {n : NamerGhosts N S} where
         contents = contents_of taken.staged.has.all'
 
         working : IsWorking mid office names'
-        working = working_staged old mid office names at refl refl refl refl refl form stays taken.staged.has
+        working = working_staged old mid office names at refl refl refl refl refl refl form stays taken.staged.has
 
         -- the sessions as they were, by the files then
         pub sessions_mid : AreSessions n.holds (given (slots mid)) contents (staging_of taken.staged.has.all' names') office.volatile old.sessions
         unfolding working_staged
         sessions_mid =
-            (working_staged old mid office names at refl refl refl refl refl form stays taken.staged.has).sessions
+            (working_staged old mid office names at refl refl refl refl refl refl form stays taken.staged.has).sessions
 
         module _ (index : ℕ) (dump : OpenDump) (e : Some index ≡ place_of old.sessions.dumps.items session)
             (there : slice_get old.sessions.dumps.items index ≡ Some dump) where
@@ -199,7 +199,7 @@ module _ {D N S : Type 0} {d : DiskGhosts D} {n : NamerGhosts N S} where
             ≡ claims_in old.sessions id + claims_of_content content id
 
       module _ (new : StoreParts D N S d n) {failed : Type 0} (same : new.journal ≡ journal) (catalog : new.catalog ≡ old.catalog)
-          (counts : new.counts ≡ old.counts) (views : new.views ≡ old.views) (halted : new.halted ≡ old.halted)
+          (counts : new.counts ≡ old.counts) (partials : new.partials ≡ old.partials) (views : new.views ≡ old.views) (halted : new.halted ≡ old.halted)
           (kept : new.pool.in_one_file ≡ pool.in_one_file)
           (counted : Counted (d.fault_count old.journal.disk) (d.fault_count journal.disk) failed) (fine : failed → ⊥) where
         -- the node was put, and what was there is let go
@@ -224,7 +224,7 @@ module _ {D N S : Type 0} {d : DiskGhosts D} {n : NamerGhosts N S} where
                 undamaged = tt;
                 in_state = running_let_go mid new office next used (λ id. claims_of_content (content_found (node_at dump.tree path)) id)
                     (λ id. claims_in old.sessions id + claims_of_content content id)
-                    (working_staged old mid office names at refl refl refl refl refl form stays s.has) s.claims same catalog counts
+                    (working_staged old mid office names at refl refl refl refl refl refl form stays s.has) s.claims same catalog counts partials
                     views halted (go (enough office names at p.node p.taken index dump e there)) kept p.claims p.sessions refl refl
                     (AreSound-carried office names event (record { answer = Done; after = next }) used at.sound p.judged named);
               };
@@ -247,14 +247,14 @@ module _ {D N S : Type 0} {d : DiskGhosts D} {n : NamerGhosts N S} where
               let t = takes office names at in
               let s = t.1.staged in
               let used : Names = with_used names s.has.used' in
-              let w = working_staged old mid office names at refl refl refl refl refl form stays s.has in
+              let w = working_staged old mid office names at refl refl refl refl refl refl form stays s.has in
               record {
                 next = Running office used;
                 step = (refl, t.1.put.named s.has.used' s.free s.named (Err R.Memory));
                 undamaged = tt;
                 in_state = running_let_go mid new office office used (claims_of_content content)
                     (λ id. claims_in old.sessions id + claims_of_content content id) w s.claims
-                    same catalog counts views halted (go (λ id. omega (arith, s.claims id))) kept
+                    same catalog counts partials views halted (go (λ id. omega (arith, s.claims id))) kept
                     (λ id. omega (arith, claims_in-alike old.sessions new.sessions alike id))
                     (AreSessions-alike n.holds (given (slots mid)) (contents_of s.has.all') (staging_of s.has.all' used) office.volatile
                     old.sessions new.sessions w.sessions alike)
@@ -304,7 +304,7 @@ module _ {D N S : Type 0} {d : DiskGhosts D} {n : NamerGhosts N S} where
         step = step;
         undamaged = undamaged;
         in_state = record {
-          working = working_staged old mid office names at refl refl refl refl refl form stays missed.has;
+          working = working_staged old mid office names at refl refl refl refl refl refl form stays missed.has;
           claimed = missed.claims;
         };
       }

@@ -42,7 +42,7 @@ use Rattle.office_files.specs.Pooled.{contents_of}
 use Rattle.office_files.specs.Stands.{Stands}
 use Rattle.office_known.specs.KnownLaws.{known_of_office}
 use Rattle.store_parts.specs.declared.parts.StoreParts.{StoreParts}
-use Rattle.store_parts.specs.Held.{given, AreCountsOf, IsKeptView, IsStored}
+use Rattle.store_parts.specs.Held.{given, AreCountsOf, heads_of, IsKeptView, IsStored}
 use Rattle.store_parts.specs.States.{slots, IsWorking, IsRunning, staging_of}
 use Rattle.store_parts.specs.Runs.{MayRecover, Runs, Reads}
 use Rattle.store_parts.specs.RunLaws.{running_reads, crash_quiet, counted_still, counted_then}
@@ -74,9 +74,9 @@ module _ {D N S : Type 0} {d : DiskGhosts D} {n : NamerGhosts N S} where
   stored_let_go journal pool pool' catalog office names count at go form = record {
     journal_ready = at.journal_ready;
     all = at.all;
-    backups = at.backups;
+    shown = at.shown;
     told_is = at.told_is;
-    stands = subst (λ (index : Index). Stands n.digest_of index at.backups at.all office) (sym index) at.stands;
+    stands = subst (λ (index : Index). Stands n.digest_of index at.shown at.all office) (sym index) at.stands;
     tells = subst (λ (index : Index). TellsIn pool'.in_one_file index at.all) (sym index)
         (subst (λ (form : Bool). TellsIn form (index_of (slots_of pool.names)) at.all) (sym form) at.tells);
     fits = fits_less n.digest_of (slots_of pool.names) (slots_of pool'.names) (uncertain journal) (uncertain journal) at.all at.all
@@ -106,22 +106,23 @@ module _ {D N S : Type 0} {d : DiskGhosts D} {n : NamerGhosts N S} where
   -- The new sessions are those of the office by what was given, and each name has lost what they don't claim.
   pub running_let_go : (old new : StoreParts D N S d n) (office next : Office) (names : Names) (count total : PoolId → ℕ)
       (at : IsWorking old office names) → ((id : PoolId) → claims_of (slots old id) ≡ total id)
-      → new.journal ≡ old.journal → new.catalog ≡ old.catalog → new.counts ≡ old.counts → new.views ≡ old.views → new.halted ≡ old.halted
+      → new.journal ≡ old.journal → new.catalog ≡ old.catalog → new.counts ≡ old.counts → new.partials ≡ old.partials
+      → new.views ≡ old.views → new.halted ≡ old.halted
       → LetsGo count (slots old) (slots new) → new.pool.in_one_file ≡ old.pool.in_one_file
       → ((id : PoolId) → claims_in new.sessions id + count id ≡ total id)
       → AreSessions n.holds (given (slots old)) (contents_of at.all) (staging_of at.all names) next.volatile new.sessions
       → next.durable ≡ office.durable → next.hosts ≡ office.hosts → AreSound next names → IsRunning new next names
   unfolding stored_let_go
-  running_let_go old new office next names count total at claims_are journal catalog counts views halted go form claims sessions same hosts
-      sound = record {
+  running_let_go old new office next names count total at claims_are journal catalog counts partials views halted go form claims sessions same
+      hosts sound = record {
         working = record {
           ready = halted ∙ at.ready;
           stored = record {
             journal_ready = subst (λ (j : Journal D d). j.halted ≡ false) (sym journal) stored.journal_ready;
             all = at.all;
-            backups = at.backups;
+            shown = at.shown;
             told_is = ap told journal ∙ at.told_is;
-            stands = subst (λ (o : Durable). Stands n.digest_of (index_of (slots new)) at.backups at.all o) (sym same) stored.stands;
+            stands = subst (λ (o : Durable). Stands n.digest_of (index_of (slots new)) at.shown at.all o) (sym same) stored.stands;
             tells = stored.tells;
             fits = subst (λ (j : Journal D d). Fits n.digest_of (slots new) (uncertain j) at.all) (sym journal) stored.fits;
             all_used = stored.all_used;
@@ -129,13 +130,14 @@ module _ {D N S : Type 0} {d : DiskGhosts D} {n : NamerGhosts N S} where
             digest = stored.digest;
             catalog_is = catalog ∙ at.catalog_is ∙ ap known_of_office (sym same);
           };
-          counted = subst (λ (cs : List Items). AreCountsOf cs at.backups) (sym counts) at.counted;
+          counted = subst (λ (cs : List Items). AreCountsOf cs at.shown) (sym counts) at.counted;
+          parked = partials ∙ at.parked ∙ ap heads_of (sym hosts);
           sessions = AreSessions-claimed n.holds (given (slots old)) (contents_of at.all) (given (slots new)) (contents_of at.all)
               (staging_of at.all names) (staging_of at.all names) next.volatile new.sessions
               (same_staging next.stages (staging_of at.all names))
               (λ id g some. ((go id).given g (subst (λ (m : ℕ). 0 < m) (sym (claimed id)) some), refl)) sessions;
-          view = subst (λ (v : Views). IsKeptView v.kept next.hosts at.backups) (sym views)
-              (subst (λ (hosts : List Host). IsKeptView old.views.kept hosts at.backups) (sym hosts) at.view);
+          view = subst (λ (v : Views). IsKeptView v.kept next.hosts at.shown) (sym views)
+              (subst (λ (hosts : List Host). IsKeptView old.views.kept hosts at.shown) (sym hosts) at.view);
           sound = sound;
         };
         claimed = claimed;
@@ -149,15 +151,17 @@ module _ {D N S : Type 0} {d : DiskGhosts D} {n : NamerGhosts N S} where
 
   -- nothing was done
   pub reads_same : (old new : StoreParts D N S d n) → new.journal ≡ old.journal → new.pool ≡ old.pool → new.catalog ≡ old.catalog
-      → new.counts ≡ old.counts → new.sessions ≡ old.sessions → new.views ≡ old.views → new.halted ≡ old.halted → Reads old new
-  reads_same old new journal pool catalog counts sessions views halted = record {
+      → new.counts ≡ old.counts → new.partials ≡ old.partials → new.sessions ≡ old.sessions → new.views ≡ old.views
+      → new.halted ≡ old.halted → Reads old new
+  reads_same old new journal pool catalog counts partials sessions views halted = record {
     quiet = subst (λ (j : Journal D d). Quiet old.journal j) (sym journal) (Quiet-still old.journal);
     pool_same = pool;
     catalog_same = catalog;
     counts_same = counts;
+    partials_same = partials;
     sessions_same = sessions;
     halted_same = halted;
-    view = λ office names at. subst (λ (v : Views). IsKeptView v.kept office.hosts at.backups) (sym views) at.view;
+    view = λ office names at. subst (λ (v : Views). IsKeptView v.kept office.hosts at.shown) (sym views) at.view;
   }
 
   -- the event breaks no rule, and the parts hold the office after it
@@ -195,7 +199,8 @@ module _ {D N S : Type 0} {d : DiskGhosts D} {n : NamerGhosts N S} where
       step = step office names at;
       undamaged = undamaged;
       in_state = running_let_go old new office office names (λ id. 0)
-          (claims_in old.sessions) at.working at.claimed kept.journal kept.catalog kept.counts kept.views kept.halted
+          (claims_in old.sessions) at.working at.claimed kept.journal kept.catalog kept.counts kept.partials kept.views
+          kept.halted
           (lets_go_same (slots old) (slots new) kept.names) kept.form
           (λ id. omega (arith, claims_in-alike old.sessions new.sessions kept.sessions id))
           (AreSessions-alike n.holds (given (slots old)) (contents_of at.all) (staging_of at.all names) office.volatile old.sessions
@@ -217,11 +222,13 @@ module _ {D N S : Type 0} {d : DiskGhosts D} {n : NamerGhosts N S} where
       runs_alike old new event Memory kept (λ office names at. step_memory office names event at.used.distinct) tt (λ e. absurd cc)
 
   kept_of : (old new : StoreParts D N S d n) → new.journal ≡ old.journal → new.pool ≡ old.pool → new.catalog ≡ old.catalog
-      → new.counts ≡ old.counts → new.views ≡ old.views → new.halted ≡ old.halted → AreAlike old.sessions new.sessions → HasKept old new
-  kept_of old new journal pool catalog counts views halted alike = record {
+      → new.counts ≡ old.counts → new.partials ≡ old.partials → new.views ≡ old.views → new.halted ≡ old.halted
+      → AreAlike old.sessions new.sessions → HasKept old new
+  kept_of old new journal pool catalog counts partials views halted alike = record {
     journal = journal;
     catalog = catalog;
     counts = counts;
+    partials = partials;
     views = views;
     halted = halted;
     form = ap (λ (p : Pool N S n). p.in_one_file) pool;
@@ -230,18 +237,18 @@ module _ {D N S : Type 0} {d : DiskGhosts D} {n : NamerGhosts N S} where
   }
 
   pub runs_alike_memory : (old new : StoreParts D N S d n) (event : Event) → new.journal ≡ old.journal → new.pool ≡ old.pool
-      → new.catalog ≡ old.catalog → new.counts ≡ old.counts → new.views ≡ old.views → new.halted ≡ old.halted → AreAlike old.sessions new.sessions
-      → Runs old event (Err Memory) new
-  runs_alike_memory old new event journal pool catalog counts views halted alike =
-      runs_kept_memory old new event (kept_of old new journal pool catalog counts views halted alike)
+      → new.catalog ≡ old.catalog → new.counts ≡ old.counts → new.partials ≡ old.partials → new.views ≡ old.views → new.halted ≡ old.halted
+      → AreAlike old.sessions new.sessions → Runs old event (Err Memory) new
+  runs_alike_memory old new event journal pool catalog counts partials views halted alike =
+      runs_kept_memory old new event (kept_of old new journal pool catalog counts partials views halted alike)
 
   pub runs_alike_refused : (old new : StoreParts D N S d n) (event : Event) (rule : BrokenRule) → new.journal ≡ old.journal
-      → new.pool ≡ old.pool → new.catalog ≡ old.catalog → new.counts ≡ old.counts → new.views ≡ old.views → new.halted ≡ old.halted
-      → AreAlike old.sessions new.sessions
+      → new.pool ≡ old.pool → new.catalog ≡ old.catalog → new.counts ≡ old.counts → new.partials ≡ old.partials
+      → new.views ≡ old.views → new.halted ≡ old.halted → AreAlike old.sessions new.sessions
       → ((office : Office) (names : Names) → IsRunning old office names → (meaning_of event).carried office names ≡ Err rule)
       → Runs old event (Err (Broken rule)) new
-  runs_alike_refused old new event rule journal pool catalog counts views halted alike broken =
-      runs_alike old new event (Broken rule) (kept_of old new journal pool catalog counts views halted alike)
+  runs_alike_refused old new event rule journal pool catalog counts partials views halted alike broken =
+      runs_alike old new event (Broken rule) (kept_of old new journal pool catalog counts partials views halted alike)
       (λ office names at. step_refused office names event rule at.used.distinct (broken office names at)) tt (λ e. absurd cc)
 
   -- files were read before

@@ -1,5 +1,5 @@
-//! The events of open dumps in a store at work: a dump is opened, nodes are put into its tree, paths are removed, and it is
-//! dropped. The crate knows the parts of a store, and no other event.
+//! The events of open dumps in a store at work: a dump is opened, anew or from a host's partial, nodes are put into its tree,
+//! paths are removed, and it is dropped. The crate knows the parts of a store, and no other event.
 //!
 //! Each row of an open dump, and of the base that it began with, claims the content that it names, so that no cleaning takes
 //! it away and no sweep drops a file that was staged for it.
@@ -7,6 +7,7 @@
 //! | Function | What it does |
 //! |---|---|
 //! | [`open_dump`] | opens a dump of a host: a full one, or an incremental, which begins with the tree of its newest backup |
+//! | [`resume`] | opens a dump of a host's partial: of its kind and its start, from its tree |
 //! | [`put`] | puts a node at a path of its tree |
 //! | [`remove`] | takes a path and all below it out of its tree |
 //! | [`abort`] | drops an open dump with its stages, and lets go its claims |
@@ -24,9 +25,11 @@ mod comparing;
 mod opening;
 mod putting;
 mod removing;
+mod resuming;
 
 pub use aborting::abort;
 pub use claims::{claim_id, claim_rows, release, release_rows};
 pub use opening::open_dump;
 pub use putting::{content_of, put, refused_put};
 pub use removing::remove;
+pub use resuming::resume;

@@ -6,7 +6,7 @@ ghost use Rattle.std.specs.Arc.{arc_value};
 ghost use Rattle.office_model.specs.declared.event.Event.TheVariants.{OpenDump as OpenDumpEvent};
 ghost use Rattle.store_parts.specs.Runs.{Runs};
 ghost use Rattle.store_dumps.specs.Base.{has_base};
-ghost use Rattle.store_dumps.specs.Opening.{opening_rule, IsFresh, IsOpened, HasOpened, HasKept, OpensDump};
+ghost use Rattle.store_dumps.specs.Opening.{further_rule, opening_rule, IsFresh, IsOpened, HasOpened, HasKept, OpensDump};
 ghost use Rattle.open_sessions.specs.Opened.{AreAlike};
 
 use crate::base::{Begun, base_of, has_base};
@@ -29,18 +29,14 @@ use stream_traits::Moment;
 /// The numbers of backups end here.
 const NUMBERS: u64 = 1 << 32;
 
-/// The first rule that keeps a dump of a host from being opened.
-fn broken_rule<S: Drop>(
+/// The first rule that keeps a further dump of a host from being opened, whatever it begins with.
+pub(crate) fn further_rule<S: Drop>(
     sessions: &Sessions<S>,
     host: usize,
     index: &HostIndex,
-    kind: Kind,
 ) -> Option<BrokenRule>
-    ensures { result ≡ opening_rule (has_base kind index.now.lines) (is_some (position_from (λ dump. dump.host == host) 0 sessions.now.dumps.items)) index.now.next sessions.now.sequence }
+    ensures { result ≡ further_rule (is_some (position_from (λ dump. dump.host == host) 0 sessions.now.dumps.items)) index.now.next sessions.now.sequence }
 {
-    if !has_base(kind, index.lines().lines()) {
-        return Some(BrokenRule::NoBackup);
-    }
     if sessions.dump_of_host(host).is_some() {
         return Some(BrokenRule::SessionOpen);
     }
@@ -53,24 +49,39 @@ fn broken_rule<S: Drop>(
     None
 }
 
+/// The first rule that keeps a dump of a host from being opened.
+fn broken_rule<S: Drop>(
+    sessions: &Sessions<S>,
+    host: usize,
+    index: &HostIndex,
+    kind: Kind,
+) -> Option<BrokenRule>
+    ensures { result ≡ opening_rule (has_base kind index.now.lines) (is_some (position_from (λ dump. dump.host == host) 0 sessions.now.dumps.items)) index.now.next sessions.now.sequence }
+{
+    if !has_base(kind, index.lines().lines()) {
+        return Some(BrokenRule::NoBackup);
+    }
+    further_rule(sessions, host, index)
+}
+
 /// A dump whose tree is still its base.
 fn fresh_dump(
     alloc: Global,
     name: SessionName,
     host: usize,
     kind: Kind,
-    now: Moment,
+    start: u64,
     base: Arc<Table>,
     hint: Option<SharedTable>,
 ) -> Result<OpenDump, AllocError>
-    ensures { IfOk result (λ dump. IsFresh name host kind now (arc_value base) dump) }
+    ensures { IfOk result (λ dump. IsFresh name host kind start (arc_value base) dump) }
 {
     let tree = Session::begin_incr(alloc, base.clone()?);
     Ok(OpenDump {
         name,
         host,
         kind,
-        start: now,
+        start,
         base,
         hint,
         tree,
@@ -84,35 +95,35 @@ fn open_session<S: Drop>(
     epoch: u64,
     host: usize,
     kind: Kind,
-    now: Moment,
+    start: u64,
     base: Arc<Table>,
     hint: Option<SharedTable>,
 ) -> Result<SessionName, AllocError>
     requires { sessions.old.sequence < 2 ^ 64 - 1 }
-    ensures ok { IfOk result (λ name. IsOpened sessions.old epoch host kind now (arc_value base) name sessions.new) }
+    ensures ok { IfOk result (λ name. IsOpened sessions.old epoch host kind start (arc_value base) name sessions.new) }
     ensures err { OnErr result (AreAlike sessions.old sessions.new) }
 {
     let name = SessionName {
         epoch,
         sequence: sessions.sequence,
     };
-    let dump = fresh_dump(alloc, name, host, kind, now, base, hint)?;
+    let dump = fresh_dump(alloc, name, host, kind, start, base, hint)?;
     sessions.open_dump(dump)?;
     Ok(name)
 }
 
 /// Opens a dump that begins with these rows, each of which claims its content for the tree and for the base; or says that
 /// memory is wanting, and the same is open and claimed as before.
-fn open_with<D: Disk, N: Namer>(
+pub(crate) fn open_with<D: Disk, N: Namer>(
     parts: &mut StoreParts<D, N>,
     alloc: Global,
     host: usize,
     kind: Kind,
-    now: Moment,
+    start: u64,
     begun: Begun,
 ) -> Result<SessionName, AllocError>
     requires { parts.old.sessions.sequence < 2 ^ 64 - 1 }
-    ensures ok { IfOk result (λ name. HasOpened parts.old host kind now begun.rows name parts.new) }
+    ensures ok { IfOk result (λ name. HasOpened parts.old host kind start begun.rows name parts.new) }
     ensures err { OnErr result (HasKept parts.old parts.new) }
 {
     let Begun { rows, hint } = begun;
@@ -126,7 +137,7 @@ fn open_with<D: Disk, N: Namer>(
         epoch,
         host,
         kind,
-        now,
+        start,
         shared,
         hint,
     )?;
@@ -159,7 +170,7 @@ pub fn open_dump<D: Disk, N: Namer>(
         Ok(begun) => begun,
         Err(refusal) => return Err(refusal),
     };
-    match open_with(parts, alloc, at, kind, now, begun) {
+    match open_with(parts, alloc, at, kind, now.seconds(), begun) {
         Ok(name) => Ok(Answer::Dump(name)),
         Err(_) => Err(Refusal::Memory),
     }

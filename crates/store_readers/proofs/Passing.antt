@@ -118,10 +118,11 @@ module _ {D N S : Type 0} {d : DiskGhosts D} {n : NamerGhosts N S} where
     pool_same = looks.pool_same;
     catalog_same = looks.catalog_same;
     counts_same = looks.counts_same;
+    partials_same = looks.partials_same;
     sessions_same = looks.sessions_same;
     halted_same = looks.halted_same;
     view = λ office names at.
-        subst (λ (views : Views). IsKeptView views.kept office.hosts at.backups) (sym looks.views_same) at.view;
+        subst (λ (views : Views). IsKeptView views.kept office.hosts at.shown) (sym looks.views_same) at.view;
   }
 
   -- all but readers is the same
@@ -130,6 +131,7 @@ module _ {D N S : Type 0} {d : DiskGhosts D} {n : NamerGhosts N S} where
     pub pool : new.pool ≡ old.pool
     pub catalog : new.catalog ≡ old.catalog
     pub counts : new.counts ≡ old.counts
+    pub partials : new.partials ≡ old.partials
     pub views : new.views ≡ old.views
     pub halted : new.halted ≡ old.halted
     pub sessions : OnlyReaders old.sessions new.sessions
@@ -286,6 +288,7 @@ module _ {D N S : Type 0} {d : DiskGhosts D} {n : NamerGhosts N S} where
           quiet = subst (λ (j : Journal D d). Quiet old.journal j) (sym same.journal) looks.quiet;
           catalog_same = same.catalog ∙ looks.catalog_same;
           counts_same = same.counts ∙ looks.counts_same;
+          partials_same = same.partials ∙ looks.partials_same;
           views_same = same.views ∙ looks.views_same;
           halted_same = same.halted ∙ looks.halted_same;
           form_same = ap (λ (p : Pool N S n). p.in_one_file) (same.pool ∙ looks.pool_same);

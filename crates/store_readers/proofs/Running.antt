@@ -67,6 +67,7 @@ module _ {D N S : Type 0} {d : DiskGhosts D} {n : NamerGhosts N S} where
     quiet = quiet_same old new only;
     catalog_same = only.catalog;
     counts_same = only.counts;
+    partials_same = only.partials;
     views_same = only.views;
     halted_same = only.halted;
     form_same = only.form;

@@ -53,6 +53,7 @@ module _ {D N S : Type 0} {d : DiskGhosts D} {n : NamerGhosts N S} where
     pub journal : new.journal ≡ old.journal
     pub catalog : new.catalog ≡ old.catalog
     pub counts : new.counts ≡ old.counts
+    pub partials : new.partials ≡ old.partials
     pub views : new.views ≡ old.views
     pub halted : new.halted ≡ old.halted
     pub form : new.pool.in_one_file ≡ old.pool.in_one_file

@@ -22,7 +22,7 @@ use Rattle.backup_views.specs.Kept.{Trees, IsKept, HasView, AreRowsRead, rows_of
 use Rattle.backup_views.specs.Stored.{IsTableFile, AreTables, TellsTree, tree_from, depth_of}
 use Rattle.backup_views.specs.StoredLaws.{table_at}
 use Rattle.pool_changes.specs.Listed.{index_of}
-use Rattle.ref_counts.specs.Stored.{Backup as StoredBackup, stored}
+use Rattle.ref_counts.specs.Stored.{Backup as StoredBackup, StoredHost, stored}
 use Rattle.office_catalog.specs.Known.{host_named, names_of}
 use Rattle.office_model.specs.Office.{Office, Host, Backup, Names}
 use Rattle.office_model.specs.Meaning.{◌>>=◌}
@@ -100,10 +100,10 @@ module _ {D N S : Type 0} {d : DiskGhosts D} {n : NamerGhosts N S} where
   record IsHostOf (parts : StoreParts D N S d n) (office : Office) (names : Names) (at : IsRunning parts office names) (place : ℕ)
       (index : Index) : Type 0 where
     pub host : Host
-    pub shown : List StoredBackup
+    pub of : StoredHost
     pub is_host : slice_get office.hosts place ≡ Some host
-    pub is_shown : slice_get at.backups place ≡ Some shown
-    pub stands : StandsHost (IsListed (index_of (slots parts))) (contents_of at.all) at.all place host shown
+    pub is_shown : slice_get at.shown place ≡ Some of
+    pub stands : StandsHost (IsListed (index_of (slots parts))) (contents_of at.all) at.all place host of
     pub lines : index.lines ≡ lines_of host.backups
 
   host_of : (parts : StoreParts D N S d n) (office : Office) (names : Names) (at : IsRunning parts office names) (place : ℕ) (index : Index)
@@ -111,10 +111,10 @@ module _ {D N S : Type 0} {d : DiskGhosts D} {n : NamerGhosts N S} where
   host_of parts office names at place index e =
       let w = host_of_index parts.catalog office.durable at.catalog_is place index e in
       let pair = pair_at (StandsHost (IsListed (index_of (slots parts)))
-      (contents_of at.all) at.all) office.hosts at.backups at.stands.hosts place w.0 w.1 in
+      (contents_of at.all) at.all) office.hosts at.shown at.stands.hosts place w.0 w.1 in
       record {
         host = w.0;
-        shown = pair.0;
+        of = pair.0;
         is_host = w.1;
         is_shown = pair.1;
         stands = pair.2;
@@ -131,20 +131,20 @@ module _ {D N S : Type 0} {d : DiskGhosts D} {n : NamerGhosts N S} where
 
   -- the rows of a view of this host and number are those at its place
   view_rows : (parts : StoreParts D N S d n) (office : Office) (names : Names) (at : IsRunning parts office names) (place : ℕ) (host : Host)
-      (shown : List StoredBackup) (line : ℕ) (backup : Backup) (rows : StoredBackup) (kept : KeptView)
-      → slice_get office.hosts place ≡ Some host → slice_get at.backups place ≡ Some shown → slice_get host.backups line ≡ Some backup
-      → slice_get shown line ≡ Some rows → IsViewOf kept office.hosts at.backups → kept.host ≡ place → kept.number ≡ backup.line.number
+      (of : StoredHost) (line : ℕ) (backup : Backup) (rows : StoredBackup) (kept : KeptView)
+      → slice_get office.hosts place ≡ Some host → slice_get at.shown place ≡ Some of → slice_get host.backups line ≡ Some backup
+      → slice_get of.backups line ≡ Some rows → IsViewOf kept office.hosts at.shown → kept.host ≡ place → kept.number ≡ backup.line.number
       → kept.rows ≡ rows.rows
-  view_rows parts office names at place host shown line backup rows kept is_host is_shown is_backup is_rows view p q =
+  view_rows parts office names at place host of line backup rows kept is_host is_shown is_backup is_rows view p q =
       let hosts : view.host ≡ host = same_line (slice_get office.hosts place)
       (ap (slice_get office.hosts) (sym p) ∙ view.is_host) is_host in
-      let lists : view.shown ≡ shown = same_line (slice_get at.backups place)
-      (ap (slice_get at.backups) (sym p) ∙ view.is_shown) is_shown in
+      let lists : view.of ≡ of = same_line (slice_get at.shown place)
+      (ap (slice_get at.shown) (sym p) ∙ view.is_shown) is_shown in
       let index : view.index ≡ line =
       same_backup parts office names at place host is_host view.index line view.backup backup
       (ap (λ (h : Host). slice_get h.backups view.index) (sym hosts) ∙ view.is_backup) is_backup (view.number ∙ q) in
       let one : view.stored ≡ rows =
-      same_line (slice_get shown line) ((λ i. slice_get (sym lists i) (sym index i)) ∙ view.is_stored) is_rows in
+      same_line (slice_get of.backups line) ((λ i. slice_get (sym lists i).backups (sym index i)) ∙ view.is_stored) is_rows in
       view.rows ∙ ap (λ (s : StoredBackup). s.rows) one
 
   -- ---- a load
@@ -160,42 +160,42 @@ module _ {D N S : Type 0} {d : DiskGhosts D} {n : NamerGhosts N S} where
 
     pub loaded_view : (views : Views) (asked : Line) → slice_get index.lines line ≡ Some asked → HasView views place asked.number
         → Keeps views → (office : Office) (names : Names) → (at : IsRunning old office names)
-        → IsKeptView views.kept office.hosts at.backups
+        → IsKeptView views.kept office.hosts at.shown
     loaded_view views asked is_asked has keeps office names at =
         let h = host_of old office names at place index is_index in
         let b = line_there h.host.backups line asked (ap (λ (ls : List Line). slice_get ls line) (sym h.lines) ∙ is_asked) in
         let s = pair_at (λ i. IsShown (IsListed (index_of (slots old)))
-        (contents_of at.all)) h.host.backups h.shown h.stands.shown line b.0 b.1 in
+        (contents_of at.all)) h.host.backups h.of.backups h.stands.shown line b.0 b.1 in
         let here : lines ≡ drop line (lines_of h.host.backups) = lines_are ∙ ap (drop line) h.lines in
         let trees = trees_with place asked.number s.0.rows (rows_of old.views.kept) in
         let number : b.0.line.number ≡ asked.number = ap (λ (l : Line). l.number) b.2 in
-        let tables : AreTables at.all place lines (drop line (stored h.shown)) =
-        subst (λ (ls : List Line). AreTables at.all place ls (drop line (stored h.shown))) (sym here)
-        (tables_from (IsListed (index_of (slots old))) (contents_of at.all) at.all place h.host h.shown h.stands line) in
-        let tree : tree_from lines (drop line (stored h.shown)) ≡ s.0.rows =
-        ap (λ (ls : List Line). tree_from ls (drop line (stored h.shown))) here
-        ∙ tree_from_at (IsListed (index_of (slots old))) (contents_of at.all) at.all place h.host h.shown h.stands line s.0 s.1 in
+        let tables : AreTables at.all place lines (drop line (stored h.of.backups)) =
+        subst (λ (ls : List Line). AreTables at.all place ls (drop line (stored h.of.backups))) (sym here)
+        (tables_from (IsListed (index_of (slots old))) (contents_of at.all) at.all place h.host h.of h.stands line) in
+        let tree : tree_from lines (drop line (stored h.of.backups)) ≡ s.0.rows =
+        ap (λ (ls : List Line). tree_from ls (drop line (stored h.of.backups))) here
+        ∙ tree_from_at (IsListed (index_of (slots old))) (contents_of at.all) at.all place h.host h.of h.stands line s.0 s.1 in
         let first : (first : Line) → slice_get lines 0 ≡ Some first → first ≡ asked =
         λ first e. same_line (slice_get lines 0) e
         (ap (λ (ls : List Line). slice_get ls 0) lines_are ∙ first_dropped line index.lines ∙ is_asked) in
         let before : IsKept old.views.kept trees =
         trees_kept old.views.kept place asked.number s.0.rows
-        (λ k e p q. view_rows old office names at place h.host h.shown line b.0 s.0 k h.is_host h.is_shown b.1 s.1
-        (subst (λ (kept : Option KeptView). IsKeptView kept office.hosts at.backups) e at.view) p (q ∙ sym number)) in
+        (λ k e p q. view_rows old office names at place h.host h.of line b.0 s.0 k h.is_host h.is_shown b.1 s.1
+        (subst (λ (kept : Option KeptView). IsKeptView kept office.hosts at.shown) e at.view) p (q ∙ sym number)) in
         let now : IsKept (Some has.kept) trees =
         subst (λ (kept : Option KeptView). IsKept kept trees) has.is
-        (keeps at.all (drop line (stored h.shown)) trees at.told_is tables
+        (keeps at.all (drop line (stored h.of.backups)) trees at.told_is tables
         (λ l e. trees_there place asked.number place l.number s.0.rows (rows_of old.views.kept) refl
         (ap (λ (l : Line). l.number) (first l e)) ∙ sym tree)
         before) in
-        subst (λ (kept : Option KeptView). IsKeptView kept office.hosts at.backups) (sym has.is) (record {
+        subst (λ (kept : Option KeptView). IsKeptView kept office.hosts at.shown) (sym has.is) (record {
           host = h.host;
-          shown = h.shown;
+          of = h.of;
           index = line;
           backup = b.0;
           stored = s.0;
           is_host = ap (slice_get office.hosts) has.host_is ∙ h.is_host;
-          is_shown = ap (slice_get at.backups) has.host_is ∙ h.is_shown;
+          is_shown = ap (slice_get at.shown) has.host_is ∙ h.is_shown;
           is_backup = b.1;
           is_stored = s.1;
           number = number ∙ sym has.number_is;
@@ -211,10 +211,10 @@ module _ {D N S : Type 0} {d : DiskGhosts D} {n : NamerGhosts N S} where
     load_fault (V.Damaged file found) says = λ office names at.
         let said = first_damaged (told old.journal) place (depth_of lines) lines (V.Damaged file found) says file found refl in
         let h = host_of old office names at place index is_index in
-        let tables : AreTables at.all place lines (drop line (stored h.shown)) =
-        subst (λ (ls : List Line). AreTables at.all place ls (drop line (stored h.shown))) (sym (lines_are ∙ ap (drop line) h.lines))
-        (tables_from (IsListed (index_of (slots old))) (contents_of at.all) at.all place h.host h.shown h.stands line) in
-        let table = table_at at.all place said.index lines (drop line (stored h.shown)) said.line tables said.is_line in
+        let tables : AreTables at.all place lines (drop line (stored h.of.backups)) =
+        subst (λ (ls : List Line). AreTables at.all place ls (drop line (stored h.of.backups))) (sym (lines_are ∙ ap (drop line) h.lines))
+        (tables_from (IsListed (index_of (slots old))) (contents_of at.all) at.all place h.host h.of h.stands line) in
+        let table = table_at at.all place said.index lines (drop line (stored h.of.backups)) said.line tables said.is_line in
         said.no_table.none table.0
         (subst (λ (found : Option (List ℕ)). IsTableFile table.0 found)
         (sym (said.no_table.there at.all at.told_is ∙ ap at.all said.file_is)) table.1.file)
@@ -224,17 +224,17 @@ module _ {D N S : Type 0} {d : DiskGhosts D} {n : NamerGhosts N S} where
         → ((all : Files) (tables : List Rows) → told old.journal ≡ Some all → AreTables all place lines tables
         → tree ≡ tree_from lines tables)
         → IsTreeAt old place line tree
-    tree_is tree tells office names at shown stored_there is_shown is_stored =
+    tree_is tree tells office names at of stored_there is_shown is_stored =
         let h = host_of old office names at place index is_index in
-        let same : h.shown ≡ shown = same_line (slice_get at.backups place) h.is_shown is_shown in
+        let same : h.of ≡ of = same_line (slice_get at.shown place) h.is_shown is_shown in
         let here : lines ≡ drop line (lines_of h.host.backups) = lines_are ∙ ap (drop line) h.lines in
-        let tables : AreTables at.all place lines (drop line (stored h.shown)) =
-        subst (λ (ls : List Line). AreTables at.all place ls (drop line (stored h.shown))) (sym here)
-        (tables_from (IsListed (index_of (slots old))) (contents_of at.all) at.all place h.host h.shown h.stands line) in
-        tells at.all (drop line (stored h.shown)) at.told_is tables
-        ∙ ap (λ (ls : List Line). tree_from ls (drop line (stored h.shown))) here
-        ∙ tree_from_at (IsListed (index_of (slots old))) (contents_of at.all) at.all place h.host h.shown h.stands line stored_there
-        (ap (λ (l : List StoredBackup). slice_get l line) same ∙ is_stored)
+        let tables : AreTables at.all place lines (drop line (stored h.of.backups)) =
+        subst (λ (ls : List Line). AreTables at.all place ls (drop line (stored h.of.backups))) (sym here)
+        (tables_from (IsListed (index_of (slots old))) (contents_of at.all) at.all place h.host h.of h.stands line) in
+        tells at.all (drop line (stored h.of.backups)) at.told_is tables
+        ∙ ap (λ (ls : List Line). tree_from ls (drop line (stored h.of.backups))) here
+        ∙ tree_from_at (IsListed (index_of (slots old))) (contents_of at.all) at.all place h.host h.of h.stands line stored_there
+        (ap (λ (o : StoredHost). slice_get o.backups line) same ∙ is_stored)
 
   -- the same of lines that were read
   module _ (old : StoreParts D N S d n) (place line : ℕ) (index : Index) (read : List Line)
@@ -253,7 +253,7 @@ module _ {D N S : Type 0} {d : DiskGhosts D} {n : NamerGhosts N S} where
 
     pub read_view : (views : Views) → line < length index.lines → Has views
         → Keeps old place line index given_lines is_index lines_are views
-        → (office : Office) (names : Names) → (at : IsRunning old office names) → IsKeptView views.kept office.hosts at.backups
+        → (office : Office) (names : Names) → (at : IsRunning old office names) → IsKeptView views.kept office.hosts at.shown
     read_view views inside has keeps =
         let asked = there index.lines line inside in
         loaded_view old place line index given_lines is_index lines_are views asked.0 asked.1 (has asked.0 (first_is asked.0 asked.1)) keeps
@@ -315,9 +315,9 @@ module _ {D N S : Type 0} {d : DiskGhosts D} {n : NamerGhosts N S} where
         let at_b = backup_at_there old.catalog office.durable at.catalog_is place h.host h.is_host number line is_line in
         let index = index_there old.catalog office.durable at.catalog_is place h.host h.is_host in
         let kept = has (index_of_host place h.host) b.backup.line index (line_at_backup h.host.backups line b.backup b.there) in
-        let view : IsViewOf kept.kept office.hosts at.backups =
-        subst (λ (k : Option KeptView). IsKeptView k office.hosts at.backups) kept.is (reads.view office names at) in
-        let stands = at.stands.hosts.each kept.kept.host view.host view.shown view.is_host view.is_shown in
+        let view : IsViewOf kept.kept office.hosts at.shown =
+        subst (λ (k : Option KeptView). IsKeptView k office.hosts at.shown) kept.is (reads.view office names at) in
+        let stands = at.stands.hosts.each kept.kept.host view.host view.of view.is_host view.is_shown in
         let is = stands.shown.each view.index view.backup view.stored view.is_backup view.is_stored in
         let hosts : view.host ≡ h.host =
         same_line (slice_get office.hosts place) (ap (slice_get office.hosts) (sym kept.host_is) ∙ view.is_host) h.is_host in
@@ -348,10 +348,10 @@ module _ {D N S : Type 0} {d : DiskGhosts D} {n : NamerGhosts N S} where
         let b = backup_there old.catalog office.durable at.catalog_is place h.host h.is_host number line is_line in
         let at_b = backup_at_there old.catalog office.durable at.catalog_is place h.host h.is_host number line is_line in
         let shown =
-        pair_at (StandsHost (IsListed (index_of (slots old))) (contents_of at.all) at.all) office.hosts at.backups
+        pair_at (StandsHost (IsListed (index_of (slots old))) (contents_of at.all) at.all) office.hosts at.shown
         at.stands.hosts place h.host h.is_host in
         let s =
-        pair_at (λ i. IsShown (IsListed (index_of (slots old))) (contents_of at.all)) h.host.backups shown.0
+        pair_at (λ i. IsShown (IsListed (index_of (slots old))) (contents_of at.all)) h.host.backups shown.0.backups
         shown.2.shown line b.backup b.there in
         let rows : tree ≡ s.0.rows = is office names at shown.0 s.0 shown.1 s.1 in
         subst (λ (rs : Rows). ShowsBackup (IsListed (index_of (slots old))) (contents_of at.all) office.hosts name number rs) (sym rows)

@@ -62,10 +62,11 @@ module _ {D N S : Type 0} {d : DiskGhosts D} {n : NamerGhosts N S} where
     pool_same = looks.pool_same ∙ reads.pool_same;
     catalog_same = looks.catalog_same ∙ reads.catalog_same;
     counts_same = looks.counts_same ∙ reads.counts_same;
+    partials_same = looks.partials_same ∙ reads.partials_same;
     sessions_same = looks.sessions_same ∙ reads.sessions_same;
     halted_same = looks.halted_same ∙ reads.halted_same;
     view = λ office names at.
-        subst (λ (views : Views). IsKeptView views.kept office.hosts at.backups) (sym looks.views_same) (reads.view office names at);
+        subst (λ (views : Views). IsKeptView views.kept office.hosts at.shown) (sym looks.views_same) (reads.view office names at);
   }
 
   -- ---- Lookup

@@ -19,7 +19,7 @@ use Rattle.journal_view.specs.View.{Quiet}
 use Rattle.merge_view.specs.Runs.{children}
 use Rattle.merge_view.specs.Views.{Rows, IsWhole}
 use Rattle.pool_changes.specs.Listed.{index_of}
-use Rattle.ref_counts.specs.Stored.{Backup as StoredBackup}
+use Rattle.ref_counts.specs.Stored.{Backup as StoredBackup, StoredHost}
 use Rattle.stored_trees.specs.Resolved.{resolved, AreTold}
 use Rattle.office_model.specs.declared.answer.NamedNode.{NamedNode}
 use Rattle.tree_frames.specs.declared.nodes.Node.{Node}
@@ -124,8 +124,8 @@ module _ {D N S : Type 0} {d : DiskGhosts D} {n : NamerGhosts N S} where
   -- the rows that are stored for the backup at this line of this host
   abbrev pub IsTreeAt : StoreParts D N S d n → ℕ → ℕ → Rows → Type 0
   IsTreeAt parts host line tree =
-      (office : Office) (names : Names) (at : IsRunning parts office names) (shown : List StoredBackup) (stored : StoredBackup)
-      → slice_get at.backups host ≡ Some shown → slice_get shown line ≡ Some stored → tree ≡ stored.rows
+      (office : Office) (names : Names) (at : IsRunning parts office names) (of : StoredHost) (stored : StoredBackup)
+      → slice_get at.shown host ≡ Some of → slice_get of.backups line ≡ Some stored → tree ≡ stored.rows
 
   -- the rule that there is no such host or backup
   abbrev pub IsNoBackup : StoreParts D N S d n → List ℕ → ℕ → BrokenRule → Type 0
@@ -154,6 +154,7 @@ module _ {D N S : Type 0} {d : DiskGhosts D} {n : NamerGhosts N S} where
     pub pool_same : new.pool ≡ old.pool
     pub catalog_same : new.catalog ≡ old.catalog
     pub counts_same : new.counts ≡ old.counts
+    pub partials_same : new.partials ≡ old.partials
     pub sessions_same : new.sessions ≡ old.sessions
     pub halted_same : new.halted ≡ old.halted
     pub views_same : new.views ≡ old.views

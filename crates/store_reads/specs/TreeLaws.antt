@@ -11,7 +11,7 @@ use Rattle.merge_view.specs.Views.{Rows, IsWhole, view, reverse}
 use Rattle.merge_view.specs.ViewLaws.{view-reverse}
 use Rattle.merge_view.specs.TableLaws.{view-nil}
 use Rattle.backup_views.specs.Stored.{AreTables, HasTable, tree_from}
-use Rattle.ref_counts.specs.Stored.{Backup as StoredBackup, stored, stored_before}
+use Rattle.ref_counts.specs.Stored.{Backup as StoredBackup, StoredHost, stored, stored_before}
 use Rattle.office_model.specs.Office.{Host, Backup}
 use Rattle.office_model.specs.Parts.{lines_of}
 use Rattle.office_files.specs.Pairs.{AtEachPair}
@@ -116,20 +116,20 @@ module _ (given : PoolId → Type 0) (contents : PoolId → List ℕ) (files : F
             (pairs_tail HasFile b (b' ∷ backups) (stored_before s s'.rows) (stored (s' ∷ shown)) tables),
       )
 
-  module _ (host : Host) (shown : List StoredBackup) (stands : StandsHost given contents files number host shown) (k : ℕ) where
-    pub tables_from : AreTables files number (drop k (lines_of host.backups)) (drop k (stored shown))
+  module _ (host : Host) (of : StoredHost) (stands : StandsHost given contents files number host of) (k : ℕ) where
+    pub tables_from : AreTables files number (drop k (lines_of host.backups)) (drop k (stored of.backups))
     tables_from =
         let lines = drop_lines k host.backups in
-        let tables = drop_stored k shown in
-        subst (λ (ls : List Line). AreTables files number ls (drop k (stored shown))) (sym lines)
+        let tables = drop_stored k of.backups in
+        subst (λ (ls : List Line). AreTables files number ls (drop k (stored of.backups))) (sym lines)
         (subst (λ (ts : List Rows). AreTables files number (lines_of (drop k host.backups)) ts) (sym tables)
-        (tables_first (drop k host.backups) (drop k shown) (pairs_drop (IsShown given contents) k host.backups shown stands.shown)
+        (tables_first (drop k host.backups) (drop k of.backups) (pairs_drop (IsShown given contents) k host.backups of.backups stands.shown)
         (subst (λ (ts : List Rows). AtEachPair (λ i. HasFile) (drop k host.backups) ts) tables
-        (pairs_drop HasFile k host.backups (stored shown) stands.tables))))
+        (pairs_drop HasFile k host.backups (stored of.backups) stands.tables))))
 
-    pub tree_from_at : (backup : StoredBackup) → slice_get shown k ≡ Some backup
-        → tree_from (drop k (lines_of host.backups)) (drop k (stored shown)) ≡ backup.rows
+    pub tree_from_at : (backup : StoredBackup) → slice_get of.backups k ≡ Some backup
+        → tree_from (drop k (lines_of host.backups)) (drop k (stored of.backups)) ≡ backup.rows
     tree_from_at backup e =
-        (λ i. tree_from (drop_lines k host.backups i) (drop_stored k shown i))
-        ∙ tree_first (drop k host.backups) (drop k shown) (pairs_drop (IsShown given contents) k host.backups shown stands.shown)
-        ∙ rows_dropped k shown backup e
+        (λ i. tree_from (drop_lines k host.backups i) (drop_stored k of.backups i))
+        ∙ tree_first (drop k host.backups) (drop k of.backups) (pairs_drop (IsShown given contents) k host.backups of.backups stands.shown)
+        ∙ rows_dropped k of.backups backup e

@@ -41,7 +41,7 @@ module _ {D N S : Type 0} {d : DiskGhosts D} {n : NamerGhosts N S} (old : StoreP
   module _ (new : StoreParts D N S d n) (index : ℕ) (restore : OpenRestore S)
       (e : Some index ≡ place_of old.sessions.restores.items session) (there : slice_get old.sessions.restores.items index ≡ Some restore)
       (quiet : Quiet old.journal new.journal) (catalog : new.catalog ≡ old.catalog) (counts : new.counts ≡ old.counts)
-      (views : new.views ≡ old.views)
+      (partials : new.partials ≡ old.partials) (views : new.views ≡ old.views)
       (halted : new.halted ≡ old.halted)
       (rows : Rows) (rows_are : rows ≡ restore.rows)
       (go : ((id : PoolId) → occurrences id rows ≤ claims_of (slots old id)) → LetsGo (λ id. occurrences id rows) (slots old) (slots new))
@@ -67,6 +67,7 @@ module _ {D N S : Type 0} {d : DiskGhosts D} {n : NamerGhosts N S} (old : StoreP
           quiet = quiet;
           catalog = catalog;
           counts = counts;
+          partials = partials;
           views = views;
           halted = halted;
           form = form;

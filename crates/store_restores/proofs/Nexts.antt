@@ -104,11 +104,12 @@ module _ {D N S : Type 0} {d : DiskGhosts D} {n : NamerGhosts N S} where
     pub pool : new.pool ≡ old.pool
     pub catalog : new.catalog ≡ old.catalog
     pub counts : new.counts ≡ old.counts
+    pub partials : new.partials ≡ old.partials
     pub views : new.views ≡ old.views
     pub halted : new.halted ≡ old.halted
 
   same_parts : (parts : StoreParts D N S d n) → IsSameBut parts parts
-  same_parts parts = record { journal = refl; pool = refl; catalog = refl; counts = refl; views = refl; halted = refl }
+  same_parts parts = record { journal = refl; pool = refl; catalog = refl; counts = refl; partials = refl; views = refl; halted = refl }
 
   -- a restore that was put at another place for a while
   module _ (old mid : StoreParts D N S d n) (looks : Looks old mid) (index : ℕ) (restore : OpenRestore S)
@@ -167,6 +168,7 @@ module _ {D N S : Type 0} {d : DiskGhosts D} {n : NamerGhosts N S} where
     pool_same = refl;
     catalog_same = refl;
     counts_same = refl;
+    partials_same = refl;
     sessions_same = refl;
     halted_same = refl;
     views_same = refl;
@@ -182,6 +184,7 @@ module _ {D N S : Type 0} {d : DiskGhosts D} {n : NamerGhosts N S} where
           pool_same = same.pool;
           catalog_same = same.catalog;
           counts_same = same.counts;
+          partials_same = same.partials;
           sessions_same = sessions;
           halted_same = same.halted;
           views_same = same.views;
@@ -269,6 +272,7 @@ module _ {D N S : Type 0} {d : DiskGhosts D} {n : NamerGhosts N S} where
           quiet = subst (λ (j : Journal D d). Quiet old.journal j) (sym same.journal) looks.quiet;
           catalog = same.catalog ∙ looks.catalog_same;
           counts = same.counts ∙ looks.counts_same;
+          partials = same.partials ∙ looks.partials_same;
           views = same.views ∙ looks.views_same;
           halted = same.halted ∙ looks.halted_same;
           form = ap (λ (p : Pool N S n). p.in_one_file) (same.pool ∙ looks.pool_same);

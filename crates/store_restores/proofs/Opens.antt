@@ -108,10 +108,11 @@ module _ {D N S : Type 0} {d : DiskGhosts D} {n : NamerGhosts N S} where
     pool_same = looks.pool_same;
     catalog_same = looks.catalog_same;
     counts_same = looks.counts_same;
+    partials_same = looks.partials_same;
     sessions_same = looks.sessions_same;
     halted_same = looks.halted_same;
     view = λ office names at.
-        subst (λ (views : Views). IsKeptView views.kept office.hosts at.backups) (sym looks.views_same) at.view;
+        subst (λ (views : Views). IsKeptView views.kept office.hosts at.shown) (sym looks.views_same) at.view;
   }
 
   -- what is open since the files were read
@@ -183,6 +184,7 @@ module _ {D N S : Type 0} {d : DiskGhosts D} {n : NamerGhosts N S} where
         quiet = Quiet-then old.journal mid.journal new.journal looks.quiet kept.quiet;
         catalog = kept.catalog ∙ looks.catalog_same;
         counts = kept.counts ∙ looks.counts_same;
+        partials = kept.partials ∙ looks.partials_same;
         views = kept.views ∙ looks.views_same;
         halted = kept.halted ∙ looks.halted_same;
         form = kept.form ∙ ap (λ (p : Pool N S n). p.in_one_file) looks.pool_same;
@@ -204,6 +206,7 @@ module _ {D N S : Type 0} {d : DiskGhosts D} {n : NamerGhosts N S} where
         quiet = Quiet-then old.journal mid.journal new.journal looks.quiet has.quiet;
         catalog = has.catalog ∙ looks.catalog_same;
         counts = has.counts ∙ looks.counts_same;
+        partials = has.partials ∙ looks.partials_same;
         views = has.views ∙ looks.views_same;
         halted = has.halted ∙ looks.halted_same;
         form = has.form ∙ ap (λ (p : Pool N S n). p.in_one_file) looks.pool_same;
@@ -255,6 +258,7 @@ module _ {D N S : Type 0} {d : DiskGhosts D} {n : NamerGhosts N S} where
               quiet = has.quiet;
               catalog = has.catalog;
               counts = has.counts;
+              partials = has.partials;
               views = has.views;
               halted = has.halted;
               form = has.form;

@@ -35,7 +35,7 @@ use Rattle.office_known.specs.KnownLaws.{known_of_office}
 use Rattle.open_sessions.specs.Opened.{Staging, SameStaging, AreSessions, claims_in}
 use Rattle.open_sessions.specs.SessionLaws.{AreSessions-kept, AreSessions-alike, claims_in-alike}
 use Rattle.store_parts.specs.declared.parts.StoreParts.{StoreParts}
-use Rattle.store_parts.specs.Held.{given, AreCountsOf, IsKeptView}
+use Rattle.store_parts.specs.Held.{given, AreCountsOf, heads_of, IsKeptView}
 use Rattle.store_parts.specs.States.{slots, IsRunning, staging_of}
 use Rattle.store_parts.specs.Runs.{MayRecover, Runs}
 use Rattle.store_parts.specs.StoredLaws.{stored_found}
@@ -104,6 +104,7 @@ module _ {D N S : Type 0} {d : DiskGhosts D} {n : NamerGhosts N S} where
     pub quiet : Quiet old.journal new.journal
     pub catalog : new.catalog ≡ old.catalog
     pub counts : new.counts ≡ old.counts
+    pub partials : new.partials ≡ old.partials
     pub views : new.views ≡ old.views
     pub halted : new.halted ≡ old.halted
     pub form : new.pool.in_one_file ≡ old.pool.in_one_file
@@ -119,10 +120,10 @@ module _ {D N S : Type 0} {d : DiskGhosts D} {n : NamerGhosts N S} where
       stored = record {
         journal_ready = stays.quiet.halted_same ∙ at.journal_ready;
         all = at.all;
-        backups = at.backups;
+        shown = at.shown;
         told_is = stays.quiet.told_same ∙ at.told_is;
-        stands = subst (λ (o : Durable). Stands n.digest_of (index_of (slots new)) at.backups at.all o) (sym same)
-            (subst (λ (index : Index). Stands n.digest_of index at.backups at.all office.durable) (sym index) at.stands);
+        stands = subst (λ (o : Durable). Stands n.digest_of (index_of (slots new)) at.shown at.all o) (sym same)
+            (subst (λ (index : Index). Stands n.digest_of index at.shown at.all office.durable) (sym index) at.stands);
         tells = subst (λ (index : Index). TellsIn new.pool.in_one_file index at.all) (sym index)
             (subst (λ (form : Bool). TellsIn form (index_of (slots old)) at.all) (sym stays.form) at.tells);
         fits = fits_less n.digest_of (slots old) (slots new) (uncertain old.journal) (uncertain new.journal) at.all at.all less
@@ -137,10 +138,11 @@ module _ {D N S : Type 0} {d : DiskGhosts D} {n : NamerGhosts N S} where
         digest = at.digest;
         catalog_is = stays.catalog ∙ at.catalog_is ∙ ap known_of_office (sym same);
       };
-      counted = subst (λ (counts : List Items). AreCountsOf counts at.backups) (sym stays.counts) at.counted;
+      counted = subst (λ (counts : List Items). AreCountsOf counts at.shown) (sym stays.counts) at.counted;
+      parked = stays.partials ∙ at.parked ∙ ap heads_of (sym hosts);
       sessions = sessions;
-      view = subst (λ (v : Views). IsKeptView v.kept next.hosts at.backups) (sym stays.views)
-          (subst (λ (hosts : List Host). IsKeptView old.views.kept hosts at.backups) (sym hosts) at.view);
+      view = subst (λ (v : Views). IsKeptView v.kept next.hosts at.shown) (sym stays.views)
+          (subst (λ (hosts : List Host). IsKeptView old.views.kept hosts at.shown) (sym hosts) at.view);
       sound = sound;
     };
     claimed = claimed;
@@ -164,6 +166,7 @@ module _ {D N S : Type 0} {d : DiskGhosts D} {n : NamerGhosts N S} where
     quiet = kept.quiet;
     catalog = kept.catalog;
     counts = kept.counts;
+    partials = kept.partials;
     views = kept.views;
     halted = kept.halted;
     form = kept.form;

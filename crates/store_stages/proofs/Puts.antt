@@ -251,7 +251,8 @@ module _ {D N S : Type 0} {d : DiskGhosts D} {n : NamerGhosts N S} where
 
             -- the row was put, and the stage ended
             pub runs_staged : (new : StoreParts D N S d n) (edited : Sessions S) {failed : Type 0} → new.journal ≡ journal
-                → new.catalog ≡ old.catalog → new.counts ≡ old.counts → new.views ≡ old.views → new.halted ≡ old.halted
+                → new.catalog ≡ old.catalog → new.counts ≡ old.counts → new.partials ≡ old.partials → new.views ≡ old.views
+                → new.halted ≡ old.halted
                 → (((id : PoolId) → claims_of_content (content_found (node_at dump.tree path)) id ≤ claims_of (slots mid id))
                 → LetsGo (λ id. claims_of_content (content_found (node_at dump.tree path)) id) (slots mid) (slots new))
                 → new.pool.in_one_file ≡ pool.in_one_file
@@ -259,8 +260,8 @@ module _ {D N S : Type 0} {d : DiskGhosts D} {n : NamerGhosts N S} where
                 → OnlyDumps old.sessions edited → OnlyStages edited new.sessions
                 → new.sessions.stages.items.items ≡ remove edited.stages.items.items p → new.sessions.stages.next ≡ edited.stages.next
                 → Counted (d.fault_count old.journal.disk) (d.fault_count journal.disk) failed → (failed → ⊥) → Runs old event (Ok Done) new
-            runs_staged new edited same catalog counts views halted go kept dumps only ends items next_stage counted fine =
-                PutLaws.runs_put old session path (Staged file) journal pool form stays certain crash content new same catalog counts views halted
+            runs_staged new edited same catalog counts partials views halted go kept dumps only ends items next_stage counted fine =
+                PutLaws.runs_put old session path (Staged file) journal pool form stays certain crash content new same catalog counts partials views halted
                 kept counted fine index dump e there go
                 (λ office names at.
                 let t = taken office names at in
@@ -288,15 +289,15 @@ module _ {D N S : Type 0} {d : DiskGhosts D} {n : NamerGhosts N S} where
             pub runs_staged_back : (new : StoreParts D N S d n) {failed : Type 0} (fault : PutFault)
                 → ((broken : PutRule) → fault ≡ PF.Broken broken → IsTree is_dir dump.tree
                 → broken_rule is_dir dump.tree path false false ≡ Some broken)
-                → new.journal ≡ journal → new.catalog ≡ old.catalog → new.counts ≡ old.counts → new.views ≡ old.views
-                → new.halted ≡ old.halted
+                → new.journal ≡ journal → new.catalog ≡ old.catalog → new.counts ≡ old.counts → new.partials ≡ old.partials
+                → new.views ≡ old.views → new.halted ≡ old.halted
                 → (((id : PoolId) → claims_of_content content id ≤ claims_of (slots mid id))
                 → LetsGo (λ id. claims_of_content content id) (slots mid) (slots new))
                 → new.pool.in_one_file ≡ pool.in_one_file → AreAlike old.sessions new.sessions
                 → Counted (d.fault_count old.journal.disk) (d.fault_count journal.disk) failed → (failed → ⊥)
                 → Runs old event (Err (refused_put fault)) new
-            runs_staged_back new fault says same catalog counts views halted go kept alike counted fine =
-                PutLaws.runs_put_back old session path (Staged file) journal pool form stays certain crash content new same catalog counts views
+            runs_staged_back new fault says same catalog counts partials views halted go kept alike counted fine =
+                PutLaws.runs_put_back old session path (Staged file) journal pool form stays certain crash content new same catalog counts partials views
                 halted kept counted fine fault
                 (λ office names at broken is.
                 let tree = tree_is office names at in none_some broken (sym (rule tree) ∙ says broken is tree))

@@ -43,7 +43,7 @@ returns-in-Ok-put_item-clause-runs g c =
     (subst (λ (b : List ℕ). TakesIn g.N.Namer.digest_of (slots_of c.args.parts.now.pool.names) (slots_of c.stage.new.pool.names)
     (g.D.Disk.files c.args.parts.now.journal.disk)
     (g.D.Disk.files c.stage.new.journal.disk) c.in-Ok.content b) c.bytes_of-bytes.ensures c.in-Ok.ensures.takes)
-    _ refl refl refl refl refl
+    _ refl refl refl refl refl refl
     (go_content (slots_of c.stage.new.pool.names) (slots_of c.release.new.pool.names) _ _
     (c.content_of-before.ensures ∙ ap content_found (c.find.ensures c.index.result.now there)) c.release.ensures.go)
     c.release.ensures.form (c.in-Ok-put_item.ensures.put c.index.result.now there) c.in-Ok-put_item.ensures.only
@@ -61,7 +61,7 @@ returns-in-Err-put_item-clause-runs g c =
     (g.D.Disk.files c.args.parts.now.journal.disk)
     (g.D.Disk.files c.stage.new.journal.disk) c.in-Ok.content b) c.bytes_of-bytes.ensures c.in-Ok.ensures.takes)
     _ c.in-Err-put_item.fault
-    (λ broken is tree. c.in-Err-put_item.ensures.rule broken c.index.result.now is there tree) refl refl refl refl refl
+    (λ broken is tree. c.in-Err-put_item.ensures.rule broken c.index.result.now is there tree) refl refl refl refl refl refl
     c.release-in-Err-put_item.ensures.go c.release-in-Err-put_item.ensures.form c.in-Err-put_item.ensures.err c.in-Ok.ensures.counted
     (λ e. absurd cc))
 

@@ -20,7 +20,7 @@ pub returns-in-Ok-remove-clause-runs : goal.returns-in-Ok-remove-clause-runs
 returns-in-Ok-remove-clause-runs g c = runs_removed _ c.args.session c.args.path.now c.in_ok-at.at c.index.result.now c.in_ok-at.ensures.found
     (slice_get_read _ _ _ _ refl c.in_ok-at.ensures.within c.index.ensures) _
     (c.in-Ok-remove.ensures.ok c.index.result.now
-    (slice_get_read _ _ _ _ refl c.in_ok-at.ensures.within c.index.ensures)) refl refl refl refl refl
+    (slice_get_read _ _ _ _ refl c.in_ok-at.ensures.within c.index.ensures)) refl refl refl refl refl refl
     (go_alike (slots_of c.args.parts.now.pool.names) (slots_of c.release_rows.new.pool.names) _ _
     (c.rows.ensures.rows ∙ c.in-Ok.ensures) c.release_rows.ensures.go)
     c.release_rows.ensures.form
@@ -28,7 +28,7 @@ returns-in-Ok-remove-clause-runs g c = runs_removed _ c.args.session c.args.path
     c.in-Ok-remove.ensures.only
 
 pub returns-in-Err-NoPath-clause-runs : goal.returns-in-Err-NoPath-clause-runs
-returns-in-Err-NoPath-clause-runs g c = runs_alike_refused _ _ _ _ refl refl refl refl refl refl
+returns-in-Err-NoPath-clause-runs g c = runs_alike_refused _ _ _ _ refl refl refl refl refl refl refl
     c.in-Err-NoPath.ensures.err
     (no_path _ c.args.session c.args.path.now c.in_ok-at.at c.index.result.now c.in_ok-at.ensures.found
     (slice_get_read _ _ _ _ refl c.in_ok-at.ensures.within c.index.ensures)
@@ -36,7 +36,7 @@ returns-in-Err-NoPath-clause-runs g c = runs_alike_refused _ _ _ _ refl refl ref
     (slice_get_read _ _ _ _ refl c.in_ok-at.ensures.within c.index.ensures)))
 
 pub returns-clause-runs : goal.returns-clause-runs
-returns-clause-runs g c = runs_alike_memory _ _ _ refl refl refl refl refl refl c.in-Err-Memory.ensures.err
+returns-clause-runs g c = runs_alike_memory _ _ _ refl refl refl refl refl refl refl c.in-Err-Memory.ensures.err
 
 pub returns-in_err-at-clause-undamaged : goal.returns-in_err-at-clause-undamaged
 returns-in_err-at-clause-undamaged g c = undamaged_broken c.from_residual.result _ c.from_residual.ensures.1

@@ -11,7 +11,7 @@ returns-in_err-at-clause-runs g c = runs_broken_by _ _ _ _ _ _ c.from_residual.e
 
 pub returns-clause-runs : goal.returns-clause-runs
 returns-clause-runs g c = runs_closed c.args.parts.now c.args.number _ c.in_ok-at.at c.take-closed.result c.in_ok-at.ensures.found
-    c.take-closed.ensures.taken (record { journal = refl; catalog = refl; counts = refl; views = refl; halted = refl; form = c.release.ensures.form })
+    c.take-closed.ensures.taken (record { journal = refl; catalog = refl; counts = refl; partials = refl; views = refl; halted = refl; form = c.release.ensures.form })
     c.release.ensures.go c.take-closed.ensures.others c.take-closed.ensures.next
     (record { dumps = refl; restores = refl; stages = refl; sequence = refl })
 

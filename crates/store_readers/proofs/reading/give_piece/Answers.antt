@@ -33,7 +33,7 @@ returns-in-None-clause-runs g c = λ number e.
     let w = there_is c.args.parts.now.sessions.readers.items.items c.args.at c.requires.there in
     part_made c.args.parts.now number c.args.at w.0 e w.1 c.args.asked.now (c.requires.is w.0 w.1) c.read_piece.new.parts _
     c.in-Ok.ensures.looks
-    (record { journal = refl; pool = refl; catalog = refl; counts = refl; views = refl; halted = refl; sessions = record { dumps = refl; restores = refl; stages = refl; sequence = refl } })
+    (record { journal = refl; pool = refl; catalog = refl; counts = refl; partials = refl; views = refl; halted = refl; sessions = record { dumps = refl; restores = refl; stages = refl; sequence = refl } })
     c.in-Ok.ensures.counted (not_failed _) c.in-Ok.part
     (passes_part c.args.parts.now c.read_piece.new.parts c.in-Ok.ensures.looks c.args.at w.0 w.1 c.args.asked.now c.in-Ok.part
     c.in-Ok.ensures.piece c.in-Ok.ensures.whole _ (record { dumps = refl; restores = refl; stages = refl; sequence = refl })
@@ -44,7 +44,7 @@ returns-in-Some-clause-runs g c = λ number e.
     let w = there_is c.args.parts.now.sessions.readers.items.items c.args.at c.requires.there in
     part_wrong c.args.parts.now number c.args.at w.0 e w.1 c.args.asked.now (c.requires.is w.0 w.1) c.read_piece.new.parts _
     c.in-Ok.ensures.looks
-    (record { journal = refl; pool = refl; catalog = refl; counts = refl; views = refl; halted = refl; sessions = record { dumps = refl; restores = refl; stages = refl; sequence = refl } })
+    (record { journal = refl; pool = refl; catalog = refl; counts = refl; partials = refl; views = refl; halted = refl; sessions = record { dumps = refl; restores = refl; stages = refl; sequence = refl } })
     c.in-Ok.ensures.counted (not_failed _) c.in-Ok.part
     (passes_part c.args.parts.now c.read_piece.new.parts c.in-Ok.ensures.looks c.args.at w.0 w.1 c.args.asked.now c.in-Ok.part
     c.in-Ok.ensures.piece c.in-Ok.ensures.whole _ (record { dumps = refl; restores = refl; stages = refl; sequence = refl })

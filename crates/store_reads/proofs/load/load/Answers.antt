@@ -13,6 +13,7 @@ returns-in-Ok-clause-reads g c =
       pool_same = refl;
       catalog_same = refl;
       counts_same = refl;
+      partials_same = refl;
       sessions_same = refl;
       halted_same = refl;
       view = read_view c.args.parts.now c.args.host c.args.line _ _ index (c.lines-lines.ensures ∙ c.lines.ensures.lines) c.load.new.self

@@ -13,7 +13,7 @@ returns-in_err-at-clause-runs g c = runs_broken_by _ _ _ _ _ _ c.from_residual.e
 
 pub returns-clause-runs : goal.returns-clause-runs
 returns-clause-runs g c = runs_closed _ c.args.restore _ c.in_ok-at.at c.take_restore-closed.result c.in_ok-at.ensures.found
-    c.take_restore-closed.ensures.taken (Quiet-still _) refl refl refl refl _ c.rows.ensures.rows c.release_rows.ensures.go
+    c.take_restore-closed.ensures.taken (Quiet-still _) refl refl refl refl refl _ c.rows.ensures.rows c.release_rows.ensures.go
     c.release_rows.ensures.form c.take_restore-closed.ensures.others c.take_restore-closed.ensures.only
     (counted_still _ _ (λ e. e)) (λ e. e)
 

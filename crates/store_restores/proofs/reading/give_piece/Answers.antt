@@ -29,7 +29,7 @@ returns-in-None-clause-runs g c = λ session e.
     let w = there_is c.args.parts.now.sessions.restores.items c.args.at c.requires.there in
     let mid = mid_there c.args.parts.now c.read_piece.new.parts c.in-Ok.ensures.looks c.args.at w.0 w.1 in
     next_piece c.args.parts.now session c.args.at w.0 e w.1 c.read_piece.new.parts _ c.in-Ok.ensures.looks
-    (record { journal = refl; pool = refl; catalog = refl; counts = refl; views = refl; halted = refl })
+    (record { journal = refl; pool = refl; catalog = refl; counts = refl; partials = refl; views = refl; halted = refl })
     c.in-Ok.ensures.counted (not_failed _) c.args.asked.now (c.requires.is w.0 w.1) c.in-Ok.piece
     (λ all told_is. piece_read (all (PoolFile c.args.asked.now.content)) c.args.asked.now.from c.room_of.result c.in-Ok.piece
     (sym (c.in-Ok.ensures.piece all told_is))
@@ -47,7 +47,7 @@ returns-in-Some-clause-runs g c = λ session e.
     let w = there_is c.args.parts.now.sessions.restores.items c.args.at c.requires.there in
     let mid = mid_there c.args.parts.now c.read_piece.new.parts c.in-Ok.ensures.looks c.args.at w.0 w.1 in
     next_wrong c.args.parts.now session c.args.at w.0 e w.1 c.read_piece.new.parts _ c.in-Ok.ensures.looks
-    (record { journal = refl; pool = refl; catalog = refl; counts = refl; views = refl; halted = refl })
+    (record { journal = refl; pool = refl; catalog = refl; counts = refl; partials = refl; views = refl; halted = refl })
     c.in-Ok.ensures.counted (not_failed _) c.args.asked.now (c.requires.is w.0 w.1) c.in-Ok.piece
     (λ all told_is. piece_read (all (PoolFile c.args.asked.now.content)) c.args.asked.now.from c.room_of.result c.in-Ok.piece
     (sym (c.in-Ok.ensures.piece all told_is))

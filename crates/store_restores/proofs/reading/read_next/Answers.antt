@@ -14,13 +14,13 @@ pub returns-in-Ok-clause-runs : goal.returns-in-Ok-clause-runs
 returns-in-Ok-clause-runs g c =
     let w = there_is c.args.parts.now.sessions.restores.items c.in_ok-at.at c.in_ok-at.ensures.within in
     next_entry c.args.parts.now c.args.restore c.in_ok-at.at w.0 c.in_ok-at.ensures.found w.1 _
-    (record { journal = refl; pool = refl; catalog = refl; counts = refl; views = refl; halted = refl })
+    (record { journal = refl; pool = refl; catalog = refl; counts = refl; partials = refl; views = refl; halted = refl })
     c.in-Entry.row (c.in-Entry.ensures.is w.0 w.1) (c.in-Ok.ensures.moves w.0 w.1) c.in-Ok.frame (c.in-Ok.ensures.frame w.0 w.1)
 
 pub returns-in-Err-clause-runs : goal.returns-in-Err-clause-runs
 returns-in-Err-clause-runs g c =
     next_memory c.args.parts.now c.args.restore _
-    (record { journal = refl; pool = refl; catalog = refl; counts = refl; views = refl; halted = refl }) c.in-Err.ensures.err
+    (record { journal = refl; pool = refl; catalog = refl; counts = refl; partials = refl; views = refl; halted = refl }) c.in-Err.ensures.err
 
 pub returns-in-Piece-clause-runs : goal.returns-in-Piece-clause-runs
 returns-in-Piece-clause-runs g c = c.give_piece.ensures.runs c.args.restore c.in_ok-at.ensures.found

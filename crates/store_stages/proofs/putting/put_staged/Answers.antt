@@ -49,7 +49,7 @@ returns-in-Ok-put_file-clause-runs g c =
     c.in_ok-at.at c.index.result.now c.in_ok-at.ensures.found there
     c.take_stage.new.journal c.take_stage.new.pool c.in-Ok.ensures.ok c.in-Ok-take_stage.ensures.form c.in-Ok-take_stage.ensures.stays
     c.in-Ok-take_stage.ensures.certain c.in-Ok-take_stage.ensures.crash c.in-Ok-take_stage.content c.in-Ok-take_stage.ensures.shape
-    c.in-Ok-take_stage.ensures.takes _ c.put_file.new.sessions refl refl refl refl refl
+    c.in-Ok-take_stage.ensures.takes _ c.put_file.new.sessions refl refl refl refl refl refl
     (go_content (slots_of c.take_stage.new.pool.names) (slots_of c.release.new.pool.names) _ _
     (c.content_of-before.ensures ∙ ap content_found (c.find.ensures c.index.result.now there)) c.release.ensures.go)
     c.release.ensures.form (c.in-Ok-put_file.ensures.put c.index.result.now there) c.in-Ok-put_file.ensures.only
@@ -66,6 +66,6 @@ returns-in-Err-put_file-clause-runs g c =
     c.take_stage.new.journal c.take_stage.new.pool c.in-Ok.ensures.ok c.in-Ok-take_stage.ensures.form c.in-Ok-take_stage.ensures.stays
     c.in-Ok-take_stage.ensures.certain c.in-Ok-take_stage.ensures.crash c.in-Ok-take_stage.content c.in-Ok-take_stage.ensures.shape
     c.in-Ok-take_stage.ensures.takes _ c.in-Err-put_file.fault
-    (λ broken is tree. c.in-Err-put_file.ensures.rule broken c.index.result.now is there tree) refl refl refl refl refl
+    (λ broken is tree. c.in-Err-put_file.ensures.rule broken c.index.result.now is there tree) refl refl refl refl refl refl
     c.release-in-Err-put_file.ensures.go c.release-in-Err-put_file.ensures.form c.in-Err-put_file.ensures.err
     c.in-Ok-take_stage.ensures.counted (λ e. absurd cc))
