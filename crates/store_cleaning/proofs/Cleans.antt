@@ -156,9 +156,9 @@ module _ {D N S : Type 0} {d : DiskGhosts D} {n : NamerGhosts N S} where
       let claimed = bucket_claimed id (slots parts id) item e in
       let listed = listed_item id (slots parts id) item e in
       let one = given_one n.digest_of (slots parts) (uncertain parts.journal) at.all at.fits in
-      let hosted = protected_counted n.digest_of (index_of (slots parts)) at.backups at.all office.durable at.stands id
+      let hosted = protected_counted n.digest_of (index_of (slots parts)) at.shown at.all office.durable at.stands id
       (ap is_some listed.0)
-      ∙ sym (hosts_count id parts.counts at.backups at.counted) in
+      ∙ sym (hosts_count id parts.counts at.shown at.counted) in
       let opened = sessions_hold (given (slots parts)) (contents_of at.all) one id claimed.0 n.holds (staging_of at.all names)
       office.volatile parts.sessions at.sessions
       ∙ ap (nat_lt 0) (sym (at.claimed id)) in
@@ -255,9 +255,9 @@ module _ {D N S : Type 0} {d : DiskGhosts D} {n : NamerGhosts N S} where
               let opened = opened_has office.volatile content in
               ap (λ (b : Bool). b || opened) e
 
-          stands : Stands n.digest_of (index_of relisted) at.backups (applied cleaning.change.changes at.all)
+          stands : Stands n.digest_of (index_of relisted) at.shown (applied cleaning.change.changes at.all)
               (after_cleaning inside office).durable
-          stands = clean_stands n.digest_of inside protected (index_of (slots old)) (index_of relisted) at.backups at.all
+          stands = clean_stands n.digest_of inside protected (index_of (slots old)) (index_of relisted) at.shown at.all
               (applied cleaning.change.changes at.all) office.durable safe stays
               (λ id. applied_contents cleaning.change.changes at.all (F.Pool id) leads.are refl) headed index_cleaned
               (inr (leads.leads at.all at.tells))
@@ -267,14 +267,15 @@ module _ {D N S : Type 0} {d : DiskGhosts D} {n : NamerGhosts N S} where
           leads_to = record {
             carried = carried_by inside office;
             judged = judged;
-            stands = record { index = index_of relisted; backups = at.backups; stands = stands };
+            stands = record { index = index_of relisted; shown = at.shown; stands = stands };
           }
 
           -- ---- the parts behind the commit
 
           module _ (mid new : StoreParts D N S d n) (done : Unit {0}) (w : Writes old cleaning.change.changes (Ok done) mid)
               (accepted : IsSame relisted (slots new)) (form : new.pool.in_one_file ≡ false) (journal : new.journal ≡ mid.journal)
-              (catalog : new.catalog ≡ old.catalog) (counts : new.counts ≡ old.counts) (sessions : new.sessions ≡ old.sessions)
+              (catalog : new.catalog ≡ old.catalog) (counts : new.counts ≡ old.counts) (partials : new.partials ≡ old.partials)
+              (sessions : new.sessions ≡ old.sessions)
               (views : new.views ≡ old.views) (halted : new.halted ≡ mid.halted) where
             abbrev image : Files
             image = applied cleaning.change.changes at.all
@@ -324,10 +325,10 @@ module _ {D N S : Type 0} {d : DiskGhosts D} {n : NamerGhosts N S} where
                 stored = record {
                   journal_ready = subst (λ (j : Journal D d). j.halted ≡ false) (sym journal) w.committed.ready;
                   all = image;
-                  backups = at.backups;
+                  shown = at.shown;
                   told_is = subst (λ (j : Journal D d). told j ≡ Some image) (sym journal)
                       (w.committed.done ∙ ap (option_map (applied cleaning.change.changes)) at.told_is);
-                  stands = subst (λ (i : Index). Stands n.digest_of i at.backups image (after_cleaning inside office).durable)
+                  stands = subst (λ (i : Index). Stands n.digest_of i at.shown image (after_cleaning inside office).durable)
                       (sym index) stands;
                   tells = subst (λ (b : Bool). TellsIn b (index_of (slots new)) image) (sym form)
                       (subst (λ (i : Index). TellsIn false i image) (sym index) (leads.leads at.all at.tells));
@@ -342,7 +343,8 @@ module _ {D N S : Type 0} {d : DiskGhosts D} {n : NamerGhosts N S} where
                   digest = at.digest;
                   catalog_is = catalog ∙ at.catalog_is;
                 };
-                counted = subst (λ (cs : List Items). AreCountsOf cs at.backups) (sym counts) at.counted;
+                counted = subst (λ (cs : List Items). AreCountsOf cs at.shown) (sym counts) at.counted;
+                parked = partials ∙ at.parked;
                 sessions = subst (λ (s : Sessions S). AreSessions n.holds (given (slots new)) (contents_of image)
                     (staging_of image names) office.volatile s) (sym sessions)
                     (AreSessions-claimed n.holds (given (slots old)) (contents_of at.all) (given (slots new)) (contents_of image)
@@ -356,7 +358,7 @@ module _ {D N S : Type 0} {d : DiskGhosts D} {n : NamerGhosts N S} where
                       still_given id g (subst (λ (m : ℕ). 0 < m) (sym (at.claimed id)) some),
                       sym (ap (λ (c : PoolId → List ℕ). c id) (contents_written cleaning.change.changes at.all leads.are)),
                     )) at.sessions);
-                view = subst (λ (v : Views). IsKeptView v.kept office.hosts at.backups) (sym views) at.view;
+                view = subst (λ (v : Views). IsKeptView v.kept office.hosts at.shown) (sym views) at.view;
                 sound = AreSound-carried office names (Clean bucket) (carried_by inside office) names at.sound judged refl;
               };
               claimed = claimed;
@@ -406,13 +408,13 @@ module _ {D N S : Type 0} {d : DiskGhosts D} {n : NamerGhosts N S} where
 
       pub cleans : (mid new : StoreParts D N S d n) (done : Unit {0}) → Writes old cleaning.change.changes (Ok done) mid
           → IsSame (after cleaning.change (slots mid)) (slots new) → new.pool.in_one_file ≡ false → new.journal ≡ mid.journal
-          → new.catalog ≡ mid.catalog → new.counts ≡ mid.counts → new.sessions ≡ mid.sessions → new.views ≡ mid.views
-          → new.halted ≡ mid.halted
+          → new.catalog ≡ mid.catalog → new.counts ≡ mid.counts → new.partials ≡ mid.partials → new.sessions ≡ mid.sessions
+          → new.views ≡ mid.views → new.halted ≡ mid.halted
           → Runs old (Clean bucket) (Ok (Cleaned cleaning.marked cleaning.unmarked cleaning.removed)) new
-      cleans mid new done w accepted form journal catalog counts sessions views halted =
+      cleans mid new done w accepted form journal catalog counts partials sessions views halted =
           runs_written old mid new (Clean bucket)
           (Cleaned cleaning.marked cleaning.unmarked cleaning.removed) cleaning.change.changes done w journal
           (λ office names at. holds old bucket within cleaning is office names at some leads mid new done w
           (subst (λ (p : Pool N S n). IsSame (after cleaning.change (slots_of p.names)) (slots new)) w.pool_same accepted) form journal
-          (catalog ∙ w.catalog_same) (counts ∙ w.counts_same) (sessions ∙ w.sessions_same) (views ∙ w.views_same) halted)
+          (catalog ∙ w.catalog_same) (counts ∙ w.counts_same) (partials ∙ w.partials_same) (sessions ∙ w.sessions_same) (views ∙ w.views_same) halted)
           (λ office names. refl) refl

@@ -4,12 +4,11 @@
 --     only_open      behind all files that were listed no stage has a file but open ones
 --     runs_behind_stages, runs_stages_left      a sweep behind that;  what it answers if that is refused
 use Rattle.std.specs.Prelude.{◌≡◌, ◌⊎◌, ◌<◌, ◌+◌, ℕ, length, get_or, drop, Bool, true, false, not, ◌==◌, ◌||◌, if◌then◌else◌, List, [], ◌∷◌, slice_get, Option, Some, None, Result, Ok, Err, IsErrOf, OnOk, is_some, option_map}
-use Rattle.std.proofs.Common.{refl, sym, ap, ◌∙◌, subst, inl, inr, arith}
+use Rattle.std.proofs.Common.{refl, sym, ap, ◌∙◌, subst, inl, inr}
 use Rattle.std.proofs.lemmas.Bool.{true≢false}
 use Rattle.std.proofs.lemmas.List.{drop_more}
 use borrow.Author.Tests.{eq-eqb}
 use Rattle.fault_counts.specs.Counts.{Counted}
-use Rattle.disk_trait.specs.declared.ids.PoolId.{PoolId}
 use Rattle.disk_trait.specs.declared.ids.FileId.{FileId}
 use Rattle.disk_trait.specs.declared.ids.FileId.TheVariants as F
 use Rattle.disk_trait.specs.declared.disk.Disk.{Ghosts as DiskGhosts}
@@ -44,9 +43,8 @@ use Rattle.store_parts.specs.States.{slots, staging_of, IsRunning}
 use Rattle.store_parts.specs.Runs.{MayRecover, Runs}
 use Rattle.store_parts.specs.StepLaws.{recover_before, step_memory}
 use Rattle.store_parts.specs.StoredLaws.{alike_stands, listed_live}
-use Rattle.store_parts.specs.RunLaws.{counted_fine, counted_failed, counted_then}
 use Rattle.store_parts.specs.StagingLaws.{HasStaged, working_staged}
-use Rattle.store_cleaning.specs.StageFiles.{is_open, is_left, without, OnlyOpen, StagesStay, Drops}
+use Rattle.store_cleaning.specs.StageFiles.{is_left, without, OnlyOpen, StagesStay, Drops}
 
 -- ---- tests
 
@@ -297,7 +295,7 @@ module _ {D N S : Type 0} {d : DiskGhosts D} {n : NamerGhosts N S} where
     running_at : IsRunning mid office names
     unfolding has
     running_at = record {
-      working = working_staged old mid office names at refl refl refl refl refl refl after.halted_same has;
+      working = working_staged old mid office names at refl refl refl refl refl refl refl after.halted_same has;
       claimed = at.claimed;
     }
 
@@ -306,7 +304,7 @@ module _ {D N S : Type 0} {d : DiskGhosts D} {n : NamerGhosts N S} where
         FindsOnly-each (IsAlikeBut at.all (λ asked. left_of old asked || uncertain old.journal asked))
         (MayRecover n.digest_of office judged) old.journal journal
         (λ found alike. recover_before n.digest_of office judged found
-        (alike_stands n.digest_of (index_of (slots old)) at.backups at.all found office.durable
+        (alike_stands n.digest_of (index_of (slots old)) at.shown at.all found office.durable
         (λ asked. left_of old asked || uncertain old.journal asked)
         (λ id listed. at.fits.certain id (listed_live (slots old) id listed)) at.stands alike))
         after.crash

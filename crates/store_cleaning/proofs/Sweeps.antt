@@ -226,7 +226,7 @@ module _ {D N S : Type 0} {d : DiskGhosts D} {n : NamerGhosts N S} where
   -- ---- the answers
 
   module _ (old new : StoreParts D N S d n) (catalog : new.catalog ≡ old.catalog) (counts : new.counts ≡ old.counts)
-      (sessions : new.sessions ≡ old.sessions)
+      (partials : new.partials ≡ old.partials) (sessions : new.sessions ≡ old.sessions)
       (views : new.views ≡ old.views) (halted : new.halted ≡ old.halted) (form : new.pool.in_one_file ≡ old.pool.in_one_file)
       (stays : new.journal.halted ≡ old.journal.halted) (pruned : IsPruned (slots old) (slots new))
       (sweeps : (all : Files) → d.files old.journal.disk ≡ Some all → Sweeps (slots old) (slots new) (d.files new.journal.disk) all)
@@ -242,7 +242,7 @@ module _ {D N S : Type 0} {d : DiskGhosts D} {n : NamerGhosts N S} where
 
       running : IsRunning new office names'
       running = record {
-        working = working_staged old new office names at catalog counts sessions views halted form stays swept.has;
+        working = working_staged old new office names at catalog counts partials sessions views halted form stays swept.has;
         claimed = λ id. alike (slots old) (slots new) pruned claims_of refl id ∙ at.claimed id
             ∙ ap (λ (s : Sessions S). claims_in s id) (sym sessions);
       }

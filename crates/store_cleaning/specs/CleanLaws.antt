@@ -1,6 +1,7 @@
 -- A cleaning of a bucket, by names as a pool does it and by contents as the model does.
 --     opened_has now content, protected_in office content      an open session has it;  a cleaning of the office keeps it
---     sessions_hold, hosts_hold      a content is in an open session or in a backup exactly if its name is claimed or counted
+--     sessions_hold, hosts_count      a content is in an open session exactly if its name is claimed;  a name is counted by some host
+--         exactly if the tables of all of them, or their partials, name it
 --     AreKept counts slots contents protected      a live name is kept exactly if its content is protected
 --     cleaned_index      the index after the cleaning
 --     cleaned_number      how many names gain the mark, lose it or leave is how many contents do
@@ -39,7 +40,7 @@ use Rattle.pool_changes.specs.Slots.{Slots, is_given, claims_of, same_id}
 use Rattle.pool_changes.specs.Listed.{item_of, index_of, bucket_item_of, bucket_item_at, IsBucketOf}
 use Rattle.ref_counts.specs.Cleaning.{next_mark}
 use Rattle.ref_counts.specs.Numbers.{Items, total as total_named}
-use Rattle.ref_counts.specs.Stored.{Backup as StoredBackup, stored}
+use Rattle.ref_counts.specs.Stored.{StoredHost, counted}
 use Rattle.nightly_clean.specs.Cleanings.{is_named, is_protected as is_kept, is_wanted, wanted_ids, live_as, cleaned_slot, cleaned as cleaned_names}
 use Rattle.open_sessions.specs.declared.sessions.OpenDump.{OpenDump}
 use Rattle.open_sessions.specs.declared.sessions.OpenRestore.{OpenRestore}
@@ -189,15 +190,15 @@ module _ (given : PoolId → Type 0) (contents : PoolId → List ℕ) (one : IsO
 
 -- ---- what the counts of hosts name
 
-pub hosts_count : (id : PoolId) (counts : List Items) (backups : List (List StoredBackup)) → AreCountsOf counts backups
-    → is_named counts id ≡ nat_lt 0 (total_of id backups)
+pub hosts_count : (id : PoolId) (counts : List Items) (shown : List StoredHost) → AreCountsOf counts shown
+    → is_named counts id ≡ nat_lt 0 (total_of id shown)
 hosts_count id [] [] pairs = refl
-hosts_count id [] (b ∷ backups) pairs = absurd (let same = pairs.counted in omega arith)
+hosts_count id [] (of ∷ shown) pairs = absurd (let same = pairs.counted in omega arith)
 hosts_count id (items ∷ counts) [] pairs = absurd (let same = pairs.counted in omega arith)
-hosts_count id (items ∷ counts) (b ∷ backups) pairs =
-    let here = first_pair (λ host. AreCounts) items counts b backups pairs id in
-    let rest = hosts_count id counts backups (later_pairs (λ host. AreCounts) items counts b backups pairs) in
-    (λ i. nat_lt 0 (here i) || rest i) ∙ sym (above_sum (total_named id (stored b)) (total_of id backups))
+hosts_count id (items ∷ counts) (of ∷ shown) pairs =
+    let here = first_pair (λ host. AreCounts) items counts of shown pairs id in
+    let rest = hosts_count id counts shown (later_pairs (λ host. AreCounts) items counts of shown pairs) in
+    (λ i. nat_lt 0 (here i) || rest i) ∙ sym (above_sum (total_named id (counted of)) (total_of id shown))
 
 -- ---- one name
 
@@ -206,7 +207,7 @@ abbrev pub AreKept : List Items → Slots → (PoolId → List ℕ) → (List �
 AreKept counts slots contents protected = (id : PoolId) (item : BucketItem) → bucket_item_of id (slots id) ≡ Some item
     → is_kept counts item ≡ protected (contents id)
 
--- what is claimed or named by counts is what backups hold or sessions
+-- what is claimed or named by counts is what backups and partials hold, or sessions
 pub kept_by : (hosted opened claimed named : Bool) → hosted ≡ named → opened ≡ claimed → (claimed || named) ≡ (hosted || opened)
 kept_by hosted opened true true h o = sym (ap (λ (b : Bool). b || opened) h)
 kept_by hosted opened true false h o = sym (λ i. h i || o i)

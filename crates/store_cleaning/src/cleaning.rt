@@ -23,9 +23,9 @@ fn changes_nothing(cleaning: &Cleaning) -> bool
 }
 
 /// Cleans a bucket, the contents whose digests' first byte divided by 16 is this, and answers how many gain the mark, lose it
-/// and leave the pool: a content that no backup, open dump or open restore holds and no open reader gives gains the mark, and leaves
-/// the pool if it had it; any other one loses it. After Ok this is durable. There are 16 buckets; of another one, and for want of memory,
-/// nothing is done. After a `DiskFault` the store is halted. If nothing changes, the disk isn't touched.
+/// and leave the pool: a content that no backup, partial dump, open dump or open restore holds and no open reader gives gains the
+/// mark, and leaves the pool if it had it; any other one loses it. After Ok this is durable. There are 16 buckets; of another one,
+/// and for want of memory, nothing is done. After a `DiskFault` the store is halted. If nothing changes, the disk isn't touched.
 pub fn clean<D: Disk, N: Namer>(
     parts: &mut StoreParts<D, N>,
     alloc: Global,

@@ -1,6 +1,7 @@
 -- The files after a planned commit stand for the office after it.
 --     stored_after      for the office that the parts hold
 use Rattle.std.specs.Prelude.{◌≡◌, ℕ, ◌≤◌, true, false, not, List, ◌++◌, length, Option, Some, None, is_some, slice_get, slice_set}
+use Rattle.std.specs.Option.{option_map}
 use Rattle.std.proofs.Common.{refl, sym, ap, ◌∙◌, subst, arith}
 use Rattle.std.proofs.lemmas.Option.{slice_get_within}
 use Rattle.disk_trait.specs.declared.ids.PoolId.{PoolId}
@@ -21,8 +22,10 @@ use Rattle.pool_changes.specs.Listed.{index_of}
 use Rattle.pool_changes.specs.Indexed.{after as relisted_after, relisted_by}
 use Rattle.stored_trees.specs.Resolved.{resolved, AreTold}
 use Rattle.ref_counts.specs.Numbers.{Items}
-use Rattle.ref_counts.specs.Stored.{Backup as StoredBackup}
+use Rattle.ref_counts.specs.Stored.{StoredHost}
 use Rattle.ref_counts.specs.CountsFile.{counts_file}
+use Rattle.host_partials.specs.declared.held.PartialHead.{PartialHead}
+use Rattle.host_partials.specs.Held.{head_at}
 use Rattle.open_sessions.specs.declared.sessions.OpenDump.{OpenDump}
 use Rattle.open_sessions.specs.SessionLaws.{pairs_set}
 use Rattle.office_catalog.specs.Held.{HoldsCatalog}
@@ -39,17 +42,21 @@ use Rattle.office_files.specs.Pairs.{other_at, pair_at}
 use Rattle.office_files.specs.Pooled.{contents_of, IsListed}
 use Rattle.office_files.specs.Stands.{Stands}
 use Rattle.office_changes.specs.Commits.{IsListedWith}
+use Rattle.office_changes.specs.CommitLaws.{backups_alone}
 use Rattle.office_known.specs.KnownLaws.{stands_catalog}
 use Rattle.office_changes.specs.ChangeLaws.{is_of_host, is_of_index}
 use Rattle.office_changes.specs.PoolLaws.{listed_with, told_with}
 use Rattle.store_parts.specs.declared.parts.StoreParts.{StoreParts}
-use Rattle.store_parts.specs.Held.{given, AreCounts}
+use Rattle.store_parts.specs.Held.{given, AreCounts, head_of}
 use Rattle.store_parts.specs.States.{slots, IsRunning}
 use Rattle.store_parts.specs.StoredLaws.{contents_written}
 use Rattle.store_commits.specs.declared.plan.Plan.{Plan}
 use Rattle.store_commits.specs.AcceptLaws.{with_added}
 use Rattle.store_commits.specs.Ids.{ids_in, given_ids, all_given}
 use Rattle.store_commits.specs.Former.{dropped_of, IsFolded}
+use Rattle.store_commits.specs.Parked.{AreParked}
+use Rattle.store_commits.specs.ParkedLaws.{head_there, parked_stored, parked_few, none_parked}
+use Rattle.store_commits.specs.CountsLaws.{AreLeft, left_of}
 use Rattle.store_commits.specs.Planned.{IsPlanned}
 use Rattle.store_commits.specs.Written.{host_part}
 use Rattle.store_commits.specs.WrittenLaws.{IsFormer, AreOfIndex, at_other, at_pool_index, at_pool_bucket}
@@ -112,23 +119,49 @@ module _ {D N S : Type 0} {d : DiskGhosts D} {n : NamerGhosts N S} where
 
     -- ---- what the host had
 
-    abbrev found : (shown : List StoredBackup) × (slice_get at.backups number ≡ Some shown)
-        × StandsHost (IsListed (index_of (slots parts))) (contents_of at.all) at.all number m.host shown
-    found = pair_at (StandsHost (IsListed (index_of (slots parts))) (contents_of at.all) at.all) office.hosts at.backups at.stands.hosts number
+    abbrev found : (of : StoredHost) × (slice_get at.shown number ≡ Some of)
+        × StandsHost (IsListed (index_of (slots parts))) (contents_of at.all) at.all number m.host of
+    found = pair_at (StandsHost (IsListed (index_of (slots parts))) (contents_of at.all) at.all) office.hosts at.shown at.stands.hosts number
         m.host m.here
 
     -- its counts
     abbrev had : (items : Items) × (slice_get parts.counts number ≡ Some items)
-    had = other_at at.backups parts.counts number found.0 (sym at.counted.counted) found.1
+    had = other_at at.shown parts.counts number found.0 (sym at.counted.counted) found.1
 
     had_counted : AreCounts had.0 found.0
     had_counted = at.counted.each number had.0 found.0 had.1 found.1
+
+    -- ---- its partial
+
+    are_parked : AreParked (told parts.journal) (option_map head_of m.host.partial) number planned.parked
+    are_parked = subst (λ (h : ℕ). AreParked (told parts.journal) (option_map head_of m.host.partial) h planned.parked) file_is
+        (subst (λ (head : Option PartialHead). AreParked (told parts.journal) head planned.lines.file planned.parked) head planned.are_parked)
+      where
+        head : head_at parts.partials session.host ≡ option_map head_of m.host.partial
+        head = (λ j. head_at (at.parked j) (m.is.host j)) ∙ head_there office.hosts number m.host m.here
+
+    -- what was read is what is stored
+    parked_is : planned.parked ≡ found.0.partial
+    parked_is =
+        parked_stored (IsListed (index_of (slots parts))) (contents_of at.all) number m.host.partial found.0.partial (told parts.journal) at.all
+        planned.parked at.told_is found.2.partial are_parked
+
+    left : AreLeft had.0 planned.parked found.0.backups
+    left =
+        left_of had.0 planned.parked found.0 had_counted parked_is
+        (parked_few (told parts.journal) (option_map head_of m.host.partial) number at.all planned.parked at.told_is are_parked)
+
+    -- without a partial it has no file
+    no_file : planned.parked ≡ None → at.all (F.Partial number) ≡ None
+    no_file none =
+        none_parked (IsListed (index_of (slots parts))) (contents_of at.all) number m.host.partial found.0.partial (at.all (F.Partial number))
+        found.2.partial (sym parked_is ∙ none)
 
     -- ---- what was built
 
     holds : HoldsCatalog at.all parts.catalog
     holds = subst (HoldsCatalog at.all) (sym at.catalog_is)
-        (stands_catalog n.digest_of (index_of (slots parts)) at.backups at.all office.durable at.stands)
+        (stands_catalog n.digest_of (index_of (slots parts)) at.shown at.all office.durable at.stands)
 
     -- what the file of the host's index gets
     abbrev bytes : Option (List ℕ)
@@ -140,7 +173,7 @@ module _ {D N S : Type 0} {d : DiskGhosts D} {n : NamerGhosts N S} where
         (index_after at.all parts.catalog session.host (with_line planned.lines.line (not (is_some planned.lines.dropped))) planned.judged.index
         planned.built.listed bytes holds planned.judged.here planned.built.lists (index_listed parts session now plan planned).1)
 
-    built : IsBuiltOf (told parts.journal) number m.host m.dump now rows planned.folding had.0 planned.counts bytes planned.built.files
+    built : IsBuiltOf (told parts.journal) number m.host m.dump now rows planned.parked planned.folding had.0 planned.counts bytes planned.built.files
     built = record {
       index = index_built;
       table = planned.built.table;
@@ -149,6 +182,7 @@ module _ {D N S : Type 0} {d : DiskGhosts D} {n : NamerGhosts N S} where
       is_former = subst (λ (k : ℕ). IsFormer k planned.built.files.former) next_is (former_is parts session now plan planned);
       folded = subst (λ (h : ℕ). IsFolded (told parts.journal) h (dropped_of m.host.rules (lines_of m.host.backups)) rows planned.folding) file_is
           (subst (λ (d : Option Line). IsFolded (told parts.journal) planned.lines.file d rows planned.folding) dropped_is planned.folded);
+      parked_is = planned.built.parked_is;
       are_counted = planned.are_counted had.0 (ap (slice_get parts.counts) m.is.host ∙ had.1);
     }
 
@@ -202,12 +236,12 @@ module _ {D N S : Type 0} {d : DiskGhosts D} {n : NamerGhosts N S} where
     none_else : (k : ℕ) → is_some (backup_index m.host.backups k) ≡ false → at.all (F.Table number k) ≡ None
     none_else k e = at.stands.nothing_else (F.Table number k) (ap (λ (h : Option Host). has_backup h k) m.here ∙ e)
 
-    host_then : HostAfter (IsListed next) (contents_of image) image number m.host new planned.counts found.0
-    host_then = subst (λ (i : Files). HostAfter (IsListed next) (contents_of image) i number m.host new planned.counts found.0) image_is
+    host_then : HostAfter (IsListed next) (contents_of image) image number m.host new planned.counts found.0.backups
+    host_then = subst (λ (i : Files). HostAfter (IsListed next) (contents_of image) i number m.host new planned.counts found.0.backups) image_is
         (host_after (IsListed (index_of (slots parts))) (IsListed next) (contents_of at.all) (contents_of image) listed_still (told parts.journal)
-        at.all at.told_is number m.host m.dump now rows planned.folding had.0 planned.counts pooled bytes planned.built.files pooled_are built
-        (at.sound.hosts.each number m.host m.here).backups.numbered sound_new.numbers few sound_new.backups.numbered fresh none_else
-        found.0 found.2 had_counted)
+        at.all at.told_is number m.host m.dump now rows planned.parked planned.folding had.0 planned.counts pooled bytes planned.built.files pooled_are built
+        (at.sound.hosts.each number m.host m.here).backups.numbered sound_new.numbers few sound_new.backups.numbered fresh none_else no_file
+        found.0.backups found.0.partial found.2 left)
 
     stays : (file : FileId) → is_metadata file ≡ true → is_of_host number file ≡ false → is_of_index file ≡ false → image file ≡ at.all file
     stays file metadata out none =
@@ -237,19 +271,23 @@ module _ {D N S : Type 0} {d : DiskGhosts D} {n : NamerGhosts N S} where
     abbrev with_pool : Pool → Durable
     with_pool pool = record office.durable { hosts = slice_set office.hosts number new; pool = pool }
 
-    stands : Stands n.digest_of next (slice_set at.backups number host_then.after) image (with_pool (with_tree office.pool m.dump.tree))
-    stands = subst (λ tree. Stands n.digest_of next (slice_set at.backups number host_then.after) image (with_pool (with_tree office.pool tree)))
+    -- what is stored of the host then
+    abbrev after : StoredHost
+    after = backups_alone host_then.after
+
+    stands : Stands n.digest_of next (slice_set at.shown number after) image (with_pool (with_tree office.pool m.dump.tree))
+    stands = subst (λ tree. Stands n.digest_of next (slice_set at.shown number after) image (with_pool (with_tree office.pool tree)))
         (sym m.is.tree)
-        (office_committed n.digest_of (slots parts) (uncertain parts.journal) at.all at.fits rows m.is.tree_rows.told at.backups image
-        office.durable number m.host new host_then.after contents_are m.here refl stays host_then.beyond host_then.stands tells
+        (office_committed n.digest_of (slots parts) (uncertain parts.journal) at.all at.fits rows m.is.tree_rows.told at.shown image
+        office.durable number m.host new after contents_are m.here refl stays host_then.beyond host_then.stands tells
         (subst (λ tree. IsSoundDurable (with_pool (with_tree office.pool tree))) m.is.tree sound.kept) at.stands)
 
     pub stored_after : IsStoredAfter parts at.all (ids_in rows) plan.changes (slice_set parts.counts number planned.counts)
         (office_after office place m.dump m.host now)
     stored_after = record {
-      backups = slice_set at.backups number host_then.after;
+      shown = slice_set at.shown number after;
       stands = stands;
       tells = tells;
-      counted = pairs_set AreCounts parts.counts at.backups at.counted number planned.counts host_then.after host_then.counted;
-      view = kept_after office.hosts at.backups number m.host new found.0 host_then.after m.here found.1 host_then.still parts.views.kept at.view;
+      counted = pairs_set AreCounts parts.counts at.shown at.counted number planned.counts after host_then.counted;
+      view = kept_after office.hosts at.shown number m.host new found.0 after m.here found.1 host_then.still parts.views.kept at.view;
     }

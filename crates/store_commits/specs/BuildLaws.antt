@@ -57,19 +57,19 @@ leads_taken slots in_one index new taken is leads =
     relisted = λ i. relisted_by (sym is.added i).items (sym is.marked i).items (sym is.unmarked i).items (sym is.removed i).items slots
 
 module _ {D N S : Type 0} {d : DiskGhosts D} {n : NamerGhosts N S} where
-  pub built_of : (parts : StoreParts D N S d n) (host : ℕ) (lines : Lines) (folding : Option Folding) (counts : Items) (rows asked : Rows)
-      (filled : Bool) (catalog : CatalogChange) (index new : IndexChange) (taken listed changes : List Change) (files : HostFiles)
+  pub built_of : (parts : StoreParts D N S d n) (host : ℕ) (lines : Lines) (parked : Option Rows) (folding : Option Folding)
+      (counts : Items) (rows : Rows) (filled : Bool) (catalog : CatalogChange) (index new : IndexChange) (taken listed changes : List Change) (files : HostFiles)
       → is_some lines.dropped ≡ not filled
       → Proposes parts.catalog (with_change parts.catalog host (with_line lines.line filled)) (HostFile host ∷ []) catalog
-      → IsFor parts.catalog catalog → asked ≡ rows → IsOf index (given_in (slots parts) asked) [] [] []
+      → IsFor parts.catalog catalog → IsOf index (given_in (slots parts) rows) [] [] []
       → LeadsIndex parts.pool.in_one_file (index_of (slots parts)) (index_of (relisted_after index (slots parts))) index.changes
       → IsTaken index new taken → listed ≡ catalog.changes → IsTable Second rows × (files.table ≡ table_file Second rows)
-      → IsFormerFile folding files.former → IsCounts counts × (files.counts ≡ counts_file lines.file counts)
+      → IsFormerFile folding files.former → files.parked ≡ is_some parked → IsCounts counts × (files.counts ≡ counts_file lines.file counts)
       → changes ≡ written taken listed lines.file lines.line.number files
-      → IsBuilt parts host lines folding counts rows
+      → IsBuilt parts host lines parked folding counts rows
       (record { number = lines.line.number; host = host; catalog = catalog; index = new; rows = rows; counts = counts; changes = changes })
-  built_of parts host lines folding counts rows asked filled catalog index new taken listed changes files is_filled proposes fits same of leads
-      is_taken listed_is table former counted changes_are = record {
+  built_of parts host lines parked folding counts rows filled catalog index new taken listed changes files is_filled proposes fits of leads
+      is_taken listed_is table former parked_is counted changes_are = record {
         number = refl;
         host_is = refl;
         rows_are = refl;
@@ -79,17 +79,18 @@ module _ {D N S : Type 0} {d : DiskGhosts D} {n : NamerGhosts N S} where
         lists = subst (λ (c : List Change). Leads parts.catalog new_known (HostFile host ∷ []) c) (sym listed_is) proposed.leads;
         fits = fits;
         pooled = taken;
-        of_ids = subst (λ (r : Rows). IsOf new (given_in (slots parts) r) [] [] []) same (record {
+        of_ids = record {
           added_are = ap (λ (v : Vec PoolId). v.items) is_taken.added ∙ of.added_are;
           marked_are = ap (λ (v : Vec PoolId). v.items) is_taken.marked ∙ of.marked_are;
           unmarked_are = ap (λ (v : Vec PoolId). v.items) is_taken.unmarked ∙ of.unmarked_are;
           removed_are = ap (λ (v : Vec PoolId). v.items) is_taken.removed ∙ of.removed_are;
-        });
+        };
         leads = leads_taken (slots parts) parts.pool.in_one_file index new taken is_taken leads;
         files = files;
         changes = changes_are;
         table = table;
         former = former;
+        parked_is = parked_is;
         counted = counted;
       }
     where

@@ -14,7 +14,7 @@ use Rattle.intent_journal.specs.Changes.{applied}
 use Rattle.pool_index.specs.Index.{TellsIn}
 use Rattle.pool_changes.specs.Listed.{index_of}
 use Rattle.ref_counts.specs.Numbers.{Items}
-use Rattle.ref_counts.specs.Stored.{Backup as StoredBackup}
+use Rattle.ref_counts.specs.Stored.{StoredHost}
 use Rattle.open_sessions.specs.declared.sessions.OpenDump.{OpenDump}
 use Rattle.open_sessions.specs.Opened.{IsDump}
 use Rattle.office_model.specs.declared.session.SessionName.{SessionName}
@@ -66,11 +66,11 @@ module _ {D N S : Type 0} {d : DiskGhosts D} {n : NamerGhosts N S} where
       }
 
   -- After the changes the files stand for the office, by the pool's index with these names in it, and what is kept is still a
-  -- view; these are the counts of its backups.
+  -- view; these are the counts of what is stored.
   pub record IsStoredAfter (parts : StoreParts D N S d n) (all : Files) (ids : List PoolId) (changes : List Change)
       (counts : List Items) (after : Office) : Type 0 where
-    pub backups : List (List StoredBackup)
-    pub stands : Stands n.digest_of (index_of (with_added ids (slots parts))) backups (applied changes all) after.durable
+    pub shown : List StoredHost
+    pub stands : Stands n.digest_of (index_of (with_added ids (slots parts))) shown (applied changes all) after.durable
     pub tells : TellsIn false (index_of (with_added ids (slots parts))) (applied changes all)
-    pub counted : AreCountsOf counts backups
-    pub view : IsKeptView parts.views.kept after.hosts backups
+    pub counted : AreCountsOf counts shown
+    pub view : IsKeptView parts.views.kept after.hosts shown

@@ -1,23 +1,10 @@
 -- The counts of a host after a commit.
---     counted_one      one table, counted from nothing
 --     one_at, within_there      what stands at a place, and that it is one
-use Rattle.std.specs.Prelude.{◌≡◌, ℕ, ◌+◌, ◌-◌, ◌^◌, ◌≤◌, ◌<◌, List, [], Result, Ok, Err, IfOk, Some, slice_get, length}
-use Rattle.std.proofs.Common.{ap, sym, ◌∙◌, subst, arith}
+use Rattle.std.specs.Prelude.{◌≡◌, ℕ, ◌+◌, ◌-◌, ◌^◌, ◌≤◌, ◌<◌, List, Some, slice_get, length}
+use Rattle.std.proofs.Common.{sym, ◌∙◌, subst, arith}
 use Rattle.std.proofs.lemmas.Bool.Decides.{nat_tests}
 use Rattle.std.proofs.lemmas.Option.{slice_get_within}
-use Rattle.disk_trait.specs.declared.ids.PoolId.{PoolId}
-use Rattle.merge_view.specs.Views.{Rows}
-use Rattle.stored_trees.specs.Occurrences.{occurrences}
-use Rattle.ref_counts.specs.Numbers.{Items, number, capped}
-
--- one table, counted from nothing
-pub counted_one : {E : Type 0} (start tally : Items) (rows : Rows) (result : Result Items E) → start ≡ []
-    → ((id : PoolId) (n : ℕ) → number start id ≡ capped n → number tally id ≡ capped (n + occurrences id rows))
-    → IfOk result (λ counts. counts ≡ tally) → IfOk result (λ counts. (id : PoolId) → number counts id ≡ capped (occurrences id rows))
-counted_one start tally rows (Ok counts) none more same = λ id.
-    let all : 0 + occurrences id rows ≡ occurrences id rows = omega arith in
-    ap (λ (c : Items). number c id) same ∙ more id 0 (ap (λ (c : Items). number c id) none) ∙ ap capped all
-counted_one start tally rows (Err fault) none more same = tt
+use Rattle.ref_counts.specs.Numbers.{Items, capped}
 
 -- numbers that stay below the greatest one
 pub next_number : (old less more new : ℕ) → new + less ≡ old + more → new < 2 ^ 64 → old < 2 ^ 64 → less ≤ old → more < 2 ^ 64

@@ -1,5 +1,7 @@
 -- The counts that a commit writes are those of the host's tables afterwards.
 --     IsFormerFolding stays last rows folding      what becomes of the former newest's rows
+--     AreLeft olds parked backups      without the rows of the partial, the counts are those of the backups' tables
+--     left_of      they are, if the partial's rows are the stored ones
 --     counts_first      the counts of a first backup
 --     counts_further      those of a further one
 --     counts_written      their file
@@ -11,16 +13,17 @@ use Rattle.merge_view.specs.Views.{Rows, reverse}
 use Rattle.stored_trees.specs.Occurrences.{occurrences}
 use Rattle.ref_counts.specs.Numbers.{Items, number, total, capped}
 use Rattle.ref_counts.specs.NumberLaws.{capped-few, total-append}
-use Rattle.ref_counts.specs.Stored.{Backup as StoredBackup, stored, with_new, older_tables}
-use Rattle.ref_counts.specs.StoredLaws.{stored-before, stored-with_new}
+use Rattle.ref_counts.specs.Stored.{Backup as StoredBackup, StoredHost, stored, of_partial, counted, with_new, older_tables}
+use Rattle.ref_counts.specs.StoredLaws.{total-counted, stored-before, stored-with_new}
 use Rattle.ref_counts.specs.Layout.{IsCounts}
 use Rattle.ref_counts.specs.CountsFile.{counts_file}
 use Rattle.office_files.specs.Layouts.{IsCountsFile}
 use Rattle.store_parts.specs.Held.{AreCounts}
 use Rattle.store_commits.specs.declared.former.Folding.{Folding}
 use Rattle.office_changes.specs.BoundLaws.{few_occurrences}
+use Rattle.office_changes.specs.CommitLaws.{backups_alone}
 use Rattle.store_commits.specs.HostLaws.{new_stored}
-use Rattle.store_commits.specs.Planned.{counted_of, IsCountedBy}
+use Rattle.store_commits.specs.Planned.{unparked, counted_of, IsCountedBy}
 
 -- what becomes of the former newest: it stays whole, or its rows are folded against the new ones
 abbrev pub IsFormerFolding : Bool → Rows → Rows → Option Folding → Type 0
@@ -127,26 +130,63 @@ further id olds last rows false None n former is were few = absurd former
 further id olds last rows false (Some folding) n former is were few =
     further_folded id olds last rows folding n former.0 former.1 is were few
 
+-- ---- without the partial
+
+abbrev pub AreLeft : Items → Option Rows → List StoredBackup → Type 0
+AreLeft olds parked backups = (id : PoolId) → unparked (number olds id) parked id ≡ total id (stored backups)
+
+-- the rows of a partial that has a file
+abbrev pub AreFewParked : Option Rows → Type 0
+AreFewParked None = Unit {0}
+AreFewParked (Some rows) = length rows < 4294967296
+
+less_number : (rest less : ℕ) → less < 2 ^ 64 → (rest + (less + 0)) - capped less ≡ rest
+less_number rest less few =
+    let whole = capped-few less few in
+    let left : (rest + (less + 0)) - less ≡ rest = omega arith in
+    ap (λ n. (rest + (less + 0)) - n) whole ∙ left
+
+left_number : (id : PoolId) (parked : Option Rows) → AreFewParked parked → (n rest : ℕ) → n ≡ rest + total id (of_partial parked)
+    → unparked n parked id ≡ rest
+left_number id None few n rest is = omega (arith, is)
+left_number id (Some rows) few n rest is =
+    let size = few_occurrences id rows in
+    ap (λ m. m - capped (occurrences id rows)) is ∙ less_number rest (occurrences id rows) (omega (arith, size, few))
+
+pub left_of : (olds : Items) (parked : Option Rows) (of : StoredHost) → AreCounts olds of → parked ≡ of.partial → AreFewParked parked
+    → AreLeft olds parked of.backups
+left_of olds parked of counted is few = λ id.
+    left_number id parked few (number olds id) (total id (stored of.backups))
+    (counted id ∙ total-counted id of ∙ ap (λ (p : Option Rows). total id (stored of.backups) + total id (of_partial p)) (sym is))
+
+-- of a host that has none they are those of its backups' tables
+alone : (id : PoolId) (backups : List StoredBackup) → total id (stored backups) ≡ total id (counted (backups_alone backups))
+alone id backups = sym (total-counted id (backups_alone backups) ∙ nothing_more (total id (stored backups)))
+  where
+    nothing_more : (n : ℕ) → n + 0 ≡ n
+    nothing_more n = omega arith
+
 -- ---- the counts of a host
 
 -- of the first backup of a host
-pub counts_first : (items olds : Items) (rows : Rows) → IsCountedBy olds None rows items → AreCounts olds [] → length rows ≤ 1048576
-    → AreCounts items (new_stored rows ∷ [])
-counts_first items olds rows counted before few = λ id.
+pub counts_first : (items olds : Items) (parked : Option Rows) (rows : Rows) → IsCountedBy olds parked None rows items → AreLeft olds parked []
+    → length rows ≤ 1048576 → AreCounts items (backups_alone (new_stored rows ∷ []))
+counts_first items olds parked rows are before few = λ id.
     let size = few_occurrences id rows in
-    counted id ∙ ap (λ n. capped (n + capped (occurrences id rows))) (before id)
-    ∙ first_number (occurrences id rows) (omega (arith, size, few))
+    are id ∙ ap (λ n. capped (n + capped (occurrences id rows))) (before id)
+    ∙ first_number (occurrences id rows) (omega (arith, size, few)) ∙ alone id (new_stored rows ∷ [])
 
 -- of a further one: by what becomes of the former newest
-pub counts_further : (items old_items : Items) (folding : Option Folding) (rows : Rows) (olds : List StoredBackup) (last : StoredBackup)
-    (stays : Bool) → IsCountedBy old_items folding rows items → IsFormerFolding stays last.rows rows folding
-    → AreCounts old_items (olds ++ last ∷ []) → ((id : PoolId) → total id (stored (olds ++ last ∷ [])) < 2 ^ 64)
+pub counts_further : (items old_items : Items) (parked : Option Rows) (folding : Option Folding) (rows : Rows) (olds : List StoredBackup)
+    (last : StoredBackup) (stays : Bool) → IsCountedBy old_items parked folding rows items → IsFormerFolding stays last.rows rows folding
+    → AreLeft old_items parked (olds ++ last ∷ []) → ((id : PoolId) → total id (stored (olds ++ last ∷ [])) < 2 ^ 64)
     → ((id : PoolId) → total id (stored (with_new olds last stays (new_stored rows))) < 2 ^ 64)
-    → AreCounts items (with_new olds last stays (new_stored rows))
-counts_further items old_items folding rows olds last stays counted former before were few = λ id.
-    counted id ∙ further id olds last rows stays folding (number old_items id) former (before id) (were id) (few id)
+    → AreCounts items (backups_alone (with_new olds last stays (new_stored rows)))
+counts_further items old_items parked folding rows olds last stays are former before were few = λ id.
+    are id ∙ further id olds last rows stays folding (unparked (number old_items id) parked id) former (before id) (were id) (few id)
+    ∙ alone id (with_new olds last stays (new_stored rows))
 
 -- and their file
-pub counts_written : (host : ℕ) (items : Items) (backups : List StoredBackup) → IsCounts items → AreCounts items backups
-    → IsCountsFile host (λ id. total id (stored backups)) (Some (counts_file host items))
-counts_written host items backups fits are = record { items = items; fits = fits; each = are; is = refl }
+pub counts_written : (host : ℕ) (items : Items) (of : StoredHost) → IsCounts items → AreCounts items of
+    → IsCountsFile host (λ id. total id (counted of)) (Some (counts_file host items))
+counts_written host items of fits are = record { items = items; fits = fits; each = are; is = refl }

@@ -11,6 +11,7 @@ use Rattle.intent_journal.specs.declared.journal.Journal.{Journal}
 use Rattle.journal_view.specs.View.{Quiet}
 use Rattle.merge_view.specs.Views.{Rows}
 use Rattle.ref_counts.specs.Numbers.{Items}
+use Rattle.host_partials.specs.Held.{head_at}
 use Rattle.open_sessions.specs.declared.sessions.OpenDump.{OpenDump}
 use Rattle.open_sessions.specs.SessionLaws.{dump_index-sessions}
 use Rattle.office_model.specs.declared.session.SessionName.{SessionName}
@@ -30,6 +31,7 @@ use Rattle.store_commits.specs.declared.former.Folding.{Folding}
 use Rattle.store_commits.specs.declared.judge.Lines.{Lines}
 use Rattle.store_commits.specs.declared.plan.Plan.{Plan}
 use Rattle.store_commits.specs.Former.{IsFolded}
+use Rattle.store_commits.specs.Parked.{AreParked}
 use Rattle.store_commits.specs.Planned.{IsBuilt, IsPlanned, IsPlanFault}
 use Rattle.store_commits.specs.ReadyLaws.{running_ready}
 use Rattle.store_commits.specs.Tables.{place_of}
@@ -49,10 +51,10 @@ module _ {D N S : Type 0} {d : DiskGhosts D} {n : NamerGhosts N S} where
       → Runs old (Commit name now) (Err (Broken NoSession)) old
   runs_no_session old name now e = runs_no_dump old (Commit name now) name e (λ office names none. rw none refl)
 
-  built_read : (old : StoreParts D N S d n) (journal : Journal D d) (host : ℕ) (lines : Lines) (folding : Option Folding) (counts : Items)
-      (rows : Rows) (plan : Plan) → IsBuilt old host lines folding counts rows plan
-      → IsBuilt (record old { journal = journal }) host lines folding counts rows plan
-  built_read old journal host lines folding counts rows plan b = record {
+  built_read : (old : StoreParts D N S d n) (journal : Journal D d) (host : ℕ) (lines : Lines) (parked : Option Rows) (folding : Option Folding)
+      (counts : Items) (rows : Rows) (plan : Plan) → IsBuilt old host lines parked folding counts rows plan
+      → IsBuilt (record old { journal = journal }) host lines parked folding counts rows plan
+  built_read old journal host lines parked folding counts rows plan b = record {
     number = b.number;
     host_is = b.host_is;
     rows_are = b.rows_are;
@@ -68,6 +70,7 @@ module _ {D N S : Type 0} {d : DiskGhosts D} {n : NamerGhosts N S} where
     changes = b.changes;
     table = b.table;
     former = b.former;
+    parked_is = b.parked_is;
     counted = b.counted;
   }
 
@@ -78,12 +81,15 @@ module _ {D N S : Type 0} {d : DiskGhosts D} {n : NamerGhosts N S} where
         lines = p.lines;
         judged = p.judged;
         folding = p.folding;
+        parked = p.parked;
         counts = p.counts;
         folded = subst (λ (t : Option Files). IsFolded t p.lines.file p.lines.dropped session.tree p.folding) (sym quiet.told_same)
             p.folded;
+        are_parked = subst (λ (t : Option Files). AreParked t (head_at old.partials session.host) p.lines.file p.parked) (sym quiet.told_same)
+            p.are_parked;
         are_counted = p.are_counted;
         within = p.within;
-        built = built_read old mid.journal session.host p.lines p.folding p.counts session.tree plan p.built;
+        built = built_read old mid.journal session.host p.lines p.parked p.folding p.counts session.tree plan p.built;
       })
 
   -- the plan was refused

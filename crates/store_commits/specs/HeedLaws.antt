@@ -1,8 +1,8 @@
--- What a commit answers for the table that it calls for.
+-- What a commit answers for the table and the partial that it calls for.
 --     heeds_no_session, heeds_not_planned, heeds_not_written, heeds_committed      at each of its answers
 use Rattle.std.specs.Prelude.{◌≡◌, ℕ, ◌<◌, List, Option, Some, None, Ok, Err, IsErrOf, length, slice_get}
 use Rattle.std.specs.Result.{IsErrAnd}
-use Rattle.std.proofs.Common.{sym, ◌∙◌, subst}
+use Rattle.std.proofs.Common.{sym, ◌∙◌, subst, inl, inr}
 use Rattle.disk_trait.specs.declared.ids.FileId.{FileId}
 use Rattle.disk_trait.specs.declared.disk.Disk.{Ghosts as DiskGhosts}
 use Rattle.pool_name.specs.declared.namer.Namer.{Ghosts as NamerGhosts}
@@ -19,7 +19,7 @@ use Rattle.office_model.specs.Meaning.{Reply}
 use Rattle.store_parts.specs.declared.parts.StoreParts.{StoreParts}
 use Rattle.store_parts.specs.Writes.{IsWriteFault, Writes}
 use Rattle.store_parts.specs.RefusalLaws.{broken_by}
-use Rattle.store_commits.specs.Tables.{AreThere, IsHeededBy, IsTableFor, place_of, IsTableForName, HeedsTables}
+use Rattle.store_commits.specs.Tables.{AreThere, IsLost, IsHeededBy, IsTableFor, IsParkedFor, place_of, IsTableForName, IsParkedForName, HeedsTables}
 use Rattle.store_commits.specs.PlanLaws.{one_there}
 use Rattle.store_commits.specs.EventLaws.{there_within}
 
@@ -42,7 +42,10 @@ module _ {D N S : Type 0} {d : DiskGhosts D} {n : NamerGhosts N S} where
       → HeedsTables old name reply old
   heeds_no_session old name reply rule is same none =
       subst (λ (r : Reply). HeedsTables old name r old) (sym (broken_by reply rule NoSession is same)) (record {
-        tables = λ all file is calls. absurd (apart calls.place (none ∙ sym calls.found));
+        tables = record {
+          tables = λ all file is calls. absurd (apart calls.place (none ∙ sym calls.found));
+          partial = λ all host is calls. absurd (apart calls.place (none ∙ sym calls.found));
+        };
         undone = λ file found e. absurd cc;
       })
     where
@@ -64,16 +67,32 @@ module _ {D N S : Type 0} {d : DiskGhosts D} {n : NamerGhosts N S} where
         (one_there old.sessions.dumps.items place calls.session session
         (subst (λ (p : ℕ). slice_get old.sessions.dumps.items p ≡ Some calls.session) same calls.there) there) calls.calls
 
-    named_there : AreThere (told old.journal) (IsTableFor old session) → AreThere (told old.journal) (IsTableForName old name)
-    named_there are all file is calls = are all file is (of_name file calls)
+    parked_name : (host : ℕ) → IsParkedForName old name host → IsParkedFor old session host
+    parked_name host calls =
+        let same : calls.place ≡ place = some_same calls.place place (calls.found ∙ sym found) in
+        subst (λ (s : OpenDump). IsParkedFor old s host)
+        (one_there old.sessions.dumps.items place calls.session session
+        (subst (λ (p : ℕ). slice_get old.sessions.dumps.items p ≡ Some calls.session) same calls.there) there) calls.calls
 
-    named_refused : (refusal : Refusal) → IsHeededBy (told old.journal) (IsTableFor old session) refusal
-        → IsHeededBy (told old.journal) (IsTableForName old name) refusal
+    named_there : AreThere (told old.journal) (IsTableFor old session) (IsParkedFor old session)
+        → AreThere (told old.journal) (IsTableForName old name) (IsParkedForName old name)
+    named_there are = record {
+      tables = λ all file is calls. are.tables all file is (of_name file calls);
+      partial = λ all host is calls. are.partial all host is (parked_name host calls);
+    }
+
+    named_lost : (file : FileId) (bytes : Option (List ℕ))
+        → IsLost (told old.journal) (IsTableFor old session) (IsParkedFor old session) file bytes
+        → IsLost (told old.journal) (IsTableForName old name) (IsParkedForName old name) file bytes
+    named_lost file bytes (inl lost) =
+        inl (record { place = place; session = session; found = found; there = there; calls = lost.0 }, lost.1)
+    named_lost file bytes (inr lost) =
+        inr (lost.0, record { place = place; session = session; found = found; there = there; calls = lost.1 }, lost.2)
+
+    named_refused : (refusal : Refusal) → IsHeededBy (told old.journal) (IsTableFor old session) (IsParkedFor old session) refusal
+        → IsHeededBy (told old.journal) (IsTableForName old name) (IsParkedForName old name) refusal
     named_refused (R.Broken rule) heeds = named_there heeds
-    named_refused (R.Damaged file bytes) heeds = (
-      record { place = place; session = session; found = found; there = there; calls = heeds.0 },
-      heeds.1,
-    )
+    named_refused (R.Damaged file bytes) heeds = named_lost file bytes heeds
     named_refused R.DiskFault heeds = tt
     named_refused R.Memory heeds = tt
     named_refused R.Halted heeds = absurd heeds
@@ -81,7 +100,7 @@ module _ {D N S : Type 0} {d : DiskGhosts D} {n : NamerGhosts N S} where
     pub heeds_not_planned : (mid : StoreParts D N S d n) (refusal : Refusal) → Quiet old.journal mid.journal
         → mid ≡ record old { journal = mid.journal }
         → ((session : OpenDump) → slice_get old.sessions.dumps.items place ≡ Some session
-        → IsHeededBy (told old.journal) (IsTableFor old session) refusal)
+        → IsHeededBy (told old.journal) (IsTableFor old session) (IsParkedFor old session) refusal)
         → HeedsTables old name (Err refusal) mid
     heeds_not_planned mid refusal quiet others heeds = record {
       tables = named_refused refusal (heeds session there);
@@ -89,8 +108,9 @@ module _ {D N S : Type 0} {d : DiskGhosts D} {n : NamerGhosts N S} where
     }
 
     module _ (are : (session : OpenDump) → slice_get old.sessions.dumps.items place ≡ Some session
-        → AreThere (told old.journal) (IsTableFor old session)) where
-      written_refused : (refusal : Refusal) → IsWriteFault refusal → IsHeededBy (told old.journal) (IsTableForName old name) refusal
+        → AreThere (told old.journal) (IsTableFor old session) (IsParkedFor old session)) where
+      written_refused : (refusal : Refusal) → IsWriteFault refusal
+          → IsHeededBy (told old.journal) (IsTableForName old name) (IsParkedForName old name) refusal
       written_refused R.DiskFault kind = tt
       written_refused R.Memory kind = tt
       written_refused (R.Broken rule) kind = absurd kind

@@ -3,7 +3,7 @@
 --     IsFinished      the parts behind accept_commit
 --     holds_committed      they hold the office after it
 --     runs_not_written, runs_committed      the event's answer after the write
-use Rattle.std.specs.Prelude.{◌≡◌, ◌≤◌, ◌<◌, ℕ, true, false, not, List, length, Some, Ok, Err, is_some, slice_get, slice_set}
+use Rattle.std.specs.Prelude.{◌≡◌, ◌≤◌, ◌<◌, ℕ, true, false, not, List, length, Some, None, Ok, Err, is_some, slice_get, slice_set}
 use Rattle.std.proofs.Common.{refl, sym, ap, ◌∙◌, subst, inr, arith}
 use Rattle.disk_trait.specs.declared.ids.PoolId.{PoolId}
 use Rattle.disk_trait.specs.declared.disk.Disk.{Ghosts as DiskGhosts}
@@ -38,10 +38,11 @@ use Rattle.office_files.specs.Hosts.{index_of_host}
 use Rattle.office_files.specs.Pooled.{contents_of}
 use Rattle.office_known.specs.KnownLaws.{known_of_office}
 use Rattle.store_parts.specs.declared.parts.StoreParts.{StoreParts}
-use Rattle.store_parts.specs.Held.{given, AreCountsOf, IsKeptView}
+use Rattle.store_parts.specs.Held.{given, AreCountsOf, heads_of, IsKeptView}
 use Rattle.store_parts.specs.States.{slots, IsRunning, staging_of}
 use Rattle.store_parts.specs.Runs.{Runs}
 use Rattle.store_parts.specs.Writes.{Writes}
+use Rattle.store_parts.specs.HeadLaws.{heads-set}
 use Rattle.store_parts.specs.RunLaws.{reads_behind, runs_behind}
 use Rattle.store_parts.specs.WriteLaws.{LeadsTo, Holds, runs_write_refused, runs_written}
 use Rattle.store_dumps.specs.Claims.{LetsGo}
@@ -69,6 +70,7 @@ module _ {D N S : Type 0} {d : DiskGhosts D} {n : NamerGhosts N S} where
     pub form : new.pool.in_one_file ≡ false
     pub catalog : new.catalog ≡ known_after plan.catalog mid.catalog
     pub counts : new.counts ≡ slice_set mid.counts plan.host plan.counts
+    pub partials : new.partials ≡ slice_set mid.partials plan.host None
     pub ends : (dump : OpenDump) → slice_get mid.sessions.dumps.items place ≡ Some dump → EndsDump mid.sessions place dump new.sessions
     pub journal : new.journal ≡ mid.journal
     pub views : new.views ≡ mid.views
@@ -116,7 +118,7 @@ module _ {D N S : Type 0} {d : DiskGhosts D} {n : NamerGhosts N S} where
     leads_to office names at s = record {
       carried = record { answer = Committed s.m.host.next; after = office_after office place s.m.dump s.m.host now };
       judged = s.judged;
-      stands = record { index = _; backups = s.stored.backups; stands = s.stored.stands };
+      stands = record { index = _; shown = s.stored.shown; stands = s.stored.stands };
     }
 
     pub leads_committed : (office : Office) (names : Names) (at : IsRunning old office names)
@@ -207,19 +209,26 @@ module _ {D N S : Type 0} {d : DiskGhosts D} {n : NamerGhosts N S} where
           let host : plan.host ≡ m.dump.host = planned.built.host_is ∙ m.is.host in
           f.counts ∙ (λ i. slice_set (w.counts_same i) (host i) (planned.built.counts_are i))
 
+      parked_after : (office : Office) (names : Names) (at : IsRunning old office names) (m : IsMeant old place session office names at)
+          → new.partials ≡ heads_of (office_after office place m.dump m.host now).hosts
+      parked_after office names at m =
+          let host : plan.host ≡ m.dump.host = planned.built.host_is ∙ m.is.host in
+          f.partials ∙ (λ i. slice_set ((w.partials_same ∙ at.parked) i) (host i) None)
+          ∙ sym (heads-set office.hosts m.dump.host (CommitEvent.with_commit m.host m.dump now))
+
       running_after : (office : Office) (names : Names) (at : IsRunning old office names) (s : IsStep office names at)
           → IsRunning new (office_after office place s.m.dump s.m.host now) names
       running_after office names at s =
           running_committed old mid new office (office_after office place s.m.dump s.m.host now) names at plan.changes done w
-          (planned_changes old session now plan planned) (ids_in session.tree) (claims_of_dump session) s.stored.backups
+          (planned_changes old session now plan planned) (ids_in session.tree) (claims_of_dump session) s.stored.shown
           (record { go = go office names at }) f.form
           (claims_in-dump_ended old.sessions new.sessions place session ends_is there)
           s.stored.stands s.stored.tells
           (sessions_after office names at s.m)
-          (subst (λ (v : Views). IsKeptView v.kept (office_after office place s.m.dump s.m.host now).hosts s.stored.backups)
+          (subst (λ (v : Views). IsKeptView v.kept (office_after office place s.m.dump s.m.host now).hosts s.stored.shown)
           (sym (f.views ∙ w.views_same)) s.stored.view)
-          (subst (λ (c : List Items). AreCountsOf c s.stored.backups) (sym (counts_after office names at s.m)) s.stored.counted)
-          s.sound f.journal
+          (subst (λ (c : List Items). AreCountsOf c s.stored.shown) (sym (counts_after office names at s.m)) s.stored.counted)
+          (parked_after office names at s.m) s.sound f.journal
           (f.catalog ∙ ap (known_after plan.catalog) w.catalog_same ∙ catalog_after office names at s.m)
           f.halted
 

@@ -19,7 +19,7 @@ use Rattle.merge_view.specs.Views.{Rows}
 use Rattle.ref_counts.specs.Numbers.{Items, total}
 use Rattle.ref_counts.specs.Layout.{IsCounts}
 use Rattle.ref_counts.specs.CountsFile.{counts_file}
-use Rattle.ref_counts.specs.Stored.{Backup as StoredBackup, stored, with_new, older_tables}
+use Rattle.ref_counts.specs.Stored.{Backup as StoredBackup, StoredHost, counted, with_new, older_tables}
 use Rattle.ref_counts.specs.StoredLaws.{stored-before}
 use Rattle.office_model.specs.Office.{Host, Backup, Dump, AreNumbered, backup_index, number_limit}
 use Rattle.office_model.specs.Parts.{lines_of, filled_as, with_newest}
@@ -28,18 +28,18 @@ use Rattle.office_files.specs.Layouts.{IsHostFile, IsTableFile, IsCountsFile}
 use Rattle.office_files.specs.Hosts.{index_of_host, IsShown, StandsHost}
 use Rattle.office_files.specs.Pairs.{AtEachPair, pairs_each, pairs_push, pairs_front, pairs_last, last_there, longer}
 use Rattle.office_changes.specs.ChangeLaws.{shown_given}
-use Rattle.office_changes.specs.CommitLaws.{with_newest-push, host_first_committed}
+use Rattle.office_changes.specs.CommitLaws.{with_newest-push, backups_alone, host_first_committed}
 use Rattle.store_parts.specs.Held.{AreCounts}
 use Rattle.store_commits.specs.declared.files.HostFiles.{HostFiles}
 use Rattle.store_commits.specs.declared.former.Folding.{Folding}
 use Rattle.store_commits.specs.Former.{dropped_of, IsFolded}
 use Rattle.store_commits.specs.Planned.{IsCountedBy, IsFormerFile}
 use Rattle.store_commits.specs.Written.{host_part}
-use Rattle.store_commits.specs.WrittenLaws.{IsFormer, AreOfIndex, at_host, at_counts}
+use Rattle.store_commits.specs.WrittenLaws.{IsFormer, AreOfIndex, at_host, at_counts, at_no_partial}
 use Rattle.store_commits.specs.HostLaws.{HasLast, ends, new_stored, IsWritten, host_further, none_beyond}
 use Rattle.store_commits.specs.LineLaws.{dropped_newest}
 use Rattle.office_changes.specs.BoundLaws.{few_counted}
-use Rattle.store_commits.specs.CountsLaws.{IsFormerFolding, counts_first, counts_further, counts_written}
+use Rattle.store_commits.specs.CountsLaws.{IsFormerFolding, AreLeft, counts_first, counts_further, counts_written}
 use Rattle.store_commits.specs.HostFileLaws.{table_after, folding_of, former_after, others_after, others_first}
 
 -- ---- lists whose last element changes, with one behind it
@@ -60,15 +60,16 @@ still_at part (z ∷ xs) x x' y same (suc i) b e = still_at part xs x x' y same 
 -- ---- what was built
 
 -- the files of a host for a dump with these rows
-pub record IsBuiltOf (told : Option Files) (number : ℕ) (host : Host) (dump : Dump) (now : ℕ) (rows : Rows) (folding : Option Folding)
-    (old_items items : Items) (bytes : Option (List ℕ)) (files : HostFiles) : Type 0 where
+pub record IsBuiltOf (told : Option Files) (number : ℕ) (host : Host) (dump : Dump) (now : ℕ) (rows : Rows)
+    (parked : Option Rows) (folding : Option Folding) (old_items items : Items) (bytes : Option (List ℕ)) (files : HostFiles) : Type 0 where
   pub index : IsHostFile (index_of_host number (with_commit host dump now)) bytes
   pub table : IsTable Second rows × (files.table ≡ table_file Second rows)
   pub counts : IsCounts items × (files.counts ≡ counts_file number items)
   pub former : IsFormerFile folding files.former
   pub is_former : IsFormer host.next files.former
   pub folded : IsFolded told number (dropped_of host.rules (lines_of host.backups)) rows folding
-  pub are_counted : IsCountedBy old_items folding rows items
+  pub parked_is : files.parked ≡ is_some parked
+  pub are_counted : IsCountedBy old_items parked folding rows items
 
 -- a backup that is there is there still, and shows the same
 abbrev pub AreStill : List Backup → List StoredBackup → List Backup → List StoredBackup → Type 0
@@ -78,21 +79,22 @@ AreStill backups shown backups' shown' = (i : ℕ) (b : Backup) (s : StoredBacku
 pub record HostAfter (given : PoolId → Type 0) (contents : PoolId → List ℕ) (image : Files) (number : ℕ) (host new : Host)
     (items : Items) (shown : List StoredBackup) : Type 0 where
   pub after : List StoredBackup
-  pub stands : StandsHost given contents image number new after
-  pub counted : AreCounts items after
+  pub stands : StandsHost given contents image number new (backups_alone after)
+  pub counted : AreCounts items (backups_alone after)
   pub beyond : (n : ℕ) → is_some (backup_index new.backups n) ≡ false → image (F.Table number n) ≡ None
   pub still : AreStill host.backups shown new.backups after
 
 module _ (given given' : PoolId → Type 0) (contents contents' : PoolId → List ℕ)
     (same : (id : PoolId) → given id → given' id × (contents id ≡ contents' id)) (told : Option Files) (all : Files) (is_told : told ≡ Some all)
-    (number : ℕ) (host : Host) (dump : Dump) (now : ℕ) (rows : Rows) (folding : Option Folding)
+    (number : ℕ) (host : Host) (dump : Dump) (now : ℕ) (rows : Rows) (parked : Option Rows) (folding : Option Folding)
     (old_items items : Items) (pooled : List Change) (bytes : Option (List ℕ))
-    (files : HostFiles) (of_index : AreOfIndex pooled) (built : IsBuiltOf told number host dump now rows folding old_items items bytes files)
+    (files : HostFiles) (of_index : AreOfIndex pooled) (built : IsBuiltOf told number host dump now rows parked folding old_items items bytes files)
     (before : AreNumbered host.next host.backups)
     (limit : (with_commit host dump now).next ≤ number_limit) (few : length rows ≤ 1048576)
     (numbered : AreNumbered (with_commit host dump now).next (with_commit host dump now).backups)
     (fresh : IsShown given' contents' (new_backup host dump now) (new_stored rows))
-    (none : (n : ℕ) → is_some (backup_index host.backups n) ≡ false → all (F.Table number n) ≡ None) where
+    (none : (n : ℕ) → is_some (backup_index host.backups n) ≡ false → all (F.Table number n) ≡ None)
+    (known : parked ≡ None → all (F.Partial number) ≡ None) where
   abbrev image : Files
   image = applied (pooled ++ host_part number host.next bytes files) all
 
@@ -109,9 +111,21 @@ module _ (given given' : PoolId → Type 0) (contents contents' : PoolId → Lis
   counts_at count = subst (IsCountsFile number count)
       (sym (at_counts pooled number host.next bytes files all of_index built.is_former ∙ ap (λ (b : List ℕ). Some b) built.counts.1))
 
+  absent : image (F.Partial number) ≡ None
+  absent =
+      at_no_partial pooled number host.next bytes files all of_index built.is_former (λ e. known (none_known parked (sym built.parked_is ∙ e)))
+    where
+      none_known : (rows : Option Rows) → is_some rows ≡ false → rows ≡ None
+      none_known None e = refl
+      none_known (Some rows) e = absurd cc
+
+  -- what is stored of the host
+  abbrev with_partial : List StoredBackup → Option Rows → StoredHost
+  with_partial backups partial = record { backups = backups; partial = partial }
+
   -- the first backup
-  module _ (shown : List StoredBackup) (stands : StandsHost given contents all number host shown) (counted : AreCounts old_items shown)
-      (was : host.backups ≡ []) where
+  module _ (shown : List StoredBackup) (partial : Option Rows) (stands : StandsHost given contents all number host (with_partial shown partial))
+      (left : AreLeft old_items parked shown) (was : host.backups ≡ []) where
     none_folded : folding ≡ None
     none_folded = subst (λ (b : List Backup). IsFolded told number (dropped_of host.rules (lines_of b)) rows folding) was built.folded
 
@@ -133,17 +147,19 @@ module _ (given given' : PoolId → Type 0) (contents contents' : PoolId → Lis
         found : (b : Bool) → b ≡ true → is_some {T = ℕ} (if b then Some 0 else None) ≡ true
         found b is = ap (λ (b : Bool). is_some {T = ℕ} (if b then Some 0 else None)) is
 
-    counted_first : AreCounts items (new_stored rows ∷ [])
+    counted_first : AreCounts items (backups_alone (new_stored rows ∷ []))
     counted_first =
-        counts_first items old_items rows (subst (λ (f : Option Folding). IsCountedBy old_items f rows items) none_folded built.are_counted)
-        (subst (AreCounts old_items) none_shown counted) few
+        counts_first items old_items parked rows
+        (subst (λ (f : Option Folding). IsCountedBy old_items parked f rows items) none_folded built.are_counted)
+        (subst (AreLeft old_items parked) none_shown left) few
 
     host_first : HostAfter given' contents' image number host new items shown
     host_first = record {
       after = new_stored rows ∷ [];
       stands = host_first_committed given' contents' image number new (new_backup host dump now) (new_stored rows) one_backup fresh index table
-          (counts_at (λ id. total id (stored (new_stored rows ∷ [])))
-          (counts_written number items (new_stored rows ∷ []) built.counts.0 counted_first));
+          refl absent
+          (counts_at (λ id. total id (counted (backups_alone (new_stored rows ∷ []))))
+          (counts_written number items (backups_alone (new_stored rows ∷ [])) built.counts.0 counted_first));
       counted = counted_first;
       beyond = λ n e.
           others_first pooled number host.next bytes files all of_index built.is_former folding n none_folded built.former (not_found n e)
@@ -156,7 +172,8 @@ module _ (given given' : PoolId → Type 0) (contents contents' : PoolId → Lis
 
   -- a further one
   module _ (older : List Backup) (newest : Backup) (were : host.backups ≡ older ++ newest ∷ []) (olds : List StoredBackup) (last : StoredBackup)
-      (stands : StandsHost given contents all number host (olds ++ last ∷ [])) (counted : AreCounts old_items (olds ++ last ∷ [])) where
+      (partial : Option Rows) (stands : StandsHost given contents all number host (with_partial (olds ++ last ∷ []) partial))
+      (left : AreLeft old_items parked (olds ++ last ∷ [])) where
     abbrev stays : Bool
     stays = stays_filled host.rules newest.line
 
@@ -200,9 +217,9 @@ module _ (given given' : PoolId → Type 0) (contents contents' : PoolId → Lis
         (subst (λ (l : List StoredBackup). AtEachPair (λ i. IsShown given' contents')
         ((older ++ filled_as stays newest ∷ []) ++ new_backup host dump now ∷ []) l) (append_assoc olds (kept ∷ []) (new_stored rows ∷ [])) two)
 
-    counted_further : AreCounts items (with_new olds last stays (new_stored rows))
+    counted_further : AreCounts items (backups_alone (with_new olds last stays (new_stored rows)))
     counted_further =
-        counts_further items old_items folding rows olds last stays built.are_counted fold counted
+        counts_further items old_items parked folding rows olds last stays built.are_counted fold left
         (few_counted given contents host.next host.backups (olds ++ last ∷ []) before (omega (arith, limit)) stands.shown)
         (few_counted given' contents' new.next new.backups (with_new olds last stays (new_stored rows)) numbered limit shown_after)
 
@@ -214,15 +231,16 @@ module _ (given given' : PoolId → Type 0) (contents contents' : PoolId → Lis
           built.former folded fold (λ e. omega (arith, e, below));
       others = λ n a b.
           others_after pooled number host.next bytes files all of_index built.is_former told newest.line stays rows folding n built.former folded a b;
-      counts = counts_at (λ id. total id (stored (with_new olds last stays (new_stored rows))))
-          (counts_written number items (with_new olds last stays (new_stored rows)) built.counts.0 counted_further);
+      no_partial = absent;
+      counts = counts_at (λ id. total id (counted (backups_alone (with_new olds last stays (new_stored rows)))))
+          (counts_written number items (backups_alone (with_new olds last stays (new_stored rows))) built.counts.0 counted_further);
     }
 
     host_last : HostAfter given' contents' image number host new items (olds ++ last ∷ [])
     host_last = record {
       after = with_new olds last stays (new_stored rows);
       stands = host_further given given' contents contents' same all image number host dump now newest older olds last rows were numbered is_written
-          fresh stands;
+          fresh partial stands;
       counted = counted_further;
       beyond = none_beyond given given' contents contents' same all image number host dump now newest older olds last rows were numbered is_written
           none;
@@ -235,23 +253,24 @@ module _ (given given' : PoolId → Type 0) (contents contents' : PoolId → Lis
       );
     }
 
-  host_with : (shown : List StoredBackup) → StandsHost given contents all number host shown → AreCounts old_items shown
-      → HasLast host.backups → (shown ≡ []) ⊎ HasLast shown → HostAfter given' contents' image number host new items shown
-  host_with shown stands counted was (inl none) =
+  host_with : (shown : List StoredBackup) (partial : Option Rows) → StandsHost given contents all number host (with_partial shown partial)
+      → AreLeft old_items parked shown → HasLast host.backups → (shown ≡ []) ⊎ HasLast shown
+      → HostAfter given' contents' image number host new items shown
+  host_with shown partial stands left was (inl none) =
       absurd (more_there was.front was.last (sym (ap length was.is) ∙ sym stands.shown.counted ∙ ap length none))
     where
       more_there : (xs : List Backup) (x : Backup) → length (xs ++ x ∷ []) ≡ 0 → ⊥
       more_there xs x e = let all = longer xs x in omega (arith, e, all)
-  host_with shown stands counted was (inr more) =
+  host_with shown partial stands left was (inr more) =
       subst (λ (s : List StoredBackup). HostAfter given' contents' image number host new items s) (sym more.is)
-      (host_last was.front was.last was.is more.front more.last
-      (subst (λ (s : List StoredBackup). StandsHost given contents all number host s) more.is stands)
-      (subst (AreCounts old_items) more.is counted))
+      (host_last was.front was.last was.is more.front more.last partial
+      (subst (λ (s : List StoredBackup). StandsHost given contents all number host (with_partial s partial)) more.is stands)
+      (subst (AreLeft old_items parked) more.is left))
 
-  pub host_after : (shown : List StoredBackup) → StandsHost given contents all number host shown → AreCounts old_items shown
-      → HostAfter given' contents' image number host new items shown
-  host_after shown stands counted = step (ends host.backups)
+  pub host_after : (shown : List StoredBackup) (partial : Option Rows) → StandsHost given contents all number host (with_partial shown partial)
+      → AreLeft old_items parked shown → HostAfter given' contents' image number host new items shown
+  host_after shown partial stands left = step (ends host.backups)
     where
       step : (host.backups ≡ []) ⊎ HasLast host.backups → HostAfter given' contents' image number host new items shown
-      step (inl was) = host_first shown stands counted was
-      step (inr was) = host_with shown stands counted was (ends shown)
+      step (inl was) = host_first shown partial stands left was
+      step (inr was) = host_with shown partial stands left was (ends shown)

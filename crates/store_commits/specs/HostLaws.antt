@@ -2,7 +2,7 @@
 --     ends      a list is empty, or has a last element
 --     IsWritten      what stands in the files of the host after a commit
 --     host_after      they are those of the host with the new backup
-use Rattle.std.specs.Prelude.{◌≡◌, ◌≢◌, ◌⊎◌, ℕ, true, false, List, [], ◌∷◌, ◌++◌, None, is_some, if◌then◌else◌}
+use Rattle.std.specs.Prelude.{◌≡◌, ◌≢◌, ◌⊎◌, ℕ, true, false, List, [], ◌∷◌, ◌++◌, Option, None, is_some, if◌then◌else◌}
 use Rattle.std.proofs.Common.{refl, ap, ◌∙◌, inl, inr}
 use Rattle.disk_trait.specs.declared.ids.PoolId.{PoolId}
 use Rattle.disk_trait.specs.declared.ids.FileId.TheVariants as F
@@ -10,13 +10,13 @@ use Rattle.disk_trait.specs.Files.{Files}
 use Rattle.backup_rules.specs.Fill.{stays_filled}
 use Rattle.merge_view.specs.Views.{Rows, reverse}
 use Rattle.ref_counts.specs.Numbers.{total}
-use Rattle.ref_counts.specs.Stored.{Backup as StoredBackup, stored, with_new}
+use Rattle.ref_counts.specs.Stored.{Backup as StoredBackup, counted, with_new}
 use Rattle.office_model.specs.Office.{Host, Backup, Dump, AreNumbered, backup_index}
 use Rattle.office_model.specs.Parts.{with_newest}
 use Rattle.office_model.specs.events.Commit.{new_backup, with_commit}
 use Rattle.office_files.specs.Layouts.{IsHostFile, IsTableFile, IsCountsFile}
 use Rattle.office_files.specs.Hosts.{index_of_host, IsShown, StandsHost}
-use Rattle.office_changes.specs.CommitLaws.{with_newest-push, IsCommit, host_committed, beyond_commit}
+use Rattle.office_changes.specs.CommitLaws.{with_newest-push, backups_alone, IsCommit, host_committed, beyond_commit}
 
 -- a list is empty, or has a last element
 pub record HasLast {A : Type 0} (xs : List A) : Type 0 where
@@ -44,7 +44,9 @@ pub record IsWritten (files image : Files) (number : ℕ) (host : Host) (dump : 
   pub former : IsTableFile (if stays_filled host.rules newest.line then last.rows else reverse last.rows rows)
       (image (F.Table number newest.line.number))
   pub others : (n : ℕ) → n ≢ newest.line.number → n ≢ host.next → image (F.Table number n) ≡ files (F.Table number n)
-  pub counts : IsCountsFile number (λ id. total id (stored (with_new olds last (stays_filled host.rules newest.line) (new_stored rows))))
+  pub no_partial : image (F.Partial number) ≡ None
+  pub counts : IsCountsFile number
+      (λ id. total id (counted (backups_alone (with_new olds last (stays_filled host.rules newest.line) (new_stored rows)))))
       (image (F.Counts number))
 
 module _ (given given' : PoolId → Type 0) (contents contents' : PoolId → List ℕ)
@@ -62,16 +64,18 @@ module _ (given given' : PoolId → Type 0) (contents contents' : PoolId → Lis
     former = written.former;
     table = written.table;
     others = written.others;
+    unparked = refl;
+    no_partial = written.no_partial;
     counts = written.counts;
   }
 
-  pub host_further : IsShown given' contents' (new_backup host dump now) (new_stored rows)
-      → StandsHost given contents files number host (olds ++ last ∷ [])
+  pub host_further : IsShown given' contents' (new_backup host dump now) (new_stored rows) → (partial : Option Rows)
+      → StandsHost given contents files number host (record { backups = olds ++ last ∷ []; partial = partial })
       → StandsHost given' contents' image number (with_commit host dump now)
-      (with_new olds last (stays_filled host.rules newest.line) (new_stored rows))
-  host_further fresh stands =
+      (backups_alone (with_new olds last (stays_filled host.rules newest.line) (new_stored rows)))
+  host_further fresh partial stands =
       host_committed given given' contents contents' same files image number host (with_commit host dump now) older newest
-      (new_backup host dump now) olds last (new_stored rows) (stays_filled host.rules newest.line) were commit_of fresh stands
+      (new_backup host dump now) olds last (new_stored rows) (stays_filled host.rules newest.line) were commit_of fresh partial stands
 
   pub none_beyond : ((n : ℕ) → is_some (backup_index host.backups n) ≡ false → files (F.Table number n) ≡ None)
       → (n : ℕ) → is_some (backup_index (with_commit host dump now).backups n) ≡ false → image (F.Table number n) ≡ None

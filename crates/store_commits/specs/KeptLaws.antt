@@ -6,24 +6,24 @@ use Rattle.std.proofs.lemmas.Bool.{false≢true, eq-eqb, eqb-true}
 use Rattle.std.proofs.lemmas.Option.{slice_get_within}
 use Rattle.intent_journal.specs.ChangesLaws.{either}
 use Rattle.backup_views.specs.declared.kept.KeptView.{KeptView}
-use Rattle.ref_counts.specs.Stored.{Backup as StoredBackup}
+use Rattle.ref_counts.specs.Stored.{Backup as StoredBackup, StoredHost}
 use Rattle.office_model.specs.Office.{Host, Backup}
 use Rattle.office_model.specs.Places.{slice_get-set_same, slice_get-set_other}
 use Rattle.store_parts.specs.Held.{IsViewOf, IsKeptView}
 use Rattle.store_commits.specs.HostAfterLaws.{AreStill}
 
-module _ (hosts : List Host) (backups : List (List StoredBackup)) (p : ℕ) (host new : Host) (shown after : List StoredBackup)
+module _ (hosts : List Host) (backups : List StoredHost) (p : ℕ) (host new : Host) (shown after : StoredHost)
     (here : slice_get hosts p ≡ Some host) (there : slice_get backups p ≡ Some shown)
-    (still : AreStill host.backups shown new.backups after) where
+    (still : AreStill host.backups shown.backups new.backups after.backups) where
   -- of this host
   view_after : (kept : KeptView) → kept.host ≡ p → (index : ℕ) (backup : Backup) (stored : StoredBackup) → backup.line.number ≡ kept.number
-      → slice_get host.backups index ≡ Some backup → slice_get shown index ≡ Some stored → kept.rows ≡ stored.rows
+      → slice_get host.backups index ≡ Some backup → slice_get shown.backups index ≡ Some stored → kept.rows ≡ stored.rows
       → IsViewOf kept (slice_set hosts p new) (slice_set backups p after)
   view_after kept is index backup stored number was is_stored rows =
       let next = still index backup stored was is_stored in
       record {
         host = new;
-        shown = after;
+        of = after;
         index = index;
         backup = next.0.now;
         stored = next.1.now;
@@ -41,20 +41,20 @@ module _ (hosts : List Host) (backups : List (List StoredBackup)) (p : ℕ) (hos
   view_of_it kept is view =
       view_after kept is view.index view.backup view.stored view.number
       (ap (λ (h : Host). slice_get h.backups view.index) (sym host_is) ∙ view.is_backup)
-      (ap (λ (s : List StoredBackup). slice_get s view.index) (sym shown_is) ∙ view.is_stored) view.rows
+      (ap (λ (s : StoredHost). slice_get s.backups view.index) (sym shown_is) ∙ view.is_stored) view.rows
     where
       host_is : view.host ≡ host
       host_is = let w : Some view.host ≡ Some host = sym view.is_host ∙ ap (slice_get hosts) is ∙ here in cc
 
-      shown_is : view.shown ≡ shown
-      shown_is = let w : Some view.shown ≡ Some shown = sym view.is_shown ∙ ap (slice_get backups) is ∙ there in cc
+      shown_is : view.of ≡ shown
+      shown_is = let w : Some view.of ≡ Some shown = sym view.is_shown ∙ ap (slice_get backups) is ∙ there in cc
 
   -- of another
   view_of_other : (kept : KeptView) → kept.host ≢ p → IsViewOf kept hosts backups
       → IsViewOf kept (slice_set hosts p new) (slice_set backups p after)
   view_of_other kept apart view = record {
     host = view.host;
-    shown = view.shown;
+    of = view.of;
     index = view.index;
     backup = view.backup;
     stored = view.stored;

@@ -7,6 +7,8 @@ pub mod AcceptLaws
 pub mod RunningLaws
 pub mod OfficeLaws
 pub mod Former
+pub mod Parked
+pub mod ParkedLaws
 pub mod Tables
 pub mod FormerLaws
 pub mod Planned

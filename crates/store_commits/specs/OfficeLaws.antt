@@ -16,7 +16,7 @@ use Rattle.pool_changes.specs.Listed.{index_of}
 use Rattle.pool_store.specs.Fits.{Fits}
 use Rattle.merge_view.specs.Views.{Rows}
 use Rattle.stored_trees.specs.Resolved.{resolved, AreTold, IsOneToOne}
-use Rattle.ref_counts.specs.Stored.{Backup as StoredBackup}
+use Rattle.ref_counts.specs.Stored.{StoredHost}
 use Rattle.office_model.specs.Pool.{with_tree}
 use Rattle.office_model.specs.Office.{Durable, Host, IsSoundDurable, backup_index}
 use Rattle.office_files.specs.Pooled.{contents_of, IsListed}
@@ -47,8 +47,8 @@ module _ (digest_of : List ℕ → List ℕ) (slots : Slots) (out : FileSet) (al
       (λ id named. given_size digest_of slots out all fits id
       (named_given (λ id. is_given (slots id) ≡ true) (contents_of all) id rows told named))
 
-  pub office_committed : (backups : List (List StoredBackup)) (image : Files) (office : Durable) (number : ℕ) (host new : Host)
-      (shown : List StoredBackup) → contents_of image ≡ contents_of all → slice_get office.hosts number ≡ Some host → new.name ≡ host.name
+  pub office_committed : (backups : List StoredHost) (image : Files) (office : Durable) (number : ℕ) (host new : Host)
+      (shown : StoredHost) → contents_of image ≡ contents_of all → slice_get office.hosts number ≡ Some host → new.name ≡ host.name
       → ((file : FileId) → is_metadata file ≡ true → is_of_host number file ≡ false → is_of_index file ≡ false → image file ≡ all file)
       → ((n : ℕ) → is_some (backup_index new.backups n) ≡ false → image (F.Table number n) ≡ None)
       → StandsHost (IsListed (index_of (with_added (ids_in rows) slots))) (contents_of image) image number new shown

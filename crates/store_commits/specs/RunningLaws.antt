@@ -19,7 +19,7 @@ use Rattle.pool_changes.specs.Slots.{is_live, claims_of}
 use Rattle.pool_changes.specs.Listed.{item_of, index_of}
 use Rattle.pool_store.specs.Fits.{Fits, fits_less}
 use Rattle.pool_store.specs.Accepted.{fits_accepted}
-use Rattle.ref_counts.specs.Stored.{Backup as StoredBackup}
+use Rattle.ref_counts.specs.Stored.{StoredHost}
 use Rattle.open_sessions.specs.Opened.{AreSessions, claims_in}
 use Rattle.open_sessions.specs.SessionLaws.{AreSessions-claimed}
 use Rattle.office_model.specs.Office.{Office, Names}
@@ -28,7 +28,7 @@ use Rattle.office_files.specs.Pooled.{contents_of}
 use Rattle.office_files.specs.Stands.{Stands}
 use Rattle.office_known.specs.KnownLaws.{known_of_office}
 use Rattle.store_parts.specs.declared.parts.StoreParts.{StoreParts}
-use Rattle.store_parts.specs.Held.{given, AreCountsOf, IsKeptView}
+use Rattle.store_parts.specs.Held.{given, AreCountsOf, heads_of, IsKeptView}
 use Rattle.store_parts.specs.States.{slots, IsRunning, staging_of}
 use Rattle.store_parts.specs.Writes.{Writes}
 use Rattle.store_parts.specs.StoredLaws.{contents_written}
@@ -46,7 +46,7 @@ was_live id old new same live = live_is id old ∙ ap is_some (sym same) ∙ sym
 module _ {D N S : Type 0} {d : DiskGhosts D} {n : NamerGhosts N S} where
   module _ (old mid new : StoreParts D N S d n) (office after : Office) (names : Names) (at : IsRunning old office names)
       (changes : List Change) (done : Unit {0}) (written : Writes old changes (Ok done) mid) (are : AreChanges changes)
-      (ids : List PoolId) (count : PoolId → ℕ) (backups : List (List StoredBackup)) where
+      (ids : List PoolId) (count : PoolId → ℕ) (shown : List StoredHost) where
     image : Files
     image = applied changes at.all
 
@@ -73,21 +73,22 @@ module _ {D N S : Type 0} {d : DiskGhosts D} {n : NamerGhosts N S} where
 
     pub running_committed : IsAccepted ids count (slots old) (slots new) → new.pool.in_one_file ≡ false
         → ((id : PoolId) → claims_in new.sessions id + count id ≡ claims_in old.sessions id)
-        → Stands n.digest_of (index_of (with_added ids (slots old))) backups (applied changes at.all) after.durable
+        → Stands n.digest_of (index_of (with_added ids (slots old))) shown (applied changes at.all) after.durable
         → TellsIn false (index_of (with_added ids (slots old))) (applied changes at.all)
         → AreSessions n.holds (given (slots old)) (contents_of at.all) (staging_of at.all names) after.volatile new.sessions
-        → IsKeptView new.views.kept after.hosts backups → AreCountsOf new.counts backups → AreSound after names
+        → IsKeptView new.views.kept after.hosts shown → AreCountsOf new.counts shown → new.partials ≡ heads_of after.hosts
+        → AreSound after names
         → new.journal ≡ mid.journal → new.catalog ≡ known_of_office after.durable → new.halted ≡ mid.halted → IsRunning new after names
-    running_committed accepted form claims stands tells sessions view counted sound journal catalog halted = record {
+    running_committed accepted form claims stands tells sessions view counted parked sound journal catalog halted = record {
       working = record {
         ready = halted ∙ written.stays (λ e. absurd cc) ∙ at.ready;
         stored = record {
           journal_ready = subst (λ (j : Journal D d). j.halted ≡ false) (sym journal) written.committed.ready;
           all = applied changes at.all;
-          backups = backups;
+          shown = shown;
           told_is = subst (λ (j : Journal D d). told j ≡ Some (applied changes at.all)) (sym journal)
               (written.committed.done ∙ ap (option_map (applied changes)) at.told_is);
-          stands = subst (λ (index : Index). Stands n.digest_of index backups (applied changes at.all) after.durable) (sym index) stands;
+          stands = subst (λ (index : Index). Stands n.digest_of index shown (applied changes at.all) after.durable) (sym index) stands;
           tells = subst (λ (b : Bool). TellsIn b (index_of (slots new)) (applied changes at.all)) (sym form)
               (subst (λ (index : Index). TellsIn false index (applied changes at.all)) (sym index) tells);
           fits = subst (λ (j : Journal D d). Fits n.digest_of (slots new) (uncertain j) (applied changes at.all)) (sym journal) (fits_new accepted);
@@ -102,6 +103,7 @@ module _ {D N S : Type 0} {d : DiskGhosts D} {n : NamerGhosts N S} where
           catalog_is = catalog;
         };
         counted = counted;
+        parked = parked;
         sessions = AreSessions-claimed n.holds (given (slots old)) (contents_of at.all) (given (slots new)) (contents_of (applied changes at.all))
             (staging_of at.all names) (staging_of (applied changes at.all) names) after.volatile new.sessions
             (record {

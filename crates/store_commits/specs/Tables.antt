@@ -1,13 +1,14 @@
--- What a commit answers for the table that it calls for, over whatever the disk tells.
---     AreThere told Calls      each file that is called for has a table, in its grammar
---     Heeds told Calls reply      after Ok they are there
---     IsHeededBy told Calls refusal      one that isn't there is named, with what was found of it
+-- What a commit answers for the table and the partial that it calls for, over whatever the disk tells.
+--     AreThere told Calls Parks      each file that is called for has a table, and each host's that is called for a partial of it, in their grammar
+--     Heeds told Calls Parks reply      after Ok they are there
+--     IsHeededBy told Calls Parks refusal      one that isn't there is named, with what was found of it
 --     IsTableFor parts session file      the table that the commit of an open dump calls for
---     HeedsTables old name reply new      what a commit answers for it; if it is damaged, nothing was done
-use Rattle.std.specs.Prelude.{⊤, ◌≡◌, ◌<◌, ℕ, List, Option, Some, None, Result, Ok, Err, slice_get}
+--     IsParkedFor parts session host      the host whose partial it calls for
+--     HeedsTables old name reply new      what a commit answers for these; if one is damaged, nothing was done
+use Rattle.std.specs.Prelude.{⊤, ◌≡◌, ◌⊎◌, ◌<◌, ℕ, List, Option, Some, None, Result, Ok, Err, slice_get}
 use Rattle.std.specs.List.{position_from}
 use Rattle.disk_trait.specs.declared.ids.FileId.{FileId}
-use Rattle.disk_trait.specs.declared.ids.FileId.TheVariants.{Table as TableFile}
+use Rattle.disk_trait.specs.declared.ids.FileId.TheVariants.{Table as TableFile, Partial as PartialOf}
 use Rattle.disk_trait.specs.declared.disk.Disk.{Ghosts as DiskGhosts}
 use Rattle.disk_trait.specs.Files.{Files}
 use Rattle.pool_name.specs.declared.namer.Namer.{Ghosts as NamerGhosts}
@@ -17,6 +18,9 @@ use Rattle.backup_index.specs.Index.{Index}
 use Rattle.backup_views.specs.Stored.{IsTableFile}
 use Rattle.backup_views.specs.Faults.{IsNoTable}
 use Rattle.merge_view.specs.Views.{Rows}
+use Rattle.partial_files.specs.declared.partial.PartialFile.{PartialFile}
+use Rattle.host_partials.specs.declared.held.PartialHead.{PartialHead}
+use Rattle.host_partials.specs.Held.{HasPartial, head_at}
 use Rattle.open_sessions.specs.declared.sessions.OpenDump.{OpenDump}
 use Rattle.office_model.specs.declared.session.SessionName.{SessionName}
 use Rattle.office_model.specs.Session.{is_same_session}
@@ -24,27 +28,39 @@ use Rattle.office_model.specs.declared.refusal.Refusal.{Refusal}
 use Rattle.office_model.specs.declared.refusal.Refusal.TheVariants as R
 use Rattle.office_model.specs.Meaning.{Reply}
 use Rattle.store_parts.specs.declared.parts.StoreParts.{StoreParts}
+use Rattle.store_parts.specs.Parked.{IsNoPartial}
 use Rattle.store_commits.specs.Former.{dropped_of}
 
-abbrev pub AreThere : Option Files → (FileId → Type 0) → Type 0
-AreThere told Calls = (all : Files) (file : FileId) → told ≡ Some all → Calls file → (rows : Rows) × IsTableFile rows (all file)
+pub record AreThere (told : Option Files) (Calls : FileId → Type 0) (Parks : ℕ → Type 0) : Type 0 where
+  pub tables : (all : Files) (file : FileId) → told ≡ Some all → Calls file → (rows : Rows) × IsTableFile rows (all file)
+  pub partial : (all : Files) (host : ℕ) → told ≡ Some all → Parks host
+      → (file : PartialFile) × HasPartial host (Some file) (all (PartialOf host))
+
+-- what was found of a file that is called for is no table, or no partial of its host
+abbrev pub IsLost : Option Files → (FileId → Type 0) → (ℕ → Type 0) → FileId → Option (List ℕ) → Type 0
+IsLost told Calls Parks file found = (Calls file × IsNoTable told file found) ⊎ ((host : ℕ) × Parks host × IsNoPartial told host file found)
 
 -- a rule is only broken if they are there, or none is called for
-abbrev pub IsHeededBy : Option Files → (FileId → Type 0) → Refusal → Type 0
-IsHeededBy told Calls (R.Broken rule) = AreThere told Calls
-IsHeededBy told Calls (R.Damaged file found) = Calls file × IsNoTable told file found
-IsHeededBy told Calls R.DiskFault = ⊤
-IsHeededBy told Calls R.Memory = ⊤
-IsHeededBy told Calls R.Halted = ⊥
+abbrev pub IsHeededBy : Option Files → (FileId → Type 0) → (ℕ → Type 0) → Refusal → Type 0
+IsHeededBy told Calls Parks (R.Broken rule) = AreThere told Calls Parks
+IsHeededBy told Calls Parks (R.Damaged file found) = IsLost told Calls Parks file found
+IsHeededBy told Calls Parks R.DiskFault = ⊤
+IsHeededBy told Calls Parks R.Memory = ⊤
+IsHeededBy told Calls Parks R.Halted = ⊥
 
-abbrev pub Heeds : {T : Type 0} → Option Files → (FileId → Type 0) → Result T Refusal → Type 0
-Heeds told Calls (Ok done) = AreThere told Calls
-Heeds told Calls (Err refusal) = IsHeededBy told Calls refusal
+abbrev pub Heeds : {T : Type 0} → Option Files → (FileId → Type 0) → (ℕ → Type 0) → Result T Refusal → Type 0
+Heeds told Calls Parks (Ok done) = AreThere told Calls Parks
+Heeds told Calls Parks (Err refusal) = IsHeededBy told Calls Parks refusal
 
 -- the table of a backup's line that is dropped
 abbrev pub IsTableOf : ℕ → Option Line → FileId → Type 0
 IsTableOf host None file = ⊥
 IsTableOf host (Some line) file = file ≡ TableFile host line.number
+
+-- the host of this number, of which a partial is known
+abbrev pub IsKnownOf : ℕ → Option PartialHead → ℕ → Type 0
+IsKnownOf number None host = ⊥
+IsKnownOf number (Some head) host = host ≡ number
 
 -- where the open dump of a name is in memory
 abbrev pub place_of : List OpenDump → SessionName → Option ℕ
@@ -58,6 +74,13 @@ module _ {D N S : Type 0} {d : DiskGhosts D} {n : NamerGhosts N S} where
     pub number : index.next < 4294967296
     pub is : IsTableOf session.host (dropped_of index.rules index.lines) file
 
+  -- its host, if a partial of it is known, and it has a number left
+  pub record IsParkedFor (parts : StoreParts D N S d n) (session : OpenDump) (host : ℕ) : Type 0 where
+    pub index : Index
+    pub here : slice_get parts.catalog.hosts session.host ≡ Some index
+    pub number : index.next < 4294967296
+    pub is : IsKnownOf session.host (head_at parts.partials session.host) host
+
   -- of the open dump of a name
   pub record IsTableForName (parts : StoreParts D N S d n) (name : SessionName) (file : FileId) : Type 0 where
     pub place : ℕ
@@ -66,7 +89,14 @@ module _ {D N S : Type 0} {d : DiskGhosts D} {n : NamerGhosts N S} where
     pub there : slice_get parts.sessions.dumps.items place ≡ Some session
     pub calls : IsTableFor parts session file
 
+  pub record IsParkedForName (parts : StoreParts D N S d n) (name : SessionName) (host : ℕ) : Type 0 where
+    pub place : ℕ
+    pub session : OpenDump
+    pub found : Some place ≡ place_of parts.sessions.dumps.items name
+    pub there : slice_get parts.sessions.dumps.items place ≡ Some session
+    pub calls : IsParkedFor parts session host
+
   pub record HeedsTables (old : StoreParts D N S d n) (name : SessionName) (reply : Reply) (new : StoreParts D N S d n) : Type 0 where
-    pub tables : Heeds (told old.journal) (IsTableForName old name) reply
+    pub tables : Heeds (told old.journal) (IsTableForName old name) (IsParkedForName old name) reply
     pub undone : (file : FileId) (found : Option (List ℕ)) → reply ≡ Err (R.Damaged file found)
         → Quiet old.journal new.journal × (new ≡ record old { journal = new.journal })

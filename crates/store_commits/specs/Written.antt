@@ -1,7 +1,7 @@
 -- The files that a commit writes.
 --     written pooled listed host number files      the changes: those of the pool's index, that of the host's index, and of its other files
 --     host_part      those of the host
-use Rattle.std.specs.Prelude.{ℕ, List, [], ◌∷◌, ◌++◌, Option, Some, None}
+use Rattle.std.specs.Prelude.{ℕ, Bool, true, false, List, [], ◌∷◌, ◌++◌, Option, Some, None}
 use Rattle.disk_trait.specs.declared.ids.FileId.{FileId}
 use Rattle.disk_trait.specs.declared.ids.FileId.TheVariants as F
 use Rattle.intent_journal.specs.declared.changes.Change.{Change}
@@ -16,10 +16,23 @@ abbrev pub former_part : ℕ → Option Former → List Change
 former_part host None = []
 former_part host (Some former) = change_of (F.Table host former.number) former.table ∷ []
 
--- the new table, the counts, and the former newest's table
+-- the file of a host's partial is taken away
+abbrev pub unparked_change : ℕ → Change
+unparked_change host = record { file = F.Partial host; bytes = None }
+
+-- if the host has one
+abbrev pub partial_part : ℕ → Bool → List Change
+partial_part host false = []
+partial_part host true = unparked_change host ∷ []
+
+-- what is there behind the new table and the counts
+abbrev pub last_part : ℕ → Option Former → Bool → List Change
+last_part host former parked = former_part host former ++ partial_part host parked
+
+-- the new table, the counts, the former newest's table, and the host's partial
 abbrev pub other_part : ℕ → ℕ → HostFiles → List Change
 other_part host number files =
-    change_of (F.Table host number) files.table ∷ change_of (F.Counts host) files.counts ∷ former_part host files.former
+    change_of (F.Table host number) files.table ∷ change_of (F.Counts host) files.counts ∷ last_part host files.former files.parked
 
 abbrev pub written : List Change → List Change → ℕ → ℕ → HostFiles → List Change
 written pooled listed host number files = (pooled ++ listed) ++ other_part host number files

@@ -2,9 +2,10 @@
 --     one_index, written_is      the host's index is one change, and all of the host stand together
 --     are_written      they name metadata files, none twice
 --     at_index, at_table, at_counts, at_former      each file of the host has its new bytes
+--     at_no_partial      the host has no partial's file
 --     at_other      another file of metadata stays, but those of the pool's index
 --     at_pool_index      those are as the changes of the index leave them
-use Rattle.std.specs.Prelude.{◌≡◌, ◌≢◌, ◌==◌, ℕ, true, false, List, [], ◌∷◌, ◌++◌, map, Option, Some, None, IfSome, slice_get}
+use Rattle.std.specs.Prelude.{◌≡◌, ◌≢◌, ◌==◌, ℕ, suc, Bool, true, false, List, [], ◌∷◌, ◌++◌, map, Option, Some, None, IfSome, slice_get}
 use Rattle.std.proofs.Common.{refl, sym, ap, ◌∙◌, append_assoc, inl, inr}
 use Rattle.std.proofs.lemmas.Bool.{false≢true, eq-eqb}
 use Rattle.disk_trait.specs.declared.ids.FileId.{FileId}
@@ -19,7 +20,7 @@ use Rattle.office_changes.specs.ChangeLaws.{is_of_host, is_of_index}
 use Rattle.office_changes.specs.JoinedLaws.{applied_both, are_both, other_table, not_hosts}
 use Rattle.store_commits.specs.declared.files.Former.{Former}
 use Rattle.store_commits.specs.declared.files.HostFiles.{HostFiles}
-use Rattle.store_commits.specs.Written.{change_of, former_part, other_part, index_change, host_part, written}
+use Rattle.store_commits.specs.Written.{change_of, former_part, unparked_change, partial_part, last_part, other_part, index_change, host_part, written}
 
 -- ---- the changes of a commit
 
@@ -32,25 +33,35 @@ abbrev pub IsNotFormer : ℕ → Option Former → Type 0
 IsNotFormer number former = IfSome former (λ f. number ≢ f.number)
 
 module _ (host number : ℕ) (index : Option (List ℕ)) (files : HostFiles) where
-  are_former : (former : Option Former) → IsFormer number former
-      → AreChanges (change_of (F.Table host number) files.table ∷ change_of (F.Counts host) files.counts ∷ former_part host former)
+  are_last : (former : Option Former) (parked : Bool) → IsFormer number former
+      → AreChanges (change_of (F.Table host number) files.table ∷ change_of (F.Counts host) files.counts ∷ last_part host former parked)
   unfolding is_same_file
-  are_former None other = (refl, refl, (refl, refl, tt))
-  are_former (Some former) other =
+  are_last None false other = (refl, refl, (refl, refl, tt))
+  are_last None true other = (refl, refl, (refl, refl, (refl, refl, tt)))
+  are_last (Some former) false other =
       (refl, rw (other_table host number former.number (λ e. other (sym e))) refl, (refl, refl, (refl, refl, tt)))
+  are_last (Some former) true other =
+      (refl, rw (other_table host number former.number (λ e. other (sym e))) refl, (refl, refl, (refl, refl, (refl, refl, tt))))
 
-  index_apart : (former : Option Former)
-      → names (change_of (F.Table host number) files.table ∷ change_of (F.Counts host) files.counts ∷ former_part host former) (F.Host host) ≡ false
+  index_apart : (former : Option Former) (parked : Bool)
+      → names (change_of (F.Table host number) files.table ∷ change_of (F.Counts host) files.counts ∷ last_part host former parked) (F.Host host) ≡ false
   unfolding is_same_file
-  index_apart None = refl
-  index_apart (Some former) = refl
+  index_apart None false = refl
+  index_apart None true = refl
+  index_apart (Some former) false = refl
+  index_apart (Some former) true = refl
 
   pub are_host_part : IsFormer number files.former → AreChanges (host_part host number index files)
-  are_host_part other = (refl, index_apart files.former, are_former files.former other)
+  are_host_part other = (refl, index_apart files.former files.parked, are_last files.former files.parked other)
 
-  former_out : (former : Option Former) (asked : FileId) → is_of_host host asked ≡ false → names (former_part host former) asked ≡ false
-  former_out None asked out = refl
-  former_out (Some former) asked out = rw (not_hosts host asked (F.Table host former.number) out itself) refl
+  partial_out : (parked : Bool) (asked : FileId) → is_of_host host asked ≡ false → names (partial_part host parked) asked ≡ false
+  partial_out false asked out = refl
+  partial_out true asked out = rw (not_hosts host asked (F.Partial host) out (eq-eqb host host refl)) refl
+
+  last_out : (former : Option Former) (parked : Bool) (asked : FileId) → is_of_host host asked ≡ false
+      → names (last_part host former parked) asked ≡ false
+  last_out None parked asked out = partial_out parked asked out
+  last_out (Some former) parked asked out = rw (not_hosts host asked (F.Table host former.number) out itself) (partial_out parked asked out)
     where
       itself : is_of_host host (F.Table host former.number) ≡ true
       itself = eq-eqb host host refl
@@ -62,19 +73,43 @@ module _ (host number : ℕ) (index : Option (List ℕ)) (files : HostFiles) whe
         not_hosts host asked (F.Host host) out itself,
         not_hosts host asked (F.Table host number) out itself,
         not_hosts host asked (F.Counts host) out itself,
-      ) (former_out files.former asked out)
+      ) (last_out files.former files.parked asked out)
     where
       itself : (host == host) ≡ true
       itself = eq-eqb host host refl
 
-  table_out_former : (former : Option Former) (other : ℕ) → IsNotFormer other former → names (former_part host former) (F.Table host other) ≡ false
-  table_out_former None other out = refl
-  table_out_former (Some former) other out = rw (other_table host other former.number out) refl
+  table_out_last : (former : Option Former) (parked : Bool) (other : ℕ) → IsNotFormer other former
+      → names (last_part host former parked) (F.Table host other) ≡ false
+  unfolding is_same_file
+  table_out_last None false other out = refl
+  table_out_last None true other out = refl
+  table_out_last (Some former) false other out = rw (other_table host other former.number out) refl
+  table_out_last (Some former) true other out = rw (other_table host other former.number out) refl
 
   -- another table of the host
   pub table_out : (other : ℕ) → other ≢ number → IsNotFormer other files.former → names (host_part host number index files) (F.Table host other) ≡ false
   unfolding is_same_file
-  table_out other apart out = rw (other_table host other number apart) (table_out_former files.former other out)
+  table_out other apart out = rw (other_table host other number apart) (table_out_last files.former files.parked other out)
+
+  partial_kept : (former : Option Former) (parked : Bool) → parked ≡ false → names (last_part host former parked) (F.Partial host) ≡ false
+  unfolding is_same_file
+  partial_kept None false e = refl
+  partial_kept None true e = absurd cc
+  partial_kept (Some former) false e = refl
+  partial_kept (Some former) true e = absurd cc
+
+  -- the partial, if there is none
+  pub no_partial_named : files.parked ≡ false → names (host_part host number index files) (F.Partial host) ≡ false
+  unfolding is_same_file
+  no_partial_named none = partial_kept files.former files.parked none
+
+  last_there : (former : Option Former) (parked : Bool) → parked ≡ true
+      → (i : ℕ) × (slice_get (change_of (F.Table host number) files.table ∷ change_of (F.Counts host) files.counts ∷ last_part host former parked) i
+      ≡ Some (unparked_change host))
+  last_there None false e = absurd cc
+  last_there None true e = (2, refl)
+  last_there (Some former) false e = absurd cc
+  last_there (Some former) true e = (3, refl)
 
 index_not_hosts : (host : ℕ) (file : FileId) → is_of_index file ≡ true → is_of_host host file ≡ false
 index_not_hosts host F.Head e = absurd (false≢true e)
@@ -139,7 +174,12 @@ module _ (pooled : List Change) (host number : ℕ) (index : Option (List ℕ)) 
 
   pub at_former : (f : Former) → files.former ≡ Some f → image (F.Table host f.number) ≡ Some f.table
   at_former f e = here 3 (change_of (F.Table host f.number) f.table)
-      (ap (λ (o : Option Former). slice_get (former_part host o) 0) e)
+      (ap (λ (o : Option Former). slice_get (last_part host o files.parked) 0) e)
+
+  at_partial : files.parked ≡ true → image (F.Partial host) ≡ None
+  at_partial parked =
+      let w = last_there host number index files files.former files.parked parked in
+      here (suc w.0) (unparked_change host) w.1
 
   outside : (file : FileId) → names (host_part host number index files) file ≡ false → image file ≡ applied pooled all file
   outside file none =
@@ -153,6 +193,18 @@ module _ (pooled : List Change) (host number : ℕ) (index : Option (List ℕ)) 
   at_other_table other apart out =
       outside (F.Table host other) (table_out host number index files other apart out)
       ∙ applied_other pooled all (F.Table host other) (out_of_index (F.Table host other) refl)
+
+  no_partial_left : files.parked ≡ false → all (F.Partial host) ≡ None → image (F.Partial host) ≡ None
+  no_partial_left none absent =
+      outside (F.Partial host) (no_partial_named host number index files none)
+      ∙ applied_other pooled all (F.Partial host) (out_of_index (F.Partial host) refl) ∙ absent
+
+  -- the host's partial has no file, if it had none that isn't known
+  pub at_no_partial : (files.parked ≡ false → all (F.Partial host) ≡ None) → image (F.Partial host) ≡ None
+  at_no_partial known = elim (either files.parked) [
+    | inl parked ↦ at_partial parked
+    | inr none ↦ no_partial_left none (known none)
+  ]
 
   pub at_pool_index : image F.PoolIndex ≡ applied pooled all F.PoolIndex
   at_pool_index = outside F.PoolIndex (host_part_out host number index files F.PoolIndex refl)

@@ -6,9 +6,9 @@ ghost use Rattle.store_commits.specs.Planned.{IsBuilt};
 
 use crate::files::{assemble, host_files};
 use crate::gather::Gathered;
-use crate::ids::ids_of;
 use crate::judge::Lines;
 use crate::plan::Plan;
+use crate::settling::settle_rows;
 use attr_tables::Table;
 use disk_trait::Disk;
 use pool_name::Namer;
@@ -27,19 +27,19 @@ pub(crate) fn build<D: Disk, N: Namer>(
     requires host { host < length parts.now.catalog.hosts }
     requires rising { (index : Index) → slice_get parts.now.catalog.hosts host ≡ Some index → index.next ≤ lines.line.number }
     requires filled { lines.line.filled ≡ true }
-    ensures { IfOk result (IsBuilt parts.now host lines gathered.folding gathered.counts rows) }
+    ensures { IfOk result (IsBuilt parts.now host lines gathered.read.parked gathered.read.folding gathered.counts rows) }
 {
     let catalog = parts
         .catalog
         .propose_line(alloc, host, lines.line, lines.dropped.is_none())?;
-    let ids = ids_of(alloc, &parts.pool, rows.rows())?;
-    let mut index = parts.pool.settle(alloc, &ids)?;
+    let mut index = settle_rows(alloc, &parts.pool, &rows)?;
     let files = host_files(
         alloc,
         lines.file,
         &rows,
         &gathered.counts,
-        &gathered.folding,
+        &gathered.read.folding,
+        gathered.read.parked.is_some(),
     )?;
     let number = lines.line.number;
     let pooled = index.take_changes(alloc);

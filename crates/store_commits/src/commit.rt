@@ -5,7 +5,7 @@ ghost use Rattle.fault_counts.specs.Counts.{Counted};
 ghost use Rattle.journal_view.specs.View.{told, Quiet};
 ghost use Rattle.open_sessions.specs.declared.sessions.OpenDump.{OpenDump};
 ghost use Rattle.store_commits.specs.Planned.{IsPlanned, IsPlanFault};
-ghost use Rattle.store_commits.specs.Tables.{IsTableFor, Heeds};
+ghost use Rattle.store_commits.specs.Tables.{IsTableFor, IsParkedFor, Heeds};
 
 use crate::build::build;
 use crate::gather::gather;
@@ -18,9 +18,9 @@ use std::alloc::Global;
 use store_parts::StoreParts;
 use stream_traits::Moment;
 
-/// Plans the commit of the open dump at a place. The table of the former newest backup is read, if it doesn't stay filled; nothing
-/// changes. After Ok that table was there in its grammar, whatever else the disk has; `Damaged` names it if it wasn't, with what
-/// was found of it.
+/// Plans the commit of the open dump at a place. The table of the former newest backup is read, if it doesn't stay filled, and the
+/// host's partial, if one is known; nothing changes. After Ok these were there in their grammar, whatever else the disk has; `Damaged`
+/// names one that wasn't, with what was found of it.
 pub fn plan_commit<D: Disk, N: Namer>(
     parts: &mut StoreParts<D, N>,
     alloc: Global,
@@ -34,7 +34,7 @@ pub fn plan_commit<D: Disk, N: Namer>(
     ensures refused { IfErr result (λ refusal. (session : OpenDump) → slice_get parts.old.sessions.dumps.items at ≡ Some session
         → IsPlanFault parts.old session refusal) }
     ensures tables { (session : OpenDump) → slice_get parts.old.sessions.dumps.items at ≡ Some session
-        → Heeds (told parts.old.journal) (IsTableFor parts.old session) result }
+        → Heeds (told parts.old.journal) (IsTableFor parts.old session) (IsParkedFor parts.old session) result }
     ensures quiet { Quiet parts.old.journal parts.new.journal }
     ensures others { parts.new ≡ record parts.old { journal = parts.new.journal } }
     ensures counted { Counted (D.fault_count parts.old.journal.disk) (D.fault_count parts.new.journal.disk) (IsErrOf result Refusal.DiskFault) }
@@ -49,13 +49,14 @@ pub fn plan_commit<D: Disk, N: Namer>(
         Ok(rows) => rows,
         Err(_) => return Err(Refusal::Memory),
     };
+    let head = parts.partials.of_host(host);
     let gathered = match gather(
         alloc,
         &mut parts.journal,
         &parts.counts,
         host,
-        lines.file,
-        lines.dropped,
+        head,
+        lines,
         &rows,
     ) {
         Ok(gathered) => gathered,

@@ -14,10 +14,10 @@ use std::alloc::Global;
 use store_parts::StoreParts;
 use stream_traits::Moment;
 
-/// Makes an open dump its host's next backup, and answers its number; its stages end with it. After Ok this is durable. If there
+/// Makes an open dump its host's next backup, and answers its number; its stages end with it, and the host's partial is dropped. After Ok this is durable. If there
 /// is no such dump or no memory, or a read fails, nothing was done; after a `DiskFault` of the write the store is halted. The table
-/// of the former newest backup has to be there, if it doesn't stay filled: after Ok it was; if it isn't, `Damaged` names it, with
-/// what was found of it, and nothing was done.
+/// of the former newest backup has to be there, if it doesn't stay filled, and the host's partial, if it has one: after Ok they were;
+/// if one isn't, `Damaged` names it, with what was found of it, and nothing was done.
 pub fn commit_dump<D: Disk, N: Namer>(
     parts: &mut StoreParts<D, N>,
     alloc: Global,

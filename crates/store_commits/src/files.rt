@@ -7,7 +7,7 @@ ghost use Rattle.attr_tables.specs.Tables.{table_file};
 ghost use Rattle.ref_counts.specs.Layout.{IsCounts};
 ghost use Rattle.ref_counts.specs.CountsFile.{counts_file};
 ghost use Rattle.store_commits.specs.Planned.{IsFormerFile};
-ghost use Rattle.store_commits.specs.Written.{change_of, former_part, host_part, written};
+ghost use Rattle.store_commits.specs.Written.{change_of, former_part, partial_part, written};
 
 use crate::former::Folding;
 use attr_tables::{Table, TableLayout, write_table};
@@ -30,6 +30,8 @@ pub struct HostFiles {
     pub table: Bytes,
     pub counts: Bytes,
     pub former: Option<Former>,
+    /// Whether the host has a partial, whose file is taken away.
+    pub parked: bool,
 }
 
 /// Puts a file's new bytes behind the changes.
@@ -40,6 +42,29 @@ fn push(changes: &mut Changes, file: FileId, bytes: Bytes) -> Result<(), AllocEr
         file,
         bytes: Some(bytes),
     })?;
+    Ok(())
+}
+
+/// Puts the former newest's table behind the changes, if it changes.
+fn push_former(changes: &mut Changes, host: u32, former: Option<Former>) -> Result<(), AllocError>
+    ensures { OnOk result (changes.new ≡ changes.old ++ former_part host former) }
+{
+    match former {
+        Some(former) => push(changes, FileId::Table(host, former.number), former.table),
+        None => Ok(()),
+    }
+}
+
+/// Puts behind the changes that the file of a host's partial is taken away, if it has one.
+fn push_partial(changes: &mut Changes, host: u32, parked: bool) -> Result<(), AllocError>
+    ensures { OnOk result (changes.new ≡ changes.old ++ partial_part host parked) }
+{
+    if parked {
+        changes.push(Change {
+            file: FileId::Partial(host),
+            bytes: None,
+        })?;
+    }
     Ok(())
 }
 
@@ -58,14 +83,8 @@ pub(crate) fn assemble(
     changes.push_copies(alloc, listed.as_slice())?;
     push(&mut changes, FileId::Table(host, number), files.table)?;
     push(&mut changes, FileId::Counts(host), files.counts)?;
-    match files.former {
-        Some(former) => push(
-            &mut changes,
-            FileId::Table(host, former.number),
-            former.table,
-        )?,
-        None => {}
-    }
+    push_former(&mut changes, host, files.former)?;
+    push_partial(&mut changes, host, files.parked)?;
     Ok(changes)
 }
 
@@ -92,9 +111,11 @@ pub(crate) fn host_files(
     rows: &Table,
     counts: &Counts,
     folding: &Option<Folding>,
+    parked: bool,
 ) -> Result<HostFiles, AllocError>
     ensures table { IfOk result (λ files. IsTable TableLayout.Second rows.now × (files.table ≡ table_file TableLayout.Second rows.now)) }
     ensures former { IfOk result (λ files. IsFormerFile folding.now files.former) }
+    ensures parked { IfOk result (λ files. files.parked ≡ parked) }
     ensures counts { IfOk result (λ files. IsCounts counts.now × (files.counts ≡ counts_file host counts.now)) }
 {
     let table = write_table(alloc, rows)?;
@@ -104,5 +125,6 @@ pub(crate) fn host_files(
         table,
         counts,
         former,
+        parked,
     })
 }

@@ -1,4 +1,4 @@
-//! The contents that a commit lists in the pool's index.
+//! The contents that the pool's index lists if rows are stored.
 
 ghost use Rattle.std.specs.Prelude.{◌≡◌, IfOk};
 ghost use Rattle.pool_changes.specs.Kept.{slots_of};
@@ -35,7 +35,7 @@ fn given_of<N: Namer>(pool: &Pool<N>, node: &Record) -> Option<PoolId>
 
 /// The contents that rows name and that are live or staged, as often as they are named, in the order of the rows. Of a store at
 /// work they are all that the rows of an open dump name.
-pub(crate) fn ids_of<N: Namer>(
+pub fn ids_of<N: Namer>(
     alloc: Global,
     pool: &Pool<N>,
     rows: &[Row],

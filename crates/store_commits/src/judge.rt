@@ -30,7 +30,7 @@ fn new_line(number: u32, dump: &OpenDump, now: Moment) -> Line
 {
     Line {
         number,
-        start: dump.start.seconds(),
+        start: dump.start,
         end: now.seconds(),
         kind: dump.kind,
         filled: true,

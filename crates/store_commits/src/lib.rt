@@ -1,19 +1,23 @@
 //! What a commit of an open dump is to do: the dump becomes its host's next backup.
 //!
 //! One commit of the journal writes the new table, the former newest's table if it doesn't stay filled, the host's index and
-//! counts, and the files of the pool's index that change. [`plan_commit`] reads what it must and builds all of it, and changes
-//! nothing: so want of memory leaves everything as it was. [`accept_commit`] makes in memory what was committed. [`commit_dump`] is
-//! the event that plans, writes and finishes: it promises `Runs` of store_parts, and, over whatever the disk tells, `HeedsTables` of
-//! `specs/Tables`: after Ok the former newest's table was there if it was called for, and one that isn't there is named. Its laws
-//! are those of what stands in the files afterwards (`specs/OfficeLaws`, `specs/HostLaws`, `specs/LineLaws`), of what is open
-//! without the dump and its stages (`specs/Ending`), of the parts that then hold the office (`specs/RunningLaws`), and of the steps
-//! to that (`specs/EventLaws`, `specs/HoldLaws`).
+//! counts, and the files of the pool's index that change, and takes away the file of the host's partial, if it has one.
+//! [`plan_commit`] reads what it must and builds all of it, and changes nothing: so want of memory leaves everything as it was.
+//! [`accept_commit`] makes in memory what was committed. [`commit_dump`] is the event that plans, writes and finishes: it promises
+//! `Runs` of store_parts, and, over whatever the disk tells, `HeedsTables` of `specs/Tables`: after Ok the former newest's table and
+//! the host's partial were there if they were called for, and one that isn't there is named. Its laws are those of what stands in the
+//! files afterwards (`specs/OfficeLaws`, `specs/HostLaws`, `specs/LineLaws`), of what is open without the dump and its stages
+//! (`specs/Ending`), of the parts that then hold the office (`specs/RunningLaws`), and of the steps to that (`specs/EventLaws`,
+//! `specs/HoldLaws`).
+//!
+//! What a commit has in common with other events that store rows is [`settle_rows`], [`ids_of`] and [`unpark`], and [`parked_rows`]
+//! for those that take a partial's rows from the counts.
 //!
 //! | Type | What it is |
 //! |---|---|
 //! | [`Plan`] | the changes of all files, and of catalog and pool behind them |
 //! | [`Lines`] | the line of the new backup, and the former newest's, if it doesn't stay filled |
-//! | [`Gathered`], [`Folding`] | what becomes of the former newest and of the counts |
+//! | [`Gathered`], [`HostRows`], [`Folding`] | what was read of the host, and its counts then |
 //! | [`HostFiles`], [`Former`] | the bytes of the host's files |
 #![tactic(auto)]
 
@@ -27,13 +31,18 @@ mod former;
 mod gather;
 mod ids;
 mod judge;
+mod parked;
 mod plan;
+mod settling;
 
 pub use commit::plan_commit;
 pub use event::commit_dump;
 pub use files::{Former, HostFiles};
 pub use finish::accept_commit;
 pub use former::Folding;
-pub use gather::Gathered;
+pub use gather::{Gathered, HostRows};
+pub use ids::ids_of;
 pub use judge::Lines;
+pub use parked::{parked_rows, unpark};
 pub use plan::Plan;
+pub use settling::settle_rows;

@@ -18,7 +18,7 @@ use Rattle.backup_views.specs.Faults.{IsDamaged}
 use Rattle.pool_index.specs.Index.{Index}
 use Rattle.pool_changes.specs.Listed.{index_of}
 use Rattle.ref_counts.specs.Numbers.{Items}
-use Rattle.ref_counts.specs.Stored.{Backup as StoredBackup, stored}
+use Rattle.ref_counts.specs.Stored.{StoredHost, stored}
 use Rattle.office_catalog.specs.Known.{Known, known_of, with_change}
 use Rattle.office_catalog.specs.Held.{HoldsCatalog}
 use Rattle.office_catalog.specs.Changed.{after}
@@ -83,20 +83,20 @@ module _ {D N S : Type 0} {d : DiskGhosts D} {n : NamerGhosts N S} where
     abbrev pool : Index
     pool = index_of (slots old)
 
-    -- what is stored of its backups
-    abbrev found : (shown : List StoredBackup) × (slice_get at.backups p ≡ Some shown)
-        × StandsHost (IsListed pool) (contents_of at.all) at.all p host shown
-    found = pair_at (StandsHost (IsListed pool) (contents_of at.all) at.all) office.hosts at.backups at.stands.hosts p host here
+    -- what is stored of it
+    abbrev found : (of : StoredHost) × (slice_get at.shown p ≡ Some of) × StandsHost (IsListed pool) (contents_of at.all) at.all p host of
+    found = pair_at (StandsHost (IsListed pool) (contents_of at.all) at.all) office.hosts at.shown at.stands.hosts p host here
 
     host_at_work : (items : Items) → slice_get old.counts p ≡ Some items
         → IsHostAtWork pool old.catalog items at.all p host found.0
     host_at_work items are = record {
       stands = found.2;
       holds = subst (HoldsCatalog at.all) (sym at.catalog_is)
-          (stands_catalog n.digest_of pool at.backups at.all office.durable at.stands);
+          (stands_catalog n.digest_of pool at.shown at.all office.durable at.stands);
       index = ap (λ (k : Known). slice_get k.hosts p) at.catalog_is ∙ index_there office.hosts p host here;
       numbered = (at.sound.hosts.each p host here).backups.numbered;
       few = (at.sound.hosts.each p host here).numbers;
+      partial = (at.sound.hosts.each p host here).partial;
       counted = at.counted.each p items found.0 are found.1;
     }
 
@@ -108,7 +108,7 @@ module _ {D N S : Type 0} {d : DiskGhosts D} {n : NamerGhosts N S} where
         ap (λ (k : Known). slice_get k.hosts p) at.catalog_is ∙ index_there office.hosts p host here in
         let said = says (index_of_host p host) index in
         let b = backup_there host.backups said.index said.line said.is_line in
-        let rows = other_at host.backups (stored found.0) said.index b.0 found.2.tables.counted b.1 in
+        let rows = other_at host.backups (stored found.0.backups) said.index b.0 found.2.tables.counted b.1 in
         let table = found.2.tables.each said.index b.0 rows.0 b.1 rows.1 in
         said.no_table.none rows.0 (record {
           layout = table.layout;
@@ -121,15 +121,15 @@ module _ {D N S : Type 0} {d : DiskGhosts D} {n : NamerGhosts N S} where
   pub counts_of : (old : StoreParts D N S d n) (p : ℕ) (office : Office) (names : Names) (at : IsRunning old office names) (host : Host)
       → slice_get office.hosts p ≡ Some host → (items : Items) × (slice_get old.counts p ≡ Some items)
   counts_of old p office names at host here =
-      let shown = found old p office names at host here in
-      let within = slice_get_within at.backups p shown.0 shown.1 in
+      let of = found old p office names at host here in
+      let within = slice_get_within at.shown p of.0 of.1 in
       within_there old.counts p (omega (arith, at.counted.counted, within))
 
-  -- what holds after a deletion that was planned, by the backups that are stored then
+  -- what holds after a deletion that was planned, by what is stored then
   pub record IsShortened (old : StoreParts D N S d n) (plan : DeletionPlan) (p : ℕ) (all : Files) (after_it : Office) : Type 0 where
-    pub backups : List (List StoredBackup)
-    pub stands : Stands n.digest_of (index_of (slots old)) backups (applied plan.changes all) after_it.durable
-    pub counted : AreCountsOf (slice_set old.counts p plan.counts) backups
+    pub shown : List StoredHost
+    pub stands : Stands n.digest_of (index_of (slots old)) shown (applied plan.changes all) after_it.durable
+    pub counted : AreCountsOf (slice_set old.counts p plan.counts) shown
     pub known : after plan.catalog old.catalog ≡ known_of_office after_it.durable
 
   module _ (old : StoreParts D N S d n) (p : ℕ) (numbers : List ℕ) (items : Items) (plan : DeletionPlan)
@@ -139,15 +139,15 @@ module _ {D N S : Type 0} {d : DiskGhosts D} {n : NamerGhosts N S} where
     abbrev host : Host
     host = s.host
 
-    abbrev shown : List StoredBackup
-    shown = (found old p office names at s.host s.is_host).0
+    abbrev of : StoredHost
+    of = (found old p office names at s.host s.is_host).0
 
     abbrev office_then : Office
     office_then = with_hosts office (slice_set office.hosts p (left_host numbers s.host))
 
-    deletion : IsDeletion numbers at.all (applied plan.changes at.all) p host (left_host numbers host) shown
+    deletion : IsDeletion numbers at.all (applied plan.changes at.all) p host (left_host numbers host) of
     deletion =
-        planned.deletes (index_of (slots old)) at.all host shown at.told_is
+        planned.deletes (index_of (slots old)) at.all host of at.told_is
         (host_at_work old p office names at s.host s.is_host items has_items)
 
     pub sound_then : AreNamesAfter office names (meaning_of event) (Ok answer) names → AreSound office_then names
@@ -160,13 +160,13 @@ module _ {D N S : Type 0} {d : DiskGhosts D} {n : NamerGhosts N S} where
 
     pub shortened : IsShortened old plan p at.all office_then
     shortened = record {
-      backups = slice_set at.backups p (left_shown numbers host shown);
-      stands = deletion_stands n.digest_of (index_of (slots old)) at.backups at.all (applied plan.changes at.all) office.durable p host
-          (left_host numbers host) numbers shown s.is_host refl (found old p office names at s.host s.is_host).1
+      shown = slice_set at.shown p (left_shown numbers host of);
+      stands = deletion_stands n.digest_of (index_of (slots old)) at.shown at.all (applied plan.changes at.all) office.durable p host
+          (left_host numbers host) numbers of s.is_host refl (found old p office names at s.host s.is_host).1
           (λ file metadata other. planned.others at.all file other) (λ id listed. planned.others at.all (F.Pool id) refl) deletion
           (IsSound-carried office names event (record { answer = answer; after = office_then }) at.sound s.judged).kept at.stands;
-      counted = pairs_set AreCounts old.counts at.backups p plan.counts (left_shown numbers host shown)
-          (planned.counted (index_of (slots old)) at.all host shown at.told_is
+      counted = pairs_set AreCounts old.counts at.shown p plan.counts (left_shown numbers host of)
+          (planned.counted (index_of (slots old)) at.all host of at.told_is
           (host_at_work old p office names at s.host s.is_host items has_items)) at.counted;
       known = planned.known ∙ ap (λ (k : Known). with_change k p (left_index numbers)) at.catalog_is
           ∙ ap (known_of office.epoch)

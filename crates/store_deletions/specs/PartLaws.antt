@@ -15,7 +15,7 @@ use Rattle.merge_view.specs.Views.{Rows}
 use Rattle.backup_delete.specs.Windows.{part}
 use Rattle.backup_views.specs.Stored.{IsTableFile, AreTableFiles}
 use Rattle.backup_views.specs.StoredLaws.{files_by_index}
-use Rattle.ref_counts.specs.Stored.{Backup as StoredBackup, stored}
+use Rattle.ref_counts.specs.Stored.{StoredHost, stored}
 use Rattle.office_model.specs.Office.{Host, Backup}
 use Rattle.office_model.specs.Parts.{lines_of}
 use Rattle.office_files.specs.Hosts.{StandsHost}
@@ -72,10 +72,10 @@ backup_there (b ∷ backups) (suc i) line e = backup_there backups i line e
 
 -- files that stand for a host tell what is stored of its backups
 pub tables_of_host : (given : PoolId → Type 0) (contents : PoolId → List ℕ) (all : Files) (number : ℕ) (host : Host)
-    (shown : List StoredBackup) → StandsHost given contents all number host shown
-    → AreTableFiles all number (lines_of host.backups) (stored shown)
-tables_of_host given contents all number host shown stands =
-    files_by_index all number (lines_of host.backups) (stored shown)
+    (of : StoredHost) → StandsHost given contents all number host of
+    → AreTableFiles all number (lines_of host.backups) (stored of.backups)
+tables_of_host given contents all number host of stands =
+    files_by_index all number (lines_of host.backups) (stored of.backups)
     (stands.tables.counted ∙ sym (length_lines host.backups))
     (λ i line rows e f.
     let w = backup_there host.backups i line e in

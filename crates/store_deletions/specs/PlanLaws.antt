@@ -17,7 +17,8 @@ use Rattle.backup_views.specs.Stored.{AreTableFiles}
 use Rattle.pool_index.specs.Index.{Index}
 use Rattle.ref_counts.specs.Numbers.{Items, total, capped}
 use Rattle.ref_counts.specs.Numbers as N
-use Rattle.ref_counts.specs.Stored.{Backup as StoredBackup, stored, AreWhole}
+use Rattle.ref_counts.specs.Stored.{Backup as StoredBackup, StoredHost, stored, of_partial, counted as tables_counted, AreWhole}
+use Rattle.ref_counts.specs.StoredLaws.{total-counted}
 use Rattle.backup_delete.specs.Folds.{folded_tables, Change as TableChange, changes, change_at, added_tables, taken_tables}
 use Rattle.backup_delete.specs.FoldLaws.{folded-stored}
 use Rattle.backup_delete.specs.Counted.{folded-total, taken-within}
@@ -29,15 +30,16 @@ use Rattle.office_catalog.specs.Known.{Known, IsCatalog, with_change, changed_at
 use Rattle.office_files.specs.Hosts.{index_of_host}
 use Rattle.office_files.specs.KeptLaws.{IsHostFile-same}
 use Rattle.office_files.specs.Pooled.{contents_of, IsListed}
-use Rattle.office_changes.specs.BoundLaws.{few_counted}
+use Rattle.office_changes.specs.BoundLaws.{few_counted_in}
 use Rattle.office_known.specs.KnownLaws.{host_of_catalog}
 use Rattle.office_deletion.specs.DeletionLaws.{length_lines, length_rows, rows_of, left_backups, lines_left, as_backups, are_whole, IsChangedTo, IsDeletion}
 use Rattle.office_deletion.specs.DeletionLaws as D
+use Rattle.store_parts.specs.Held.{AreCounts}
 use Rattle.store_deletions.specs.declared.plan.DeletionPlan.{DeletionPlan}
 use Rattle.store_deletions.specs.Planned.{left_index, left_host, left_shown, IsHostAtWork, IsPlanned}
 use Rattle.store_deletions.specs.Built.{IsBuilt}
 use Rattle.store_deletions.specs.Written.{table_part, written}
-use Rattle.store_deletions.specs.WrittenLaws.{IsOne, one_change, are_tables, are_written, at_index, at_table, at_counts, at_other}
+use Rattle.store_deletions.specs.WrittenLaws.{IsOne, one_change, are_tables, are_written, at_index, at_table, at_counts, at_partial, at_other}
 use Rattle.store_deletions.specs.LeftLaws.{left_numbered}
 use Rattle.store_deletions.specs.PartLaws.{part_tables, tables_of_host, rise_sound, rise_part}
 
@@ -55,13 +57,27 @@ next_number : (old taken added new : ℕ) → new + taken ≡ old + added → ne
     → capped ((old - capped taken) + capped added) ≡ new
 next_number old taken added new e a b c = grind (arith, nat_tests)
 
+-- what is there beside is there before and after
+with_same : (old more taken added new old_all new_all : ℕ) → new + taken ≡ old + added → old_all ≡ old + more → new_all ≡ new + more
+    → new_all + taken ≡ old_all + added
+with_same old more taken added new old_all new_all e before after = omega (arith, e, before, after)
+
+within_more : (taken old more old_all : ℕ) → taken ≤ old → old_all ≡ old + more → taken ≤ old_all
+within_more taken old more old_all less is = omega (arith, less, is)
+
 -- what is stored of the backups that are left
-module _ (pool : Index) (catalog : Known) (counts : Items) (all : Files) (number : ℕ) (host : Host) (shown : List StoredBackup)
-    (numbers : List ℕ) (at : IsHostAtWork pool catalog counts all number host shown) where
+module _ (pool : Index) (catalog : Known) (counts : Items) (all : Files) (number : ℕ) (host : Host) (of : StoredHost)
+    (numbers : List ℕ) (at : IsHostAtWork pool catalog counts all number host of) where
+  abbrev shown : List StoredBackup
+  shown = of.backups
+
   abbrev lines : List Line
   lines = lines_of host.backups
 
-  left_stored : folded_tables numbers lines (stored shown) ≡ stored (left_shown numbers host shown)
+  abbrev left : StoredHost
+  left = left_shown numbers host of
+
+  left_stored : folded_tables numbers lines (stored shown) ≡ stored left.backups
   left_stored =
       let is = as_backups (IsListed pool) (contents_of all) host.backups shown at.stands.shown in
       let counted : length (rows_of shown) ≡ length lines =
@@ -77,20 +93,25 @@ module _ (pool : Index) (catalog : Known) (counts : Items) (all : Files) (number
   left_counted : (id : PoolId)
       → capped ((N.number counts id - capped (total id (taken_tables numbers lines (stored shown))))
       + capped (total id (added_tables (changes numbers lines (stored shown)))))
-      ≡ total id (stored (left_shown numbers host shown))
+      ≡ total id (tables_counted left)
   left_counted id =
       ap (λ (n : ℕ). capped ((n - capped (total id (taken_tables numbers lines (stored shown))))
       + capped (total id (added_tables (changes numbers lines (stored shown))))))
       (at.counted id)
-      ∙ next_number (total id (stored shown)) (total id (taken_tables numbers lines (stored shown)))
-      (total id (added_tables (changes numbers lines (stored shown)))) (total id (stored (left_shown numbers host shown)))
+      ∙ next_number (total id (tables_counted of)) (total id (taken_tables numbers lines (stored shown)))
+      (total id (added_tables (changes numbers lines (stored shown)))) (total id (tables_counted left))
+      (with_same (total id (stored shown)) (total id (of_partial of.partial)) (total id (taken_tables numbers lines (stored shown)))
+      (total id (added_tables (changes numbers lines (stored shown)))) (total id (stored left.backups)) (total id (tables_counted of))
+      (total id (tables_counted left))
       (ap (λ (t : List Rows). total id t + total id (taken_tables numbers lines (stored shown))) (sym left_stored)
-      ∙ folded-total id numbers lines (stored shown) same_length)
-      (few_counted (IsListed pool) (contents_of all) host.next (left_backups numbers host.backups) (left_shown numbers host shown)
-      (left_numbered numbers host.next host.backups at.numbered) at.few
-      (D.left_shown (IsListed pool) (contents_of all) numbers host.backups shown at.stands.shown) id)
-      (few_counted (IsListed pool) (contents_of all) host.next host.backups shown at.numbered at.few at.stands.shown id)
-      (taken-within id numbers lines (stored shown))
+      ∙ folded-total id numbers lines (stored shown) same_length) (total-counted id of) (total-counted id left))
+      (few_counted_in (IsListed pool) (contents_of all) number (left_host numbers host) left (all (F.Partial number))
+      (left_numbered numbers host.next host.backups at.numbered) at.few at.partial
+      (D.left_shown (IsListed pool) (contents_of all) numbers host.backups shown at.stands.shown) at.stands.partial id)
+      (few_counted_in (IsListed pool) (contents_of all) number host of (all (F.Partial number)) at.numbered at.few at.partial at.stands.shown
+      at.stands.partial id)
+      (within_more (total id (taken_tables numbers lines (stored shown))) (total id (stored shown)) (total id (of_partial of.partial))
+      (total id (tables_counted of)) (taken-within id numbers lines (stored shown)) (total-counted id of))
 
   index_left : left_index numbers (index_of_host number host) ≡ index_of_host number (left_host numbers host)
   index_left = ap (λ (ls : List Line). record (index_of_host number host) { lines = ls }) (sym (lines_left numbers host.backups))
@@ -109,42 +130,45 @@ module _ (catalog : Known) (told : Option Files) (old : Items) (number first end
       are_tables number 0 numbers (part first end b.index.lines) tables
       (rise_part first end b.index.lines (rise_sound b.index.next b.index.lines b.is_host.sound))
 
-  module _ (pool : Index) (all : Files) (host : Host) (shown : List StoredBackup) (is : told ≡ Some all)
-      (at : IsHostAtWork pool catalog old all number host shown) where
+  module _ (pool : Index) (all : Files) (host : Host) (of : StoredHost) (is : told ≡ Some all)
+      (at : IsHostAtWork pool catalog old all number host of) where
+    abbrev kept : List StoredBackup
+    kept = of.backups
+
     index_is : b.index ≡ index_of_host number host
     index_is = some_same b.index (index_of_host number host) (sym b.here ∙ at.index)
 
     lines_are : b.index.lines ≡ lines_of host.backups
     lines_are = ap (λ (i : HostIndex). i.lines) index_is
 
-    tables_are : tables ≡ part first end (stored shown)
-    tables_are = read all (part first end (stored shown)) is
-        (part_tables all number first end b.index.lines (stored shown)
-        (subst (λ (ls : List Line). AreTableFiles all number ls (stored shown)) (sym lines_are)
-        (tables_of_host (IsListed pool) (contents_of all) all number host shown at.stands)))
+    tables_are : tables ≡ part first end (stored kept)
+    tables_are = read all (part first end (stored kept)) is
+        (part_tables all number first end b.index.lines (stored kept)
+        (subst (λ (ls : List Line). AreTableFiles all number ls (stored kept)) (sym lines_are)
+        (tables_of_host (IsListed pool) (contents_of all) all number host of at.stands)))
 
     window : IsWindow numbers (lines_of host.backups) first end
     window = subst (λ (ls : List Line). IsWindow numbers ls first end) lines_are b.window
 
-    same : length (stored shown) ≡ length (lines_of host.backups)
-    same = same_length pool catalog old all number host shown numbers at
+    same : length (stored kept) ≡ length (lines_of host.backups)
+    same = same_length pool catalog old all number host of numbers at
 
     -- what the part tells is what all backups tell
-    made_is : made ≡ changes numbers (lines_of host.backups) (stored shown)
+    made_is : made ≡ changes numbers (lines_of host.backups) (stored kept)
     made_is =
         (λ i. changes numbers (part first end (lines_are i)) (tables_are i))
-        ∙ sym (changes-part numbers (lines_of host.backups) (stored shown) first end window same)
+        ∙ sym (changes-part numbers (lines_of host.backups) (stored kept) first end window same)
 
-    taken_is : taken_tables numbers (part first end b.index.lines) tables ≡ taken_tables numbers (lines_of host.backups) (stored shown)
+    taken_is : taken_tables numbers (part first end b.index.lines) tables ≡ taken_tables numbers (lines_of host.backups) (stored kept)
     taken_is =
         (λ i. taken_tables numbers (part first end (lines_are i)) (tables_are i))
-        ∙ sym (taken-part numbers (lines_of host.backups) (stored shown) first end window same)
+        ∙ sym (taken-part numbers (lines_of host.backups) (stored kept) first end window same)
 
-    counted : (id : PoolId) → N.number plan.counts id ≡ total id (stored (left_shown numbers host shown))
+    counted : AreCounts plan.counts (left_shown numbers host of)
     counted id =
         b.counted id
         ∙ (λ i. capped ((N.number old id - capped (total id (taken_is i))) + capped (total id (added_tables (made_is i)))))
-        ∙ left_counted pool catalog old all number host shown numbers at id
+        ∙ left_counted pool catalog old all number host of numbers at id
 
     image_is : applied plan.changes all ≡ applied (written b.listed number made plan.counts) all
     image_is = ap (λ (cs : List Change). applied cs all) b.changes_are
@@ -152,7 +176,7 @@ module _ (catalog : Known) (told : Option Files) (old : Items) (number first end
     at_file : (file : _) → applied plan.changes all file ≡ applied (written b.listed number made plan.counts) all file
     at_file file = ap (λ (f : Files). f file) image_is
 
-    deletes : IsDeletion numbers all (applied plan.changes all) number host (left_host numbers host) shown
+    deletes : IsDeletion numbers all (applied plan.changes all) number host (left_host numbers host) of
     deletes = record {
       backups_are = refl;
       numbered = left_numbered numbers host.next host.backups at.numbered;
@@ -161,10 +185,10 @@ module _ (catalog : Known) (told : Option Files) (old : Items) (number first end
           (host_of_catalog (applied b.listed all) (with_change catalog number (left_index numbers)) number
           (index_of_host number (left_host numbers host))
           (changed_here (left_index numbers) catalog.hosts number (index_of_host number host) at.index
-          ∙ ap (λ (i : HostIndex). Some i) (index_left pool catalog old all number host shown numbers at))
+          ∙ ap (λ (i : HostIndex). Some i) (index_left pool catalog old all number host of numbers at))
           (b.leads.leads all at.holds));
       tables = λ n.
-          subst (IsChangedTo (change_at (changes numbers (lines_of host.backups) (stored shown)) n) (all (F.Table number n)))
+          subst (IsChangedTo (change_at (changes numbers (lines_of host.backups) (stored kept)) n) (all (F.Table number n)))
           (sym (at_file (F.Table number n)))
           (subst (λ (m : List TableChange). IsChangedTo (change_at m n) (all (F.Table number n))
           (applied (written b.listed number made plan.counts) all (F.Table number n)))
@@ -176,6 +200,8 @@ module _ (catalog : Known) (told : Option Files) (old : Items) (number first end
         each = counted;
         is = at_file (F.Counts number) ∙ at_counts b.listed number made plan.counts one once all;
       };
+      parked = refl;
+      partial = at_file (F.Partial number) ∙ at_partial b.listed number made plan.counts one once all;
     }
 
   pub planned_of : IsPlanned catalog told old number numbers plan

@@ -32,6 +32,7 @@ use Rattle.office_model.specs.UsedNames.{AreSound, AreNamesAfter}
 use Rattle.office_known.specs.KnownLaws.{known_of_office}
 use Rattle.store_parts.specs.declared.parts.StoreParts.{StoreParts}
 use Rattle.store_parts.specs.Held.{IsKeptView, AreCountsOf}
+use Rattle.store_parts.specs.HeadLaws.{heads-stay}
 use Rattle.store_parts.specs.States.{slots, IsRunning}
 use Rattle.store_parts.specs.Runs.{Runs, Reads}
 use Rattle.store_parts.specs.Writes.{Writes}
@@ -97,6 +98,7 @@ module _ {D N S : Type 0} {d : DiskGhosts D} {n : NamerGhosts N S} where
   pub record IsFinished (p : ℕ) (plan : DeletionPlan) (mid new : StoreParts D N S d n) : Type 0 where
     pub catalog : new.catalog ≡ after plan.catalog mid.catalog
     pub counts : new.counts ≡ slice_set mid.counts p plan.counts
+    pub partials : new.partials ≡ mid.partials
     pub views : new.views.kept ≡ None
     pub journal : new.journal ≡ mid.journal
     pub pool : new.pool ≡ mid.pool
@@ -149,7 +151,7 @@ module _ {D N S : Type 0} {d : DiskGhosts D} {n : NamerGhosts N S} where
           record {
             carried = record { answer = answer; after = office_then office names at };
             judged = (shortens office names at).judged;
-            stands = record { index = index_of (slots old); backups = t.backups; stands = t.stands };
+            stands = record { index = index_of (slots old); shown = t.shown; stands = t.stands };
           }
 
       pub runs_write_failed : (new : StoreParts D N S d n) (refusal : Refusal) → Writes old plan.changes (Err refusal) new
@@ -173,8 +175,9 @@ module _ {D N S : Type 0} {d : DiskGhosts D} {n : NamerGhosts N S} where
             ready = at.ready;
             stored = at.stored;
             counted = at.counted;
+            parked = at.parked;
             sessions = at.sessions;
-            view = subst (λ (k : Option KeptView). IsKeptView k office.hosts at.backups) (sym f.views) tt;
+            view = subst (λ (k : Option KeptView). IsKeptView k office.hosts at.shown) (sym f.views) tt;
             sound = at.sound;
           };
           claimed = at.claimed;
@@ -187,6 +190,7 @@ module _ {D N S : Type 0} {d : DiskGhosts D} {n : NamerGhosts N S} where
           pool_same = w.pool_same;
           catalog_same = w.catalog_same;
           counts_same = w.counts_same;
+          partials_same = w.partials_same;
           sessions_same = w.sessions_same;
           views_same = refl;
           stays = w.stays;
@@ -199,11 +203,12 @@ module _ {D N S : Type 0} {d : DiskGhosts D} {n : NamerGhosts N S} where
             let s = shortens office names at in
             let t = then_is office names at in
             running_hosts (record old { views = new.views }) (record mid { views = new.views }) new office
-            (slice_set office.hosts p (left_host numbers s.host)) names (forgot office names at) plan.changes done t.backups written
+            (slice_set office.hosts p (left_host numbers s.host)) names (forgot office names at) plan.changes done t.shown written
             planned.are leaves t.stands
-            (subst (λ (k : Option KeptView). IsKeptView k (slice_set office.hosts p (left_host numbers s.host)) t.backups) (sym f.views) tt)
-            (subst (λ (c : List Items). AreCountsOf c t.backups)
+            (subst (λ (k : Option KeptView). IsKeptView k (slice_set office.hosts p (left_host numbers s.host)) t.shown) (sym f.views) tt)
+            (subst (λ (c : List Items). AreCountsOf c t.shown)
             (sym (f.counts ∙ ap (λ (c : List Items). slice_set c p plan.counts) w.counts_same)) t.counted)
+            (f.partials ∙ w.partials_same ∙ at.parked ∙ sym (heads-stay office.hosts p s.host (left_host numbers s.host) s.is_host refl))
             (sound_then old p numbers items plan has_items planned office names at event answer s
             (shortening.stay office names (Ok answer)))
             f.journal f.pool (f.catalog ∙ ap (after plan.catalog) w.catalog_same ∙ t.known) f.sessions refl f.halted

@@ -1,7 +1,7 @@
 -- What stands in the files after the changes of a deletion.
 --     are_tables      each table is named once
 --     are_written      they name metadata files, none twice
---     at_index, at_table, at_counts      the files of the host
+--     at_index, at_table, at_counts, at_partial      the files of the host
 --     at_other      another file stays
 use Rattle.std.specs.Prelude.{◌≡◌, ◌≢◌, ◌==◌, ◌<◌, ◌+◌, ℕ, Bool, true, false, List, [], ◌∷◌, ◌++◌, map, Option, Some, None, IfSome, option_map, if◌then◌else◌}
 use Rattle.std.specs.Option.{option_to_list}
@@ -168,6 +168,12 @@ module _ (host : ℕ) where
   counts_out [] = refl
   counts_out (x ∷ xs) = counts_out xs
 
+  partial_out : (tables : List TableChange) (counts : Items)
+      → names (table_part host tables ++ counts_change host counts ∷ []) (F.Partial host) ≡ false
+  unfolding is_same_file
+  partial_out [] counts = refl
+  partial_out (x ∷ xs) counts = partial_out xs counts
+
   others_out : (tables : List TableChange) (counts : Items) (asked : FileId) → is_of_host host asked ≡ false
       → names (table_part host tables ++ counts_change host counts ∷ []) asked ≡ false
   others_out [] counts asked out = rw (not_hosts host asked (F.Counts host) out (eq-eqb host host refl)) refl
@@ -238,6 +244,13 @@ module _ (index : List Change) (host : ℕ) (tables : List TableChange) (counts 
         (subst (λ (before : Option (List ℕ)). IsChangedTo (change_at tables n) before
         (applied (table_part host tables) first (F.Table host n)))
         (first_other (F.Table host n) refl) (tables_applied host n tables first are fit))
+
+    -- that of the partial stays
+    pub at_partial : applied (written index host tables counts) all (F.Partial host) ≡ all (F.Partial host)
+    unfolding is_same_file
+    at_partial =
+        image_is (F.Partial host) ∙ applied_other rest first (F.Partial host) (partial_out host tables counts)
+        ∙ first_other (F.Partial host) refl
 
     pub at_other : (file : FileId) → is_of_host host file ≡ false → applied (written index host tables counts) all file ≡ all file
     at_other file out =

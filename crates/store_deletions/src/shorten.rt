@@ -22,6 +22,7 @@ fn accept<D: Disk, N: Namer>(parts: &mut StoreParts<D, N>, host: usize, plan: De
     requires within { host < length parts.old.counts }
     ensures catalog { parts.new.catalog ≡ after plan.catalog parts.old.catalog }
     ensures counts { parts.new.counts ≡ slice_set parts.old.counts host plan.counts }
+    ensures partials { parts.new.partials ≡ parts.old.partials }
     ensures views { parts.new.views.kept ≡ None }
     ensures journal { parts.new.journal ≡ parts.old.journal }
     ensures pool { parts.new.pool ≡ parts.old.pool }

@@ -29,7 +29,7 @@ returns-clause-runs g c =
     (cleaned_by c.args.parts.now c.args.bucket _ c.in_ok-cleaning.cleaning c.as_slice.ensures c.in_ok-cleaning.ensures.cleaned)
     (not_none _ _ _ c.if-changes_nothing.ensures) c.in_ok-cleaning.ensures.leads c.write.new.self _ c.in-Ok.field-0
     (written_by c.args.parts.now c.write.new.self _ _ _ c.changes.ensures c.in-Ok.ensures)
-    c.accept.ensures.after c.accept.ensures.in_buckets refl refl refl refl refl refl
+    c.accept.ensures.after c.accept.ensures.in_buckets refl refl refl refl refl refl refl
 
 pub returns-in_err-cleaning-clause-undamaged : goal.returns-in_err-cleaning-clause-undamaged
 returns-in_err-cleaning-clause-undamaged g c = undamaged_memory c.from_residual.result c.from_residual.ensures.1

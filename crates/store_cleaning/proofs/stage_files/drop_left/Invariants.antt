@@ -1,4 +1,4 @@
-use Rattle.std.proofs.Common.{◌≡◌, false, drop, Some}
+use Rattle.std.proofs.Common.{◌≡◌, drop, Some}
 use Rattle.std.specs.Option.{option_map}
 use Rattle.disk_trait.specs.Files.{Files}
 use Rattle.journal_view.specs.View.{told}

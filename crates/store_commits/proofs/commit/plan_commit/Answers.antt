@@ -13,23 +13,27 @@ pub returns-in-Err-gather-clause-refused : goal.returns-in-Err-gather-clause-ref
 returns-in-Err-gather-clause-refused g c =
     gather_refused c.args.parts.now c.gather.new.journal c.args.at c.args.now c.index-dump.result.now
     (slice_get_read _ _ _ _ refl c.requires.within c.index-dump.ensures) c.in-Ok.lines c.in-Ok-tree.rows c.in-Ok.ensures.judged c.in-Ok-tree.ensures
+    c.of_host-head.result c.of_host-head.ensures
     c.in-Err-gather.refusal c.in-Err-gather.ensures.kind
 
 pub returns-in-Err-gather-clause-tables : goal.returns-in-Err-gather-clause-tables
 returns-in-Err-gather-clause-tables g c =
     gather_heeds c.args.parts.now c.gather.new.journal c.args.at c.args.now c.index-dump.result.now
     (slice_get_read _ _ _ _ refl c.requires.within c.index-dump.ensures) c.in-Ok.lines c.in-Ok-tree.rows c.in-Ok.ensures.judged c.in-Ok-tree.ensures
-    c.in-Err-gather.refusal c.in-Err-gather.ensures.tables
+    c.of_host-head.result c.of_host-head.ensures
+    c.in-Err-gather.refusal c.in-Err-gather.ensures.called
 
 pub returns-in-Ok-build-clause-planned : goal.returns-in-Ok-build-clause-planned
 returns-in-Ok-build-clause-planned g c =
     planned_of c.args.parts.now c.gather.new.journal c.args.at c.args.now c.index-dump.result.now
     (slice_get_read _ _ _ _ refl c.requires.within c.index-dump.ensures) c.in-Ok.lines c.in-Ok-tree.rows c.in-Ok.ensures.judged c.in-Ok-tree.ensures
-    c.in-Ok-gather.gathered.folding c.in-Ok-gather.gathered.counts c.in-Ok-build.plan c.in-Ok-gather.ensures.folded
-    c.in-Ok-gather.ensures.counts c.in-Ok-gather.ensures.within c.in-Ok-build.ensures
+    c.of_host-head.result c.of_host-head.ensures
+    c.in-Ok-gather.gathered.read.folding c.in-Ok-gather.gathered.read.parked c.in-Ok-gather.gathered.counts c.in-Ok-build.plan
+    c.in-Ok-gather.ensures.folded c.in-Ok-gather.ensures.parked c.in-Ok-gather.ensures.counts c.in-Ok-gather.ensures.within c.in-Ok-build.ensures
 
 pub returns-in-Ok-build-clause-tables : goal.returns-in-Ok-build-clause-tables
 returns-in-Ok-build-clause-tables g c =
     built_heeds c.args.parts.now c.gather.new.journal c.args.at c.args.now c.index-dump.result.now
     (slice_get_read _ _ _ _ refl c.requires.within c.index-dump.ensures) c.in-Ok.lines c.in-Ok-tree.rows c.in-Ok.ensures.judged c.in-Ok-tree.ensures
-    c.in-Ok-gather.ensures.tables
+    c.of_host-head.result c.of_host-head.ensures
+    c.in-Ok-gather.ensures.called

@@ -48,13 +48,14 @@ returns-clause-runs g c =
       form = c.accept_commit.ensures.form;
       catalog = c.accept_commit.ensures.catalog;
       counts = c.accept_commit.ensures.counts;
+      partials = c.accept_commit.ensures.partials;
       ends = c.accept_commit.ensures.ends;
       journal = c.accept_commit.ensures.journal;
       views = c.accept_commit.ensures.views;
       halted = c.accept_commit.ensures.halted;
     })
 
--- ---- the table that is called for
+-- ---- the table and the partial that are called for
 
 pub returns-in_err-at-clause-tables : goal.returns-in_err-at-clause-tables
 returns-in_err-at-clause-tables g c =

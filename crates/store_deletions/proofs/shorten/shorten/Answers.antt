@@ -37,6 +37,7 @@ returns-clause-runs g c = λ event answer shortening.
     (record {
       catalog = c.accept.ensures.catalog;
       counts = c.accept.ensures.counts;
+      partials = c.accept.ensures.partials;
       views = c.accept.ensures.views;
       journal = c.accept.ensures.journal;
       pool = c.accept.ensures.pool;
