@@ -14,7 +14,6 @@ use Rattle.journal_view.specs.View.{uncertain, Quiet, FindsOnly}
 use Rattle.journal_view.specs.ViewLaws.{FindsOnly-each, FindsOnly-then, FindsNow-each, working_finds, Quiet-then}
 use Rattle.pool_changes.specs.Kept.{slots_of, IsSame}
 use Rattle.pool_store.specs.Opened.{IsFresh}
-use Rattle.pool_store.specs.Opening.{AreFresh}
 use Rattle.office_model.specs.Office.{Durable, Names, raised, last_sequence}
 use Rattle.office_model.specs.Step.{IsPicked}
 use Rattle.office_files.specs.Stands.{StandsFor}
@@ -41,8 +40,8 @@ module _ {D : Type 0} {d : DiskGhosts D} (digest_of : List ℕ → List ℕ) (ol
   alike_either : (out : FileSet) → ((id : PoolId) → out (F.Pool id) ≡ false) → (found : Files) → IsAlikeBut holds.all out found
       → IsEither digest_of a b found
   alike_either out certain found alike = elim holds.either [
-    | inl s ↦ inl (alike_stands digest_of s.index s.backups holds.all found a out (λ id listed. certain id) s.stands alike)
-    | inr s ↦ inr (alike_stands digest_of s.index s.backups holds.all found b out (λ id listed. certain id) s.stands alike)
+    | inl s ↦ inl (alike_stands digest_of s.index s.shown holds.all found a out (λ id listed. certain id) s.stands alike)
+    | inr s ↦ inr (alike_stands digest_of s.index s.shown holds.all found b out (λ id listed. certain id) s.stands alike)
   ]
 
   certain_before : (id : PoolId) → uncertain old (F.Pool id) ≡ false
@@ -87,8 +86,8 @@ module _ {D N S : Type 0} {d : DiskGhosts D} (n : NamerGhosts N S) (old : Journa
 
     unfoldable pub begins_raised : (new : Journal D d) (next : Found N S n) (epoch : ℕ) → epoch ≡ found.catalog.epoch → epoch < last_sequence
         → IsSame (slots_of found.pool.names) (slots_of next.pool.names)
-        → ((office : Durable) (names : Names) → IsHeld mid found.pool found.catalog found.counts office names
-        → IsHeld new next.pool next.catalog next.counts (raised office) names)
+        → ((office : Durable) (names : Names) → IsHeld mid found.pool found.catalog found.counts found.partials office names
+        → IsHeld new next.pool next.catalog next.counts next.partials (raised office) names)
         → Raised new next a b
     begins_raised new next epoch read room same held = record {
       office = recovers.office;

@@ -2,7 +2,7 @@
 --     noted_table, noted_next, noted_lists      a set of the tables among files
 --     all_there, a_gap      what the first that is missing says
 --     missing_known      none is missing among the files of an office
-use Rattle.std.specs.Prelude.{◌||◌, if◌then◌else◌, is_some, slice_get, cond, map}
+use Rattle.std.specs.Prelude.{◌||◌, if◌then◌else◌, is_some, slice_get, cond}
 use Rattle.std.specs.BTreeMap.{is_at}
 use Rattle.std.specs.List.{list_any}
 use Rattle.std.specs.BTreeSet.{BTreeSet, IsEmpty, contains, Updates}
@@ -21,7 +21,7 @@ use Rattle.intent_journal.specs.ChangesLaws.{either}
 use Rattle.journal_view.specs.Found.{ListsSeen}
 use Rattle.journal_view.specs.View.{told}
 use Rattle.merge_view.specs.Views.{Rows}
-use Rattle.ref_counts.specs.Stored.{Backup as StoredBackup, stored}
+use Rattle.ref_counts.specs.Stored.{StoredHost, stored}
 use Rattle.office_model.specs.Office.{Durable, Host, Backup}
 use Rattle.office_model.specs.Parts.{lines_of}
 use Rattle.office_files.specs.Hosts.{index_of_host, StandsHost}
@@ -31,8 +31,7 @@ use Rattle.office_files.specs.Pooled.{contents_of, IsListed}
 use Rattle.office_files.specs.Stands.{StandsFor}
 use Rattle.office_catalog.specs.Known.{Known}
 use Rattle.office_catalog.specs.Held.{HoldsCatalog}
-use Rattle.office_known.specs.KnownLaws.{indices_from, index_at, known_of_office, one_catalog}
-use Rattle.store_opening.specs.declared.fault.OpenRefusal.{OpenRefusal}
+use Rattle.office_known.specs.KnownLaws.{index_at, known_of_office, one_catalog}
 use Rattle.store_opening.specs.declared.fault.OpenRefusal.TheVariants.{Foreign}
 use Rattle.store_opening.specs.Recovers.{Holds}
 use Rattle.store_opening.specs.Tables.{is_table, noted, first_gap, first_of_hosts, HasTables, IsMissingTable}
@@ -279,7 +278,7 @@ never_missing : (digest_of : List ℕ → List ℕ) (all : Files) (office : Dura
 never_missing digest_of all office file found s m = false≢true (ap is_some (sym m.absent) ∙ ap is_some (ap all named ∙ table.is))
   where
     known : m.known ≡ known_of_office office
-    known = one_catalog digest_of s.index s.backups all office s.stands m.known m.holds
+    known = one_catalog digest_of s.index s.shown all office s.stands m.known m.holds
 
     place : (h : Host) × (slice_get office.hosts m.host ≡ Some h) × (m.index ≡ index_of_host (0 + m.host) h)
     place = index_at 0 office.hosts m.host m.index (subst (λ (k : Known). slice_get k.hosts m.host ≡ Some m.index) known m.is_host)
@@ -287,14 +286,14 @@ never_missing digest_of all office file found s m = false≢true (ap is_some (sy
     backup : (b : Backup) × (slice_get place.0.backups m.i ≡ Some b) × (b.line ≡ m.line)
     backup = line_at place.0.backups m.i m.line (subst (λ (x : Index). slice_get x.lines m.i ≡ Some m.line) place.2 m.is_line)
 
-    shown : (b : List StoredBackup) × (slice_get s.backups m.host ≡ Some b)
-    shown = other_at office.hosts s.backups m.host place.0 s.stands.hosts.counted place.1
+    of : (b : StoredHost) × (slice_get s.shown m.host ≡ Some b)
+    of = other_at office.hosts s.shown m.host place.0 s.stands.hosts.counted place.1
 
-    stands : StandsHost (IsListed s.index) (contents_of all) all m.host place.0 shown.0
-    stands = s.stands.hosts.each m.host place.0 shown.0 place.1 shown.1
+    stands : StandsHost (IsListed s.index) (contents_of all) all m.host place.0 of.0
+    stands = s.stands.hosts.each m.host place.0 of.0 place.1 of.1
 
-    rows : (r : Rows) × (slice_get (stored shown.0) m.i ≡ Some r)
-    rows = other_at place.0.backups (stored shown.0) m.i backup.0 stands.tables.counted backup.1
+    rows : (r : Rows) × (slice_get (stored of.0.backups) m.i ≡ Some r)
+    rows = other_at place.0.backups (stored of.0.backups) m.i backup.0 stands.tables.counted backup.1
 
     table : IsTableFile rows.0 (all (F.Table m.host backup.0.line.number))
     table = stands.tables.each m.i backup.0 rows.0 backup.1 rows.1

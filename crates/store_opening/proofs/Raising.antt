@@ -28,7 +28,8 @@ use Rattle.pool_store.specs.declared.pool.Pool.{Pool}
 use Rattle.pool_store.specs.Fits.{Fits, fits_less}
 use Rattle.pool_store.specs.Sweeps.{AreAllUsed}
 use Rattle.ref_counts.specs.Numbers.{Items}
-use Rattle.ref_counts.specs.Stored.{Backup as StoredBackup}
+use Rattle.ref_counts.specs.Stored.{StoredHost}
+use Rattle.host_partials.specs.declared.held.PartialHead.{PartialHead}
 use Rattle.office_model.specs.Office.{Durable, Host, Names, raised}
 use Rattle.office_model.specs.laws.ReopenLaws.{IsSoundDurable-raised}
 use Rattle.office_files.specs.Layouts.{IsHeadFile}
@@ -43,7 +44,7 @@ use Rattle.office_catalog.specs.Known as K
 use Rattle.office_catalog.specs.Changed.{after, Leads}
 use Rattle.office_catalog.specs.Held.{HoldsCatalog, HoldsIndex, HoldsNames}
 use Rattle.office_known.specs.KnownLaws.{indices_from, known_of_office, stands_catalog, head_of_catalog}
-use Rattle.store_parts.specs.Held.{AreCountsOf, AreUsed, IsEither, IsStored, MayBe}
+use Rattle.store_parts.specs.Held.{AreCountsOf, AreUsed, heads_of, IsEither, IsStored, MayBe}
 use Rattle.store_parts.specs.StoredLaws.{stored_found, either_left}
 use Rattle.store_parts.specs.WriteLaws.{tells_in_kept}
 use Rattle.store_opening.specs.declared.next.NextEpoch.{NextEpoch}
@@ -151,34 +152,34 @@ module _ (in_one : Bool) (index : Index) (pooled heads : List Change) (leads : L
     }
 
     -- and the files stand for the office
-    pub both_stands : (digest_of : List ℕ → List ℕ) (backups : List (List StoredBackup)) (office : Durable)
+    pub both_stands : (digest_of : List ℕ → List ℕ) (shown : List StoredHost) (office : Durable)
         → is_some (applied heads all F.Head) ≡ true → TellsIn in_one index all
-        → Stands digest_of index backups (applied heads all) (raised office)
-        → Stands digest_of index backups (applied (pooled ++ heads) all) (raised office)
-    both_stands digest_of backups office there tells stands =
-        relisted_stands digest_of index index backups (applied heads all) (applied (pooled ++ heads) all) (raised office) office.pool
+        → Stands digest_of index shown (applied heads all) (raised office)
+        → Stands digest_of index shown (applied (pooled ++ heads) all) (raised office)
+    both_stands digest_of shown office there tells stands =
+        relisted_stands digest_of index index shown (applied heads all) (applied (pooled ++ heads) all) (raised office) office.pool
         (λ file metadata out. at_same file out) (λ id listed. (listed, at_same (F.Pool id) refl)) (λ id listed holds. listed)
         (λ none. false≢true (sym (ap is_some none) ∙ there)) (inr (both_tells tells))
         (pool_kept index (contents_of (applied heads all)) (contents_of (applied (pooled ++ heads) all))
         (λ id listed. ap bytes_of (sym (at_same (F.Pool id) refl))) digest_of office.pool stands.pool) stands.sound stands
 
 -- the changes lead to the next epoch
-module _ (digest_of : List ℕ → List ℕ) (index : Index) (backups : List (List StoredBackup)) (all : Files) (office : Durable)
+module _ (digest_of : List ℕ → List ℕ) (index : Index) (shown : List StoredHost) (all : Files) (office : Durable)
     (changes : List Change)
     (leads : Leads (known_of_office office) (with_epoch (known_of_office office) (office.epoch + 1)) (F.Head ∷ []) changes)
-    (stands : Stands digest_of index backups all office) where
+    (stands : Stands digest_of index shown all office) where
   head_raised : IsHeadFile (office.epoch + 1) (names_of office.hosts) (applied changes all F.Head)
   head_raised =
       subst (λ (ns : List (List ℕ)). IsHeadFile (office.epoch + 1) ns (applied changes all F.Head)) (names_same 0 office.hosts)
       (head_of_catalog (applied changes all) (with_epoch (known_of_office office) (office.epoch + 1))
-      (leads.leads all (stands_catalog digest_of index backups all office stands)))
+      (leads.leads all (stands_catalog digest_of index shown all office stands)))
 
   pub raised_there : is_some (applied changes all F.Head) ≡ true
   raised_there = head_there office.epoch (names_of office.hosts) (applied changes all F.Head) head_raised
 
-  pub raised_stands : Stands digest_of index backups (applied changes all) (raised office)
+  pub raised_stands : Stands digest_of index shown (applied changes all) (raised office)
   raised_stands =
-      epoch_raised digest_of index backups all (applied changes all) office
+      epoch_raised digest_of index shown all (applied changes all) office
       (λ file metadata other. head_only changes all file leads.named other)
       (λ id listed. head_only changes all (F.Pool id) leads.named (content_apart id))
       (head_there office.epoch (names_of office.hosts) (applied changes all F.Head) head_raised) head_raised
@@ -228,11 +229,11 @@ module _ {D N S : Type 0} {d : DiskGhosts D} {n : NamerGhosts N S} (journal : Jo
     leads = subst (λ (known : Known). Leads known (with_epoch known (known.epoch + 1)) (F.Head ∷ []) heads) at.catalog_is
         is.proposes.leads
 
-    next_stands : Stands n.digest_of (index_of (slots_of pool.names)) at.backups (applied changes at.all) (raised office)
+    next_stands : Stands n.digest_of (index_of (slots_of pool.names)) at.shown (applied changes at.all) (raised office)
     next_stands =
-        both_stands pool.in_one_file (index_of (slots_of pool.names)) is.pooled heads is.leads leads.named at.all n.digest_of at.backups
-        office (raised_there n.digest_of (index_of (slots_of pool.names)) at.backups at.all office heads leads at.stands) at.tells
-        (raised_stands n.digest_of (index_of (slots_of pool.names)) at.backups at.all office heads leads at.stands)
+        both_stands pool.in_one_file (index_of (slots_of pool.names)) is.pooled heads is.leads leads.named at.all n.digest_of at.shown
+        office (raised_there n.digest_of (index_of (slots_of pool.names)) at.shown at.all office heads leads at.stands) at.tells
+        (raised_stands n.digest_of (index_of (slots_of pool.names)) at.shown at.all office heads leads at.stands)
 
     content_same : (id : PoolId) → applied changes at.all (F.Pool id) ≡ at.all (F.Pool id)
     content_same id =
@@ -250,9 +251,9 @@ module _ {D N S : Type 0} {d : DiskGhosts D} {n : NamerGhosts N S} (journal : Jo
       stored_raised known known_is ready done certain = record {
         journal_ready = ready;
         all = applied changes at.all;
-        backups = at.backups;
+        shown = at.shown;
         told_is = done ∙ ap (option_map (applied changes)) at.told_is;
-        stands = subst (λ (s : Slots). Stands n.digest_of (index_of s) at.backups (applied changes at.all) (raised office)) slots_same
+        stands = subst (λ (s : Slots). Stands n.digest_of (index_of s) at.shown (applied changes at.all) (raised office)) slots_same
             next_stands;
         tells = subst (λ (b : Bool). TellsIn b (index_of (slots_of after_pool.names)) (applied changes at.all)) (sym form)
             (subst (λ (s : Slots). TellsBuckets (index_of s) (applied changes at.all)) slots_same
@@ -269,19 +270,22 @@ module _ {D N S : Type 0} {d : DiskGhosts D} {n : NamerGhosts N S} (journal : Jo
         catalog_is = known_is ∙ is.proposes.after_is ∙ ap (λ (k : Known). with_epoch k (k.epoch + 1)) at.catalog_is;
       }
 
-      pub held_raised : (counts : List Items) → AreCountsOf counts at.backups → (known : Known) → known ≡ after next.catalog catalog
+      pub held_raised : (counts : List Items) → AreCountsOf counts at.shown → (partials : List (Option PartialHead))
+          → partials ≡ heads_of office.hosts → (known : Known) → known ≡ after next.catalog catalog
           → new.halted ≡ false → told new ≡ option_map (applied changes) (told journal)
-          → (is_some (told journal) ≡ true → IsWithin (uncertain new) intent_alone) → IsHeld new after_pool known counts (raised office) names
+          → (is_some (told journal) ≡ true → IsWithin (uncertain new) intent_alone)
+          → IsHeld new after_pool known counts partials (raised office) names
       unfolding stored_raised
-      held_raised counts counted known known_is ready done certain = record {
+      held_raised counts counted partials parked known known_is ready done certain = record {
         stored = stored_raised known known_is ready done certain;
         counted = counted;
+        parked = parked;
       }
 
     either_raised : (found : Files) → IsOldOrNew at.all (uncertain journal) changes found
         → IsEither n.digest_of office (raised office) found
     either_raised = either_left journal pool catalog office names at changes (raised office)
-        (record { index = index_of (slots_of pool.names); backups = at.backups; stands = next_stands })
+        (record { index = index_of (slots_of pool.names); shown = at.shown; stands = next_stands })
 
     -- whatever the commit answers
     pub looks_raised : (new : Journal D d) (result : Result (Unit {0}) JournalFault) → Committed journal changes result new

@@ -27,14 +27,15 @@ use Rattle.office_files.specs.OneLaws.{one_listing}
 use Rattle.office_files.specs.Stands.{Stands, StandsFor}
 use Rattle.office_catalog.specs.Held.{HoldsCatalog, IsForeign as IsForeignToCatalog}
 use Rattle.host_counts.specs.Held.{AreTold}
+use Rattle.host_partials.specs.Held.{AreTold as ArePartialsTold}
 use Rattle.office_known.specs.KnownLaws.{one_catalog}
 use Rattle.office_pool.specs.FitLaws.{fits_stands}
 use Rattle.store_parts.specs.Held.{IsEither, IsStored}
 use Rattle.store_parts.specs.WriteLaws.{tells_in_kept}
 use Rattle.store_opening.specs.declared.found.Found.{Found}
 use Rattle.store_opening.specs.Strays.{IsStray}
-use Rattle.store_opening.specs.Recovers.{Holds, IsHeld, IsWithoutCounts, IsForeign, Recovers}
-use Rattle.store_opening.proofs.HostTotals.{counts_of_office}
+use Rattle.store_opening.specs.Recovers.{Holds, IsHeld, IsForeignToHosts, IsForeign, Recovers}
+use Rattle.store_opening.proofs.HostTotals.{counts_of_office, heads_of_office}
 use Rattle.store_opening.proofs.Strays.{never_stray}
 use Rattle.store_opening.proofs.UsedNames.{used_of, used_names}
 
@@ -78,16 +79,16 @@ module _ {D N S : Type 0} {d : DiskGhosts D} {n : NamerGhosts N S} where
   read_one new found all raw office ready told_is same certain opens fresh holds s = record {
     journal_ready = ready;
     all = all;
-    backups = s.backups;
+    shown = s.shown;
     told_is = told_is;
     stands = stands;
     tells = tells;
-    fits = fits_stands n.digest_of slots s.backups all office (uncertain new) (λ id given. fresh_live (slots id) (fresh id) given)
+    fits = fits_stands n.digest_of slots s.shown all office (uncertain new) (λ id given. fresh_live (slots id) (fresh id) given)
         (λ id live. certain id) stands;
     all_used = λ id there. opens.used id ∙ ap is_some (at_file raw all same (F.Pool id)) ∙ there;
     used = used_names found.pool.names;
     digest = refl;
-    catalog_is = one_catalog n.digest_of s.index s.backups all office s.stands found.catalog holds;
+    catalog_is = one_catalog n.digest_of s.index s.shown all office s.stands found.catalog holds;
   }
     where
       slots : Slots
@@ -103,36 +104,38 @@ module _ {D N S : Type 0} {d : DiskGhosts D} {n : NamerGhosts N S} where
       index_is = λ i id. one_listing s.index (index_of slots) all s.stands.index_told
           (tells_any found.pool.in_one_file (index_of slots) all tells) id i
 
-      stands : Stands n.digest_of (index_of slots) s.backups all office
-      stands = subst (λ (index : Index). Stands n.digest_of index s.backups all office) index_is s.stands
+      stands : Stands n.digest_of (index_of slots) s.shown all office
+      stands = subst (λ (index : Index). Stands n.digest_of index s.shown all office) index_is s.stands
 
   held_one : (new : Journal D d) (found : Found N S n) (all raw : Files) (office : Durable) → new.halted ≡ false → told new ≡ Some all
       → seen raw ≡ all → ((id : PoolId) → uncertain new (F.Pool id) ≡ false) → Opens found.pool.in_one_file (slots_of found.pool.names) raw
       → AreFresh (slots_of found.pool.names) → HoldsCatalog all found.catalog
-      → AreTold all (length found.catalog.hosts) found.counts → StandsFor n.digest_of all office
-      → IsHeld new found.pool found.catalog found.counts office (found_names found)
+      → AreTold all (length found.catalog.hosts) found.counts → ArePartialsTold all (length found.catalog.hosts) found.partials
+      → StandsFor n.digest_of all office → IsHeld new found.pool found.catalog found.counts found.partials office (found_names found)
   unfolding read_one
-  held_one new found all raw office ready told_is same certain opens fresh holds told s = record {
+  held_one new found all raw office ready told_is same certain opens fresh holds told parked s = record {
     stored = read_one new found all raw office ready told_is same certain opens fresh holds s;
-    counted = counts_of_office n.digest_of s.index s.backups all office s.stands found.catalog found.counts holds told;
+    counted = counts_of_office n.digest_of s.index s.shown all office s.stands found.catalog found.counts holds told;
+    parked = heads_of_office n.digest_of s.index s.shown all office s.stands found.catalog found.partials holds parked;
   }
 
   pub recovered_by : (old new : Journal D d) (found : Found N S n) (a b : Durable) → old.halted ≡ false → Quiet old new
       → Holds n.digest_of old a b
       → ((all : Files) → d.files old.disk ≡ Some all → Opens found.pool.in_one_file (slots_of found.pool.names) all)
       → AreFresh (slots_of found.pool.names) → ((all : Files) → told old ≡ Some all → HoldsCatalog all found.catalog)
-      → ((all : Files) → told old ≡ Some all → AreTold all (length found.catalog.hosts) found.counts) → Recovers new found a b
-  recovered_by old new found a b ready quiet holds opens fresh catalog counts = step holds.either
+      → ((all : Files) → told old ≡ Some all → AreTold all (length found.catalog.hosts) found.counts)
+      → ((all : Files) → told old ≡ Some all → ArePartialsTold all (length found.catalog.hosts) found.partials) → Recovers new found a b
+  recovered_by old new found a b ready quiet holds opens fresh catalog counts partials = step holds.either
     where
       raw : (files : Files) × (d.files old.disk ≡ Some files) × (seen files ≡ holds.all)
       raw = told_raw (d.files old.disk) holds.all holds.told_is
 
       held : (office : Durable) → StandsFor n.digest_of holds.all office
-          → IsHeld new found.pool found.catalog found.counts office (found_names found)
+          → IsHeld new found.pool found.catalog found.counts found.partials office (found_names found)
       held office s =
           held_one new found holds.all raw.0 office (quiet.halted_same ∙ ready) (quiet.told_same ∙ holds.told_is) raw.2
           (λ id. quiet.certain.each (F.Pool id) (holds.certain.each (F.Pool id) refl)) (opens raw.0 raw.1) fresh (catalog holds.all holds.told_is)
-          (counts holds.all holds.told_is) s
+          (counts holds.all holds.told_is) (partials holds.all holds.told_is) s
 
       step : IsEither n.digest_of a b holds.all → Recovers new found a b
       step (inl s) = record {
@@ -153,7 +156,7 @@ module _ {D N S : Type 0} {d : DiskGhosts D} {n : NamerGhosts N S} where
 -- ---- what is foreign to hosts is foreign, and was so before a read
 
 pub foreign_hosts : (old now : Option Files) (file : FileId) (found : Option (List ℕ)) → now ≡ old
-    → IsForeignToCatalog now file found ⊎ ((all : Files) → now ≡ Some all → IsWithoutCounts all file found) → IsForeign old file found
+    → IsForeignToCatalog now file found ⊎ ((all : Files) → now ≡ Some all → IsForeignToHosts all file found) → IsForeign old file found
 foreign_hosts old now file found same (inl foreign) = inr (inl (subst (λ (t : Option Files). IsForeignToCatalog t file found) same foreign))
 foreign_hosts old now file found same (inr without) = inr (inr (inl (λ all is. without all (same ∙ is))))
 

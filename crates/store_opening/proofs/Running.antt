@@ -1,6 +1,6 @@
 -- A store that was opened again, and the step of the model that it took.
 use Rattle.std.specs.Prelude.{IsErrOf, is_some, nat_le, ◌||◌}
-use Rattle.std.proofs.Common.{◌≡◌, ℕ, ◌+◌, ◌<◌, ◌≤◌, Bool, false, true, List, [], Option, None, Some, Ok, Err, refl, sym, ap, ◌∙◌, subst, inl, inr, arith}
+use Rattle.std.proofs.Common.{◌≡◌, ℕ, ◌+◌, ◌<◌, ◌≤◌, Bool, false, true, List, Option, None, Some, Ok, Err, refl, sym, ap, ◌∙◌, subst, inl, inr, arith}
 use Rattle.std.proofs.lemmas.Bool.Decides.{nat_tests}
 use Rattle.fault_counts.specs.Counts.{Counted}
 use Rattle.disk_trait.specs.declared.ids.FileId.{FileId}
@@ -18,7 +18,8 @@ use Rattle.pool_store.specs.Opened.{IsFresh}
 use Rattle.pool_store.specs.Opening.{AreFresh, AreThePoolFiles}
 use Rattle.backup_views.specs.declared.kept.KeptView.{KeptView}
 use Rattle.ref_counts.specs.Numbers.{Items}
-use Rattle.ref_counts.specs.Stored.{Backup as StoredBackup}
+use Rattle.ref_counts.specs.Stored.{StoredHost}
+use Rattle.host_partials.specs.declared.held.PartialHead.{PartialHead}
 use Rattle.open_sessions.specs.Opened.{AreNumbers}
 use Rattle.open_sessions.specs.SessionLaws.{AreSessions-none, claims_in-none}
 use Rattle.office_catalog.specs.Known.{Known}
@@ -61,12 +62,12 @@ fresh_claims (Some (Live size mark claims)) fresh = fresh
 fresh_claims (Some (Staged size claims)) fresh = absurd fresh
 fresh_claims (Some Doomed) fresh = refl
 
-kept_none : (kept : Option KeptView) (hosts : List Host) (backups : List (List StoredBackup)) → kept ≡ None → IsKeptView kept hosts backups
-kept_none kept hosts backups e = subst (λ (k : Option KeptView). IsKeptView k hosts backups) (sym e) tt
+kept_none : (kept : Option KeptView) (hosts : List Host) (shown : List StoredHost) → kept ≡ None → IsKeptView kept hosts shown
+kept_none kept hosts shown e = subst (λ (k : Option KeptView). IsKeptView k hosts shown) (sym e) tt
 
 -- the epoch is no part of what is sound
 not_raised : (kept : Durable) → IsSoundDurable (raised kept) → IsSoundDurable kept
-not_raised kept sound = record { hosts = sound.hosts; pool_order = sound.pool_order; of_backups = sound.of_backups }
+not_raised kept sound = record { hosts = sound.hosts; pool_order = sound.pool_order; of_backups = sound.of_backups; of_partials = sound.of_partials }
 
 abbrev numbered_from : ℕ → ℕ → Names → Names
 numbered_from next_stage next_reader names = record names { next_stage = next_stage; next_reader = next_reader }
@@ -79,7 +80,7 @@ module _ {D N S : Type 0} {d : DiskGhosts D} {n : NamerGhosts N S} where
   stored_from journal pool catalog office names next_stage next_reader at = record {
     journal_ready = at.journal_ready;
     all = at.all;
-    backups = at.backups;
+    shown = at.shown;
     told_is = at.told_is;
     stands = at.stands;
     tells = at.tells;
@@ -90,27 +91,29 @@ module _ {D N S : Type 0} {d : DiskGhosts D} {n : NamerGhosts N S} where
     catalog_is = at.catalog_is;
   }
 
-  held_from : (journal : Journal D d) (pool : Pool N S n) (catalog : Known) (counts : List Items) (office : Durable) (names : Names)
-      (next_stage next_reader : ℕ) → IsHeld journal pool catalog counts office names
-      → IsHeld journal pool catalog counts office (numbered_from next_stage next_reader names)
+  held_from : (journal : Journal D d) (pool : Pool N S n) (catalog : Known) (counts : List Items) (partials : List (Option PartialHead))
+      (office : Durable) (names : Names) (next_stage next_reader : ℕ) → IsHeld journal pool catalog counts partials office names
+      → IsHeld journal pool catalog counts partials office (numbered_from next_stage next_reader names)
   unfolding stored_from
-  held_from journal pool catalog counts office names next_stage next_reader held = record {
+  held_from journal pool catalog counts partials office names next_stage next_reader held = record {
     stored = stored_from journal pool catalog office names next_stage next_reader held.stored;
     counted = held.counted;
+    parked = held.parked;
   }
 
   -- a store of these parts is at work
   fresh_running : (parts : StoreParts D N S d n) (found : Found N S n) (office : Durable) (names : Names)
       → IsOfFound parts found names.next_stage names.next_reader → AreFresh (slots parts)
-      → IsHeld parts.journal parts.pool parts.catalog parts.counts (raised office) names → IsRunning parts (reopened office) names
+      → IsHeld parts.journal parts.pool parts.catalog parts.counts parts.partials (raised office) names → IsRunning parts (reopened office) names
   fresh_running parts found office names is fresh held = record {
     working = record {
       ready = is.ready;
       stored = held.stored;
       counted = held.counted;
+      parked = held.parked;
       sessions = AreSessions-none n.holds (given (slots parts)) (contents_of held.stored.all) (staging_of held.stored.all names)
           parts.sessions is.none is.first is.numbers;
-      view = kept_none parts.views.kept office.hosts held.stored.backups is.no_view;
+      view = kept_none parts.views.kept office.hosts held.stored.shown is.no_view;
       sound = record {
         office = IsSound-reopened office (not_raised office held.stored.stands.sound);
         names = record {
@@ -129,15 +132,17 @@ module _ {D N S : Type 0} {d : DiskGhosts D} {n : NamerGhosts N S} where
   found_running parts journal found a b next_stage next_reader rose is same =
       fresh_running parts found rose.office (numbered_from next_stage next_reader rose.names) is
       (subst (λ (p : Pool N S n). AreFresh (slots_of p.names)) (sym is.pool_is) rose.fresh)
-      (held_from parts.journal parts.pool parts.catalog parts.counts (raised rose.office) rose.names next_stage next_reader held)
+      (held_from parts.journal parts.pool parts.catalog parts.counts parts.partials (raised rose.office) rose.names next_stage next_reader held)
     where
-      held : IsHeld parts.journal parts.pool parts.catalog parts.counts (raised rose.office) rose.names
+      held : IsHeld parts.journal parts.pool parts.catalog parts.counts parts.partials (raised rose.office) rose.names
       held =
-          subst (λ (j : Journal D d). IsHeld j parts.pool parts.catalog parts.counts (raised rose.office) rose.names) (sym same)
-          (subst (λ (p : Pool N S n). IsHeld journal p parts.catalog parts.counts (raised rose.office) rose.names) (sym is.pool_is)
-          (subst (λ (k : Known). IsHeld journal found.pool k parts.counts (raised rose.office) rose.names) (sym is.catalog_is)
-          (subst (λ (c : List Items). IsHeld journal found.pool found.catalog c (raised rose.office) rose.names) (sym is.counts_are)
-          rose.held)))
+          subst (λ (j : Journal D d). IsHeld j parts.pool parts.catalog parts.counts parts.partials (raised rose.office) rose.names) (sym same)
+          (subst (λ (p : Pool N S n). IsHeld journal p parts.catalog parts.counts parts.partials (raised rose.office) rose.names) (sym is.pool_is)
+          (subst (λ (k : Known). IsHeld journal found.pool k parts.counts parts.partials (raised rose.office) rose.names) (sym is.catalog_is)
+          (subst (λ (c : List Items). IsHeld journal found.pool found.catalog c parts.partials (raised rose.office) rose.names)
+          (sym is.counts_are)
+          (subst (λ (h : List (Option PartialHead)). IsHeld journal found.pool found.catalog found.counts h (raised rose.office) rose.names)
+          (sym is.partials_are) rose.held))))
 
   -- a store that reopened, whose numbers go on
   pub raised_running : (old parts : StoreParts D N S d n) (journal : Journal D d) (found : Found N S n) (a b : Durable) (epoch : ℕ)
@@ -336,10 +341,11 @@ module _ {D N S : Type 0} {d : DiskGhosts D} {n : NamerGhosts N S} where
     pool_same = ap (λ (p : StoreParts D N S d n). p.pool) stays;
     catalog_same = ap (λ (p : StoreParts D N S d n). p.catalog) stays;
     counts_same = ap (λ (p : StoreParts D N S d n). p.counts) stays;
+    partials_same = ap (λ (p : StoreParts D N S d n). p.partials) stays;
     sessions_same = ap (λ (p : StoreParts D N S d n). p.sessions) stays;
     halted_same = halted;
     view = λ office names at.
-        subst (λ (p : StoreParts D N S d n). IsKeptView p.views.kept office.hosts at.backups) (sym stays) at.view;
+        subst (λ (p : StoreParts D N S d n). IsKeptView p.views.kept office.hosts at.shown) (sym stays) at.view;
   }
 
   may_of : (parts : StoreParts D N S d n) (state : State) → InState parts state

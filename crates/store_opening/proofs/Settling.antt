@@ -2,9 +2,7 @@
 --     synced_of, stopped_of      from the clauses of a journal
 --     ends_still, ends_spent, ends_raised, ends_between      the office that an opening began with
 --     settles_then, stops_unopened      the office to which a disk came
-use Rattle.std.specs.Prelude.{option_map}
-use Rattle.std.proofs.Common.{◌≡◌, ◌⊎◌, ℕ, ◌<◌, ◌≤◌, false, List, Option, Some, Ok, Err, refl, sym, ap, ◌∙◌, subst, inl, inr, ⊎_elim}
-use Rattle.disk_trait.specs.declared.ids.FileId.{FileId}
+use Rattle.std.proofs.Common.{◌≡◌, ℕ, ◌<◌, false, List, Some, Ok, Err, refl, sym, subst, inl, inr, ⊎_elim}
 use Rattle.disk_trait.specs.declared.ids.FileId.TheVariants as F
 use Rattle.disk_trait.specs.declared.disk.Disk.{Ghosts as DiskGhosts}
 use Rattle.disk_trait.specs.Files.{Files}
@@ -14,7 +12,7 @@ use Rattle.intent_journal.specs.declared.fault.OpenJournalFault.{OpenJournalFaul
 use Rattle.intent_journal.specs.declared.journal.Journal.{Journal}
 use Rattle.intent_journal.specs.Calls.{Opens, Refuses}
 use Rattle.intent_journal.specs.Overlay.{Recovers as RecoversDisk}
-use Rattle.journal_view.specs.Found.{seen, Finds, FindsAll, CanFind, IsOpenable, IsAlikeBut}
+use Rattle.journal_view.specs.Found.{seen, FindsAll, IsOpenable, IsAlikeBut}
 use Rattle.journal_view.specs.FoundLaws.{itself, rest_told, finds_each, finds_whole, finds_wider}
 use Rattle.journal_view.specs.View.{told, uncertain, Quiet}
 use Rattle.journal_view.specs.ViewLaws.{FindsOnly-each}
@@ -28,8 +26,7 @@ use Rattle.store_parts.specs.StoredLaws.{alike_stands}
 use Rattle.store_opening.specs.declared.found.Found.{Found}
 use Rattle.store_opening.specs.declared.fault.OpenRefusal.{OpenRefusal}
 use Rattle.store_opening.specs.Recovers.{Holds, IsHeld, Looks, Recovers}
-use Rattle.store_opening.specs.Begins.{Raised}
-use Rattle.store_opening.specs.Settles.{Synced, IsSynced, MayBeSynced, ComesToOne, IsStopped, IsOfOne, Ends, Settles}
+use Rattle.store_opening.specs.Settles.{Synced, IsSynced, MayBeSynced, ComesToOne, IsStopped, IsOfOne, Ends}
 use Rattle.store_opening.specs.SettlesLaws.{only_after}
 use Rattle.store_opening.proofs.Beginning.{begins_raised}
 
@@ -85,7 +82,7 @@ module _ {D N S : Type 0} {d : DiskGhosts D} (n : NamerGhosts N S) (old : Journa
   one_still office s new quiet = record {
     was = of_told office s;
     crash = FindsOnly-each (IsAlikeBut holds.all (uncertain old)) (IsEither n.digest_of office (raised office)) old new
-        (λ found alike. inl (alike_stands n.digest_of s.index s.backups holds.all found office (uncertain old)
+        (λ found alike. inl (alike_stands n.digest_of s.index s.shown holds.all found office (uncertain old)
         (λ id listed. holds.certain.each (F.Pool id) refl) s.stands alike))
         (quiet.crash holds.all holds.told_is);
   }
@@ -102,7 +99,7 @@ module _ {D N S : Type 0} {d : DiskGhosts D} (n : NamerGhosts N S) (old : Journa
     stood =
         let same : recovers.stored.all ≡ holds.all = cc (recovers.stored.told_is, quiet.told_same, holds.told_is) in
         subst (λ (files : Files). StandsFor n.digest_of files recovers.office) same
-        (record { index = index_of (slots_of found.pool.names); backups = recovers.stored.backups; stands = recovers.stored.stands })
+        (record { index = index_of (slots_of found.pool.names); shown = recovers.stored.shown; stands = recovers.stored.stands })
 
     pub ends_spent : (refusal : OpenRefusal) → Ends {n = n} a b (Err refusal) old.disk mid
     ends_spent refusal = (recovers.office, recovers.is_one, one_still recovers.office stood mid quiet)
@@ -121,8 +118,8 @@ module _ {D N S : Type 0} {d : DiskGhosts D} (n : NamerGhosts N S) (old : Journa
 
       pub ends_raised : (ready : old.halted ≡ false) (next : Found N S n) (epoch : ℕ) (read : epoch ≡ found.catalog.epoch)
           (room : epoch < last_sequence) (same : IsSame (slots_of found.pool.names) (slots_of next.pool.names))
-          → ((office : Durable) (names : Names) → IsHeld mid found.pool found.catalog found.counts office names
-          → IsHeld new next.pool next.catalog next.counts (raised office) names)
+          → ((office : Durable) (names : Names) → IsHeld mid found.pool found.catalog found.counts found.partials office names
+          → IsHeld new next.pool next.catalog next.counts next.partials (raised office) names)
           → Ends a b (Ok next) old.disk new
       unfolding begins_raised
       ends_raised ready next epoch read room same held =

@@ -135,7 +135,6 @@ pub known_there : (hosts : List Host) (owner : Owner) → is_known (indices_from
 known_there hosts O.Store = refl
 known_there hosts (O.Host host) = index_there 0 hosts host
 known_there hosts (O.Backup host number) = line_there 0 hosts host number
-known_there hosts O.Nothing = refl
 
 -- what an office calls for
 calm_of : (hosts : List Host) (headed : Bool) (file : FileId) → is_called_for hosts file ≡ true → (is_of_index file && not headed) ≡ false
@@ -169,7 +168,7 @@ never_stray digest_of all office file found is stray =
     false≢true (sym calm ∙ subst (λ (k : Known). is_stray k.hosts (is_some (all F.Head)) file ≡ true) known stray.stray)
   where
     known : stray.known ≡ known_of_office office
-    known = one_catalog digest_of is.index is.backups all office is.stands stray.known stray.holds
+    known = one_catalog digest_of is.index is.shown all office is.stands stray.known stray.holds
 
     there : is_some (all file) ≡ true
     there = ap is_some (sym stray.is) ∙ stray.there

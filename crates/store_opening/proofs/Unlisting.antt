@@ -10,7 +10,7 @@ use Rattle.std.proofs.Common.{◌≡◌, ◌⊎◌, ℕ, zero, suc, ◌+◌, ◌
 use Rattle.std.proofs.lemmas.Bool.{true≢false, false≢true}
 use Rattle.disk_trait.specs.declared.ids.PoolId.{PoolId}
 use Rattle.disk_trait.specs.declared.ids.FileId.{FileId}
-use Rattle.disk_trait.specs.declared.ids.FileId.TheVariants.{PoolIndex}
+use Rattle.disk_trait.specs.declared.ids.FileId.TheVariants.{PoolIndex, Partial as PartialFile}
 use Rattle.disk_trait.specs.declared.disk.Disk.{Ghosts as DiskGhosts}
 use Rattle.disk_trait.specs.Files.{Files, lists}
 use Rattle.intent_journal.specs.declared.journal.Journal.{Journal}
@@ -23,19 +23,17 @@ use Rattle.pool_index.specs.Index.{Index, TellsIn, TellsIndex}
 use Rattle.pool_changes.specs.Slots.{Slots, same_id, id_itself, equal_of}
 use Rattle.pool_changes.specs.Listed.{index_of}
 use Rattle.merge_view.specs.Views.{Rows}
-use Rattle.attr_tables.specs.declared.records.Record.{Record}
 use Rattle.stored_trees.specs.Occurrences.{names, occurrences}
-use Rattle.stored_trees.specs.Resolved.{AreTold as AreRowsTold}
 use Rattle.ref_counts.specs.Layout.{IsItem}
-use Rattle.ref_counts.specs.Numbers.{Items, number, total}
-use Rattle.ref_counts.specs.Stored.{Backup as StoredBackup, stored, IsNamed, AreAllTold}
-use Rattle.ref_counts.specs.StoredLaws.{named_from_total}
-use Rattle.host_counts.specs.Held.{TellsCounts, AreTold}
+use Rattle.ref_counts.specs.Numbers.{Items, number}
+use Rattle.ref_counts.specs.Stored.{Backup as StoredBackup, StoredHost, IsNamed, AreAllTold, IsNamedParked, IsNamedIn}
+use Rattle.ref_counts.specs.StoredLaws.{named_in_from_total}
+use Rattle.host_counts.specs.Held.{AreTold}
 use Rattle.pool_store.specs.Opened.{Opens}
 use Rattle.office_catalog.specs.Known.{Known}
 use Rattle.office_catalog.specs.Held.{HoldsCatalog}
-use Rattle.office_model.specs.Office.{Durable, Host}
-use Rattle.office_files.specs.Hosts.{IsShown}
+use Rattle.office_model.specs.Office.{Durable, Host, Partial}
+use Rattle.office_files.specs.Hosts.{IsShown, StandsPartial, StandsHost}
 use Rattle.office_files.specs.OneLaws.{one_listing}
 use Rattle.office_files.specs.Pairs.{AtEachPair, other_at}
 use Rattle.office_files.specs.Pooled.{contents_of, IsListed}
@@ -177,6 +175,13 @@ named_listed given told id [] all named = absurd named
 named_listed given told id (backup ∷ backups) all (inl here) = named_given given told id backup.rows all.0 (named_rows id backup.rows here)
 named_listed given told id (backup ∷ backups) all (inr behind) = named_listed given told id backups all.1 behind
 
+-- and so what a partial names
+parked_listed : (given : PoolId → Type 0) (told : PoolId → List ℕ) (id : PoolId) (number : ℕ) (partial : Option Partial) (rows : Option Rows)
+    (found : Option (List ℕ)) → StandsPartial given told number partial rows found → IsNamedParked id rows → given id
+parked_listed given told id number partial None found is named = absurd named
+parked_listed given told id number None (Some rows) found is named = absurd is
+parked_listed given told id number (Some partial) (Some rows) found is named = named_given given told id rows is.told (named_rows id rows named)
+
 pub never_unlisting : (digest_of : List ℕ → List ℕ) (all : Files) (office : Durable) (file : FileId) (found : Option (List ℕ))
     → StandsFor digest_of all office → IsUnlisting all file found → ⊥
 never_unlisting digest_of all office file found s u =
@@ -186,27 +191,34 @@ never_unlisting digest_of all office file found s u =
     listing = one_listing s.index (index_of u.slots) all s.stands.index_told
         (tells_any u.in_one_file (index_of u.slots) all u.pool.tells) u.id
 
-    are : AreCountsOf u.counts s.backups
-    are = counts_of_office digest_of s.index s.backups all office s.stands u.catalog u.counts u.holds u.counted
+    are : AreCountsOf u.counts s.shown
+    are = counts_of_office digest_of s.index s.shown all office s.stands u.catalog u.counts u.holds u.counted
 
-    shown : (b : List StoredBackup) × (slice_get s.backups u.host ≡ Some b)
-    shown = other_at u.counts s.backups u.host u.items are.counted u.at
+    of : (b : StoredHost) × (slice_get s.shown u.host ≡ Some b)
+    of = other_at u.counts s.shown u.host u.items are.counted u.at
 
     host : (h : Host) × (slice_get office.hosts u.host ≡ Some h)
-    host = other_at s.backups office.hosts u.host shown.0 (sym s.stands.hosts.counted) shown.1
+    host = other_at s.shown office.hosts u.host of.0 (sym s.stands.hosts.counted) of.1
 
-    pairs : AtEachPair (λ i. IsShown (IsListed s.index) (contents_of all)) host.0.backups shown.0
-    pairs = (s.stands.hosts.each u.host host.0 shown.0 host.1 shown.1).shown
+    stands : StandsHost (IsListed s.index) (contents_of all) all u.host host.0 of.0
+    stands = s.stands.hosts.each u.host host.0 of.0 host.1 of.1
 
-    named : IsNamed u.id shown.0
+    pairs : AtEachPair (λ i. IsShown (IsListed s.index) (contents_of all)) host.0.backups of.0.backups
+    pairs = stands.shown
+
+    named : IsNamedIn u.id of.0
     named =
-        named_from_total u.id shown.0 (shown_whole (IsListed s.index) (contents_of all) s.stands.one host.0.backups shown.0 pairs)
-        (subst (λ (n : ℕ). 0 < n) (are.each u.host u.items shown.0 u.at shown.1 u.id) u.some)
+        named_in_from_total u.id of.0
+        (shown_whole (IsListed s.index) (contents_of all) s.stands.one host.0.backups of.0.backups pairs)
+        (subst (λ (n : ℕ). 0 < n) (are.each u.host u.items of.0 u.at of.1 u.id) u.some)
 
     listed : is_some (s.index u.id) ≡ true
-    listed =
-        named_listed (IsListed s.index) (contents_of all) u.id shown.0
-        (shown_told (IsListed s.index) (contents_of all) s.stands.one host.0.backups shown.0 pairs) named
+    listed = elim named [
+      | inl in_backup ↦ named_listed (IsListed s.index) (contents_of all) u.id of.0.backups
+          (shown_told (IsListed s.index) (contents_of all) s.stands.one host.0.backups of.0.backups pairs) in_backup
+      | inr in_partial ↦ parked_listed (IsListed s.index) (contents_of all) u.id u.host host.0.partial of.0.partial
+          (all (PartialFile u.host)) stands.partial in_partial
+    ]
 
 pub unlisting_known : {D : Type 0} {d : DiskGhosts D} (digest_of : List ℕ → List ℕ) (journal : Journal D d) (a b : Durable)
     → Holds digest_of journal a b → (file : FileId) (found : Option (List ℕ))

@@ -35,6 +35,8 @@ use Rattle.pool_store.specs.Opened.{Opens}
 use Rattle.pool_store.specs.Opening.{AreThePoolFiles}
 use Rattle.ref_counts.specs.Numbers.{Items}
 use Rattle.host_counts.specs.Held.{TellsCounts, AreTold}
+use Rattle.host_partials.specs.declared.held.PartialHead.{PartialHead}
+use Rattle.host_partials.specs.Held.{TellsHead, AreTold as ArePartialsTold}
 use Rattle.office_catalog.specs.Known.{Known, with_epoch}
 use Rattle.office_catalog.specs.Changed.{after}
 use Rattle.office_catalog.specs.Held.{HoldsCatalog}
@@ -42,9 +44,7 @@ use Rattle.office_changes.specs.ChangeLaws.{is_of_index}
 use Rattle.office_files.specs.Owners.{owner_of}
 use Rattle.office_known.specs.KnownLaws.{head_of_catalog}
 use Rattle.office_model.specs.Office.{last_sequence}
-use Rattle.office_model.specs.UsedNames.{Among}
 use Rattle.store_parts.specs.declared.parts.StoreParts.{StoreParts}
-use Rattle.store_parts.specs.Held.{AreUsed}
 use Rattle.store_parts.specs.WriteLaws.{tells_in_kept}
 use Rattle.store_opening.specs.declared.found.Found.{Found}
 use Rattle.store_opening.specs.declared.fault.OpenRefusal.{OpenRefusal}
@@ -76,14 +76,16 @@ pub opened_told : (files : Option Files) (in_one_file : Bool) (slots : Slots) (a
 opened_told files in_one_file slots all is opens =
     let raw = told_raw files all is in opens_seen in_one_file slots raw.0 all raw.2 (opens raw.0 raw.1)
 
-pub whole_of : (files : Option Files) (in_one_file : Bool) (slots : Slots) (catalog : Known) (counts : List Items) (all : Files)
-    → option_map seen files ≡ Some all → ((raw : Files) → files ≡ Some raw → Opens in_one_file slots raw) → HoldsCatalog all catalog
-    → AreTold all (length catalog.hosts) counts → HasNoStray catalog all → AreAllListed (index_of slots) counts
-    → HasTables catalog all → IsWhole in_one_file slots catalog counts all
-whole_of files in_one_file slots catalog counts all is opens holds counted no_stray listed tables = record {
+pub whole_of : (files : Option Files) (in_one_file : Bool) (slots : Slots) (catalog : Known) (counts : List Items)
+    (partials : List (Option PartialHead)) (all : Files) → option_map seen files ≡ Some all
+    → ((raw : Files) → files ≡ Some raw → Opens in_one_file slots raw) → HoldsCatalog all catalog
+    → AreTold all (length catalog.hosts) counts → ArePartialsTold all (length catalog.hosts) partials → HasNoStray catalog all
+    → AreAllListed (index_of slots) counts → HasTables catalog all → IsWhole in_one_file slots catalog counts partials all
+whole_of files in_one_file slots catalog counts partials all is opens holds counted parked no_stray listed tables = record {
   pool = opened_told files in_one_file slots all is opens;
   holds = holds;
   counted = counted;
+  parked = parked;
   no_stray = no_stray;
   listed = listed;
   tables = tables;
@@ -94,6 +96,10 @@ whole_of files in_one_file slots catalog counts all is opens holds counted no_st
 counts_apart : (host : ℕ) → is_same_file (F.Counts host) F.Head ≡ false
 unfolding is_same_file
 counts_apart host = refl
+
+partial_apart : (host : ℕ) → is_same_file (F.Partial host) F.Head ≡ false
+unfolding is_same_file
+partial_apart host = refl
 
 table_apart : (host number : ℕ) → is_same_file (F.Table host number) F.Head ≡ false
 unfolding is_same_file
@@ -153,9 +159,10 @@ module _ {N S : Type 0} {n : NamerGhosts N S} (pool : Pool N S n) (catalog : Kno
         ]
       ])
 
-  next_whole : (counts : List Items) → IsWhole pool.in_one_file (slots_of pool.names) catalog counts all
-      → IsWhole false (slots_of pool.names) (with_epoch catalog (catalog.epoch + 1)) counts image
-  next_whole counts whole = record {
+  next_whole : (counts : List Items) (partials : List (Option PartialHead))
+      → IsWhole pool.in_one_file (slots_of pool.names) catalog counts partials all
+      → IsWhole false (slots_of pool.names) (with_epoch catalog (catalog.epoch + 1)) counts partials image
+  next_whole counts partials whole = record {
     pool = record {
       tells = both_tells pool.in_one_file listing is.pooled next.catalog.changes is.leads is.proposes.leads.named all whole.pool.tells;
       used = λ id. whole.pool.used id ∙ ap is_some (sym (other_same (F.Pool id) refl (content_apart id)));
@@ -165,6 +172,11 @@ module _ {N S : Type 0} {n : NamerGhosts N S} (pool : Pool N S n) (catalog : Kno
       count = whole.counted.count;
       each = λ host items e.
           subst (TellsCounts host items) (sym (other_same (F.Counts host) refl (counts_apart host))) (whole.counted.each host items e);
+    };
+    parked = record {
+      count = whole.parked.count;
+      each = λ host head e.
+          subst (TellsHead host head) (sym (other_same (F.Partial host) refl (partial_apart host))) (whole.parked.each host head e);
     };
     no_stray = calm_raised whole.no_stray;
     listed = whole.listed;
@@ -179,25 +191,29 @@ mapped_some f None all e = absurd cc
 mapped_some f (Some before) all e = (before, refl, cc)
 
 pub whole_raised : {D N S : Type 0} {d : DiskGhosts D} {n : NamerGhosts N S} (old new : Journal D d) (pool after_pool : Pool N S n)
-    (catalog : Known) (counts after_counts : List Items) (next : NextEpoch) → IsNext pool catalog next → (known : Known)
-    → known ≡ after next.catalog catalog → after_counts ≡ counts → IsSame (slots_of pool.names) (slots_of after_pool.names) → after_pool.in_one_file ≡ false
+    (catalog : Known) (counts after_counts : List Items) (partials after_partials : List (Option PartialHead)) (next : NextEpoch)
+    → IsNext pool catalog next → (known : Known)
+    → known ≡ after next.catalog catalog → after_counts ≡ counts → after_partials ≡ partials
+    → IsSame (slots_of pool.names) (slots_of after_pool.names) → after_pool.in_one_file ≡ false
     → told new ≡ option_map (applied next.changes) (told old)
-    → ((all : Files) → told old ≡ Some all → IsWhole pool.in_one_file (slots_of pool.names) catalog counts all)
-    → (all : Files) → told new ≡ Some all → IsWhole after_pool.in_one_file (slots_of after_pool.names) known after_counts all
-whole_raised old new pool after_pool catalog counts after_counts next is known known_is counts_same same form done whole = λ all told_is.
+    → ((all : Files) → told old ≡ Some all → IsWhole pool.in_one_file (slots_of pool.names) catalog counts partials all)
+    → (all : Files) → told new ≡ Some all → IsWhole after_pool.in_one_file (slots_of after_pool.names) known after_counts after_partials all
+whole_raised old new pool after_pool catalog counts after_counts partials after_partials next is known known_is counts_same partials_same same form done whole = λ all told_is.
     let slots_same : slots_of pool.names ≡ slots_of after_pool.names = λ i id. sym (same id) i in
     let made : told new ≡ option_map (applied (is.pooled ++ next.catalog.changes)) (told old) =
     done ∙ ap (λ (cs : List Change). option_map (applied cs) (told old)) is.changes_are in
     let before = mapped_some (applied (is.pooled ++ next.catalog.changes)) (told old) all (sym made ∙ told_is) in
     let at = whole before.0 before.1 in
-    subst (λ (cs : List Items). IsWhole after_pool.in_one_file (slots_of after_pool.names) known cs all) (sym counts_same)
-    (subst (λ (files : Files). IsWhole after_pool.in_one_file (slots_of after_pool.names) known counts files) before.2
-    (subst (λ (b : Bool). IsWhole b (slots_of after_pool.names) known counts (applied (is.pooled ++ next.catalog.changes) before.0))
+    subst (λ (cs : List Items). IsWhole after_pool.in_one_file (slots_of after_pool.names) known cs after_partials all) (sym counts_same)
+    (subst (λ (hs : List (Option PartialHead)). IsWhole after_pool.in_one_file (slots_of after_pool.names) known counts hs all)
+    (sym partials_same)
+    (subst (λ (files : Files). IsWhole after_pool.in_one_file (slots_of after_pool.names) known counts partials files) before.2
+    (subst (λ (b : Bool). IsWhole b (slots_of after_pool.names) known counts partials (applied (is.pooled ++ next.catalog.changes) before.0))
     (sym form)
-    (subst (λ (s : Slots). IsWhole false s known counts (applied (is.pooled ++ next.catalog.changes) before.0)) slots_same
-    (subst (λ (k : Known). IsWhole false (slots_of pool.names) k counts (applied (is.pooled ++ next.catalog.changes) before.0))
+    (subst (λ (s : Slots). IsWhole false s known counts partials (applied (is.pooled ++ next.catalog.changes) before.0)) slots_same
+    (subst (λ (k : Known). IsWhole false (slots_of pool.names) k counts partials (applied (is.pooled ++ next.catalog.changes) before.0))
     (sym (known_is ∙ is.proposes.after_is))
-    (next_whole pool catalog next is before.0 at.holds counts at)))))
+    (next_whole pool catalog next is before.0 at.holds counts partials at))))))
 
 -- ---- buckets
 
@@ -221,13 +237,15 @@ buckets_of files found form whole = λ all is.
 
 -- ---- the last epoch
 
-pub last_whole : (in_one_file : Bool) (slots : Slots) (catalog : Known) (counts : List Items) (all : Files)
-    → IsWhole in_one_file slots catalog counts all → (epoch : ℕ) → epoch ≡ catalog.epoch → last_sequence ≤ epoch → IsLast all
-last_whole in_one_file slots catalog counts all whole epoch read last = record {
+pub last_whole : (in_one_file : Bool) (slots : Slots) (catalog : Known) (counts : List Items) (partials : List (Option PartialHead))
+    (all : Files) → IsWhole in_one_file slots catalog counts partials all → (epoch : ℕ) → epoch ≡ catalog.epoch → last_sequence ≤ epoch
+    → IsLast all
+last_whole in_one_file slots catalog counts partials all whole epoch read last = record {
   in_one_file = in_one_file;
   slots = slots;
   catalog = catalog;
   counts = counts;
+  partials = partials;
   whole = whole;
   last = subst (λ (e : ℕ). last_sequence ≤ e) read last;
 }
@@ -238,10 +256,13 @@ module _ {D N S : Type 0} {d : DiskGhosts D} {n : NamerGhosts N S} {next_stage n
     (found : Found N S n) (is : IsOfFound parts found next_stage next_reader) where
   pub whole_parts : (journal : Journal D d) → parts.journal ≡ journal → IsAllOf (told journal) found → HasAllOf parts
   whole_parts journal same whole = λ all told_is.
-      subst (λ (p : Pool N S n). IsWhole p.in_one_file (slots_of p.names) parts.catalog parts.counts all) (sym is.pool_is)
-      (subst (λ (k : Known). IsWhole found.pool.in_one_file (slots_of found.pool.names) k parts.counts all) (sym is.catalog_is)
-      (subst (λ (c : List Items). IsWhole found.pool.in_one_file (slots_of found.pool.names) found.catalog c all) (sym is.counts_are)
-      (whole all (ap (λ (j : Journal D d). told j) (sym same) ∙ told_is))))
+      subst (λ (p : Pool N S n). IsWhole p.in_one_file (slots_of p.names) parts.catalog parts.counts parts.partials all) (sym is.pool_is)
+      (subst (λ (k : Known). IsWhole found.pool.in_one_file (slots_of found.pool.names) k parts.counts parts.partials all) (sym is.catalog_is)
+      (subst (λ (c : List Items). IsWhole found.pool.in_one_file (slots_of found.pool.names) found.catalog c parts.partials all)
+      (sym is.counts_are)
+      (subst (λ (h : List (Option PartialHead)). IsWhole found.pool.in_one_file (slots_of found.pool.names) found.catalog found.counts h all)
+      (sym is.partials_are)
+      (whole all (ap (λ (j : Journal D d). told j) (sym same) ∙ told_is)))))
 
   pub buckets_parts : (journal : Journal D d) → parts.journal ≡ journal → HasBucketsOf (told journal) found → HasBuckets parts
   buckets_parts journal same has = λ all told_is.

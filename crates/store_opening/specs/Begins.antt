@@ -45,7 +45,7 @@ module _ {D N S : Type 0} {d : DiskGhosts D} {n : NamerGhosts N S} where
     pub is_one : IsPicked a b office
     pub room : office.epoch < last_sequence
     pub names : Names
-    pub held : IsHeld new found.pool found.catalog found.counts (raised office) names
+    pub held : IsHeld new found.pool found.catalog found.counts found.partials (raised office) names
     pub open held use *
     pub fresh : AreFresh (slots_of found.pool.names)
 

@@ -1,8 +1,8 @@
 -- What an opening finds in the files that a journal tells.
 --     Holds      files that stand for one of two offices, all of them durable
---     IsHeld      what is durable of an office, and the counts of its backups
+--     IsHeld      what is durable of an office, the counts of its hosts and what is known of their partials
 --     Recovers      one of the two was found
---     IsWithoutCounts      a file of a host's counts that holds none
+--     IsWithoutCounts, IsWithoutPartial      a file of a host's counts that holds none, or that of its partial
 --     IsForeign      a file that doesn't belong to a store;  IsForeignTo      or Intent, at an opening
 use Rattle.std.specs.Prelude.{◌≡◌, ◌⊎◌, ℕ, List, length, Option, option_map, Some}
 use Rattle.disk_trait.specs.declared.ids.FileId.{FileId}
@@ -23,9 +23,11 @@ use Rattle.ref_counts.specs.Numbers.{Items}
 use Rattle.office_catalog.specs.Known.{Known}
 use Rattle.office_catalog.specs.Held.{HoldsCatalog, IsForeign as IsForeignToCatalog}
 use Rattle.host_counts.specs.Held.{IsForeign as IsForeignToCounts}
+use Rattle.host_partials.specs.declared.held.PartialHead.{PartialHead}
+use Rattle.host_partials.specs.Held.{IsForeign as IsForeignToPartials}
 use Rattle.office_model.specs.Office.{Durable, Names}
 use Rattle.office_model.specs.Step.{IsPicked}
-use Rattle.store_parts.specs.Held.{AreCountsOf, IsEither, IsStored, MayBe}
+use Rattle.store_parts.specs.Held.{AreCountsOf, heads_of, IsEither, IsStored, MayBe}
 use Rattle.store_opening.specs.declared.found.Found.{Found}
 use Rattle.store_opening.specs.declared.fault.OpenRefusal.{OpenRefusal}
 use Rattle.store_opening.specs.declared.fault.OpenRefusal.TheVariants.{Foreign}
@@ -39,13 +41,25 @@ pub record IsWithoutCounts (files : Files) (file : FileId) (found : Option (List
   pub holds : HoldsCatalog files known
   pub foreign : IsForeignToCounts (Some files) (length known.hosts) file found
 
--- the file doesn't belong to the pool, to the catalog, to the counts, or to any; or it doesn't list what the counts have, or is a table
--- that is missing
+-- the file of the partial of a host that Head names, of which this was found, is there and holds none of that host
+pub record IsWithoutPartial (files : Files) (file : FileId) (found : Option (List ℕ)) : Type 0 where
+  pub known : Known
+  pub holds : HoldsCatalog files known
+  pub bytes : List ℕ
+  pub there : found ≡ Some bytes
+  pub foreign : IsForeignToPartials (Some files) (length known.hosts) file bytes
+
+-- the file is that of a host's counts, or of its partial, and holds none
+abbrev pub IsForeignToHosts : Files → FileId → Option (List ℕ) → Type 0
+IsForeignToHosts files file found = IsWithoutCounts files file found ⊎ IsWithoutPartial files file found
+
+-- the file doesn't belong to the pool, to the catalog, to the counts and partials of hosts, or to any; or it doesn't list what the counts
+-- have, or is a table that is missing
 abbrev pub IsForeign : (told : Option Files) → FileId → Option (List ℕ) → Type 0
 IsForeign told file found =
     IsForeignToPool told file found
     ⊎ (IsForeignToCatalog told file found
-    ⊎ (((all : Files) → told ≡ Some all → IsWithoutCounts all file found)
+    ⊎ (((all : Files) → told ≡ Some all → IsForeignToHosts all file found)
     ⊎ (((all : Files) → told ≡ Some all → IsStray all file found)
     ⊎ (((all : Files) → told ≡ Some all → IsUnlisting all file found)
     ⊎ ((all : Files) → told ≡ Some all → IsMissingTable all file found)))))
@@ -76,17 +90,18 @@ module _ {D : Type 0} {d : DiskGhosts D} where
     pub crash : FindsOnly old new (IsEither digest_of a b)
 
 module _ {D N S : Type 0} {d : DiskGhosts D} {n : NamerGhosts N S} where
-  -- what is durable, and how often its backups name each content
-  pub record IsHeld (journal : Journal D d) (pool : Pool N S n) (catalog : Known) (counts : List Items) (office : Durable) (names : Names)
-      : Type 0 where
+  -- what is durable, how often what is stored of its hosts names each content, and what is known of their partials
+  pub record IsHeld (journal : Journal D d) (pool : Pool N S n) (catalog : Known) (counts : List Items)
+      (partials : List (Option PartialHead)) (office : Durable) (names : Names) : Type 0 where
     pub stored : IsStored journal pool catalog office names
-    pub counted : AreCountsOf counts stored.backups
+    pub counted : AreCountsOf counts stored.shown
+    pub parked : partials ≡ heads_of office.hosts
 
   -- one of the two offices was found; nothing is staged or claimed
   pub record Recovers (journal : Journal D d) (found : Found N S n) (a b : Durable) : Type 0 where
     pub office : Durable
     pub is_one : IsPicked a b office
     pub names : Names
-    pub held : IsHeld journal found.pool found.catalog found.counts office names
+    pub held : IsHeld journal found.pool found.catalog found.counts found.partials office names
     pub open held use *
     pub fresh : AreFresh (slots_of found.pool.names)

@@ -4,7 +4,7 @@
 --     GoesTo      to which of the two the disk came
 --     Reopens      it went so, and a refusal changed nothing but what is said here
 --     first_of, second_of      the two offices of a state, of which a crash leaves one
-use Rattle.std.specs.Prelude.{List, ℕ, ◌≡◌, ◌<◌, ◌+◌, Bool, true, false, [], None, Ok, Err, IfOk, OnOk, is_some, Option, Some}
+use Rattle.std.specs.Prelude.{List, ℕ, ◌≡◌, ◌<◌, ◌+◌, Bool, true, false, None, Ok, Err, IfOk, OnOk, is_some, Option, Some}
 use Rattle.fault_counts.specs.Counts.{Counted}
 use Rattle.disk_trait.specs.declared.ids.FileId.{FileId}
 use Rattle.disk_trait.specs.declared.disk.Disk.{Ghosts as DiskGhosts}
@@ -79,6 +79,7 @@ module _ {D N S : Type 0} {d : DiskGhosts D} {n : NamerGhosts N S} where
     pub pool_is : parts.pool ≡ found.pool
     pub catalog_is : parts.catalog ≡ found.catalog
     pub counts_are : parts.counts ≡ found.counts
+    pub partials_are : parts.partials ≡ found.partials
     pub none : AreNone parts.sessions
     pub first : parts.sessions.sequence ≡ 0
     pub numbers : AreNumbers next_stage next_reader parts.sessions

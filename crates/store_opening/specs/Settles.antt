@@ -2,7 +2,7 @@
 --     Synced      a disk came to files;  ComesToOne      it came to an office
 --     IsOfOne      a disk at rest of one office, which a crash left as it was or in its next epoch
 --     Ends, Settles      the same of an opening and of a reopening, whatever it answers
-use Rattle.std.specs.Prelude.{◌≡◌, ◌⊎◌, ℕ, List, Option, Some, Result, Ok, Err, option_map}
+use Rattle.std.specs.Prelude.{◌≡◌, ◌⊎◌, ℕ, List, Some, Result, Ok, Err, option_map}
 use Rattle.disk_trait.specs.declared.disk.Disk.{Ghosts as DiskGhosts}
 use Rattle.disk_trait.specs.Files.{Files}
 use Rattle.disk_trait.specs.Images.{MayLeave, Leaves, LeavesOnly}

@@ -1,5 +1,5 @@
 -- A run behind one that left nothing but what has a property.
-use Rattle.std.proofs.Common.{ℕ, inl, inr, ⊎_elim, arith}
+use Rattle.std.proofs.Common.{ℕ, inr, ⊎_elim, arith}
 use Rattle.disk_trait.specs.Files.{Files}
 use Rattle.disk_trait.specs.Images.{Leaves, LeavesOnly}
 

@@ -22,7 +22,6 @@ abbrev pub is_known : List Index → Owner → Bool
 is_known hosts O.Store = true
 is_known hosts (O.Host host) = is_some (slice_get hosts host)
 is_known hosts (O.Backup host number) = has_line (slice_get hosts host) number
-is_known hosts O.Nothing = false
 
 -- the file isn't called for, or is of the index of a pool without a head
 abbrev pub is_stray : List Index → Bool → FileId → Bool

@@ -1,10 +1,10 @@
 -- What an opening says of any disk that tells its files, whether they stand for an office or not.
---     IsWhole      the files hold a pool, a catalog and counts, and no other file is there
+--     IsWhole      the files hold a pool, a catalog, counts and partials, and no other file is there
 --     IsLast      they do, and the epoch is the last one
 --     IsInBuckets      and the index of the pool is in buckets
 --     KeepsData      the contents and stages of a disk are those of another
 --     AreListed      the names in use are those of the Pool files
-use Rattle.std.specs.Prelude.{◌≡◌, ◌↔◌, ◌≤◌, ℕ, Bool, true, List, length, Option, Some, None, is_some}
+use Rattle.std.specs.Prelude.{◌≡◌, ◌↔◌, ◌≤◌, Bool, true, List, length, Option, Some, None, is_some}
 use Rattle.disk_trait.specs.declared.ids.PoolId.{PoolId}
 use Rattle.disk_trait.specs.declared.ids.FileId.{FileId}
 use Rattle.disk_trait.specs.declared.ids.FileId.TheVariants.{Pool as PoolFile, PoolIndex, PoolBucket}
@@ -20,6 +20,8 @@ use Rattle.pool_changes.specs.Listed.{index_of}
 use Rattle.pool_store.specs.Opened.{Opens}
 use Rattle.ref_counts.specs.Numbers.{Items}
 use Rattle.host_counts.specs.Held.{AreTold}
+use Rattle.host_partials.specs.declared.held.PartialHead.{PartialHead}
+use Rattle.host_partials.specs.Held.{AreTold as ArePartialsTold}
 use Rattle.office_catalog.specs.Known.{Known}
 use Rattle.office_catalog.specs.Held.{HoldsCatalog}
 use Rattle.office_model.specs.Office.{last_sequence}
@@ -32,12 +34,14 @@ use Rattle.store_opening.specs.Strays.{HasNoStray}
 use Rattle.store_opening.specs.Unlisted.{AreAllListed}
 use Rattle.store_opening.specs.Tables.{HasTables}
 
--- the index of the pool, the catalog and the counts are those that the files hold, the used names are those of the Pool files, and
--- no file is a stray; each content that the counts have is listed, and each table that a line calls for is there
-pub record IsWhole (in_one_file : Bool) (slots : Slots) (catalog : Known) (counts : List Items) (all : Files) : Type 0 where
+-- the index of the pool, the catalog, the counts and what is known of partials are those that the files hold, the used names are those of
+-- the Pool files, and no file is a stray; each content that the counts have is listed, and each table that a line calls for is there
+pub record IsWhole (in_one_file : Bool) (slots : Slots) (catalog : Known) (counts : List Items) (partials : List (Option PartialHead))
+    (all : Files) : Type 0 where
   pub pool : Opens in_one_file slots all
   pub holds : HoldsCatalog all catalog
   pub counted : AreTold all (length catalog.hosts) counts
+  pub parked : ArePartialsTold all (length catalog.hosts) partials
   pub no_stray : HasNoStray catalog all
   pub listed : AreAllListed (index_of slots) counts
   pub tables : HasTables catalog all
@@ -48,7 +52,8 @@ pub record IsLast (all : Files) : Type 0 where
   pub slots : Slots
   pub catalog : Known
   pub counts : List Items
-  pub whole : IsWhole in_one_file slots catalog counts all
+  pub partials : List (Option PartialHead)
+  pub whole : IsWhole in_one_file slots catalog counts partials all
   pub last : last_sequence ≤ catalog.epoch
 
 -- the index of the pool is in buckets: the one file of older stores isn't there, and the bucket of each listed name is
@@ -74,7 +79,8 @@ module _ {N S : Type 0} {n : NamerGhosts N S} where
   -- what was found is what the files hold, where they are told
   abbrev pub IsAllOf : Option Files → Found N S n → Type 0
   IsAllOf told found =
-      (all : Files) → told ≡ Some all → IsWhole found.pool.in_one_file (slots_of found.pool.names) found.catalog found.counts all
+      (all : Files) → told ≡ Some all
+      → IsWhole found.pool.in_one_file (slots_of found.pool.names) found.catalog found.counts found.partials all
 
   -- and the index of its pool is in buckets there
   abbrev pub HasBucketsOf : Option Files → Found N S n → Type 0
@@ -85,7 +91,7 @@ module _ {D N S : Type 0} {d : DiskGhosts D} {n : NamerGhosts N S} where
   abbrev pub HasAllOf : StoreParts D N S d n → Type 0
   HasAllOf parts =
       (all : Files) → told parts.journal ≡ Some all
-      → IsWhole parts.pool.in_one_file (slots_of parts.pool.names) parts.catalog parts.counts all
+      → IsWhole parts.pool.in_one_file (slots_of parts.pool.names) parts.catalog parts.counts parts.partials all
 
   -- and the index of their pool is in buckets there
   abbrev pub HasBuckets : StoreParts D N S d n → Type 0

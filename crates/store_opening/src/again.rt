@@ -147,6 +147,7 @@ fn take_over<D: Disk, N: Namer>(parts: &mut StoreParts<D, N>, found: Found<N>)
     parts.pool = found.pool;
     parts.catalog = found.catalog;
     parts.counts = found.counts;
+    parts.partials = found.partials;
     end_all(&mut parts.sessions);
     parts.views = Views::new();
     parts.halted = false;

@@ -32,8 +32,9 @@ fn raise<D: Disk, N: Namer>(
 ) -> Result<(), JournalFault>
     requires ready { journal.old.halted ≡ false }
     requires room { found.old.catalog.epoch < 18446744073709551615 }
-    ensures ok { OnOk result ((office : Durable) (names : Names) → IsHeld journal.old found.old.pool found.old.catalog found.old.counts office names
-        → IsHeld journal.new found.new.pool found.new.catalog found.new.counts (raised office) names) }
+    ensures ok { OnOk result ((office : Durable) (names : Names)
+        → IsHeld journal.old found.old.pool found.old.catalog found.old.counts found.old.partials office names
+        → IsHeld journal.new found.new.pool found.new.catalog found.new.counts found.new.partials (raised office) names) }
     ensures whole { OnOk result (IsAllOf (told journal.old) found.old → IsAllOf (told journal.new) found.new) }
     ensures names { IsSame (slots_of found.old.pool.names) (slots_of found.new.pool.names) }
     ensures buckets { OnOk result (found.new.pool.in_one_file ≡ false) }

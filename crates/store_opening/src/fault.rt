@@ -1,11 +1,12 @@
 //! Why a store wasn't opened.
 
-ghost use Rattle.std.specs.Prelude.{◌≡◌, ◌⊎◌, ◌↔◌, List, ℕ, Option};
+ghost use Rattle.std.specs.Prelude.{◌≡◌, ◌⊎◌, ◌↔◌, List, ℕ, Option, Some};
 ghost use Rattle.disk_trait.specs.declared.ids.FileId.{FileId as File};
 ghost use Rattle.pool_store.specs.Opening.{OfOpening};
 
 use disk_trait::{Bytes, FileId};
 use host_counts::HostCountsFault;
+use host_partials::HostPartialsFault;
 use intent_journal::{JournalFault, OpenJournalFault};
 use office_catalog::CatalogFault;
 use pool_store::PoolFault;
@@ -103,6 +104,23 @@ pub(crate) fn counts_refusal(fault: HostCountsFault) -> OpenRefusal
         HostCountsFault::Foreign { file, found } => OpenRefusal::Foreign { file, found },
         HostCountsFault::Disk => OpenRefusal::DiskFault,
         HostCountsFault::Memory => OpenRefusal::Memory,
+    }
+}
+
+/// What a fault of reading partials is to the opening of their store.
+pub(crate) fn partials_refusal(fault: HostPartialsFault) -> OpenRefusal
+    ensures foreign { (file : File) (found : Option (List ℕ)) → result ≡ OpenRefusal.Foreign file found
+        → (bytes : List ℕ) × (found ≡ Some bytes) × (fault ≡ HostPartialsFault.Foreign file bytes) }
+    ensures disk { (result ≡ OpenRefusal.DiskFault) ↔ (fault ≡ HostPartialsFault.Disk) }
+    ensures kind { result ≡ OpenRefusal.EpochsSpent → ⊥ }
+{
+    match fault {
+        HostPartialsFault::Foreign { file, found } => OpenRefusal::Foreign {
+            file,
+            found: Some(found),
+        },
+        HostPartialsFault::Disk => OpenRefusal::DiskFault,
+        HostPartialsFault::Memory => OpenRefusal::Memory,
     }
 }
 

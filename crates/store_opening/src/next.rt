@@ -55,6 +55,7 @@ pub(crate) fn accept<N: Namer>(found: &mut Found<N>, next: NextEpoch)
     ensures names { IsSame (slots_of found.old.pool.names) (slots_of found.new.pool.names) }
     ensures buckets { found.new.pool.in_one_file ≡ false }
     ensures counts { found.new.counts ≡ found.old.counts }
+    ensures partials { found.new.partials ≡ found.old.partials }
 {
     let NextEpoch {
         catalog,

@@ -15,16 +15,18 @@ ghost use Rattle.office_catalog.specs.Known.{Known};
 ghost use Rattle.office_model.specs.Office.{Durable};
 ghost use Rattle.office_files.specs.Stands.{StandsFor};
 ghost use Rattle.host_counts.specs.Held.{AreTold};
-ghost use Rattle.store_opening.specs.Recovers.{Holds, Recovers, IsWithoutCounts, SaysForeign};
+ghost use Rattle.host_partials.specs.Held.{AreTold as ArePartialsTold};
+ghost use Rattle.store_opening.specs.Recovers.{Holds, Recovers, IsWithoutCounts, IsWithoutPartial, IsForeignToHosts, SaysForeign};
 ghost use Rattle.store_opening.specs.Whole.{IsAllOf};
 
-use crate::fault::{OpenRefusal, catalog_refusal, counts_refusal, pool_refusal};
+use crate::fault::{OpenRefusal, catalog_refusal, counts_refusal, partials_refusal, pool_refusal};
 use crate::found::Found;
 use crate::stray::refuse_strays;
 use crate::tables::refuse_gaps;
 use crate::unlisted::refuse_unlisted;
 use disk_trait::{Disk, FileId};
 use host_counts::HostCounts;
+use host_partials::HostPartials;
 use intent_journal::Journal;
 use office_catalog::{Catalog, held_files_are_not_foreign};
 use pool_name::Namer;
@@ -91,20 +93,74 @@ fn read_counts<D: Disk>(
     }
 }
 
+/// What is known of the partials of the hosts of a catalog.
+fn read_partials<D: Disk>(
+    alloc: Global,
+    journal: &mut Journal<D>,
+    catalog: &Catalog,
+) -> Result<HostPartials, OpenRefusal>
+    requires { journal.old.halted ≡ false }
+    ensures told { IfOk result (λ partials. (all : Files) → told journal.old ≡ Some all → ArePartialsTold all (length catalog.now.hosts) partials) }
+    ensures foreign { IfErr result (λ refusal. (file : File) (found : Option (List ℕ)) → refusal ≡ OpenRefusal.Foreign file found
+        → (all : Files) → told journal.old ≡ Some all → HoldsCatalog all catalog.now → IsWithoutPartial all file found) }
+    ensures kind { IfErr result (λ refusal. refusal ≡ OpenRefusal.EpochsSpent → ⊥) }
+    ensures quiet { Quiet journal.old journal.new }
+    ensures counted { Counted (D.fault_count journal.old.disk) (D.fault_count journal.new.disk) (IsErrOf result OpenRefusal.DiskFault) }
+{
+    match host_partials::read_all(alloc, journal, catalog.hosts().len()) {
+        Ok(partials) => Ok(partials),
+        Err(fault) => Err(partials_refusal(fault)),
+    }
+}
+
+/// What the files of hosts hold beside their indices.
+#[derive(Drop)]
+struct HeldTotals {
+    counts: HostCounts,
+    partials: HostPartials,
+}
+
+/// The counts, and what is known of the partials, of the hosts of a catalog.
+fn read_totals<D: Disk>(
+    alloc: Global,
+    journal: &mut Journal<D>,
+    catalog: &Catalog,
+) -> Result<HeldTotals, OpenRefusal>
+    requires { journal.old.halted ≡ false }
+    ensures counts { IfOk result (λ totals. (all : Files) → told journal.old ≡ Some all → AreTold all (length catalog.now.hosts) totals.counts) }
+    ensures partials { IfOk result (λ totals. (all : Files) → told journal.old ≡ Some all → ArePartialsTold all (length catalog.now.hosts) totals.partials) }
+    ensures foreign { IfErr result (λ refusal. (file : File) (found : Option (List ℕ)) → refusal ≡ OpenRefusal.Foreign file found
+        → (all : Files) → told journal.old ≡ Some all → HoldsCatalog all catalog.now → IsForeignToHosts all file found) }
+    ensures kind { IfErr result (λ refusal. refusal ≡ OpenRefusal.EpochsSpent → ⊥) }
+    ensures quiet { Quiet journal.old journal.new }
+    ensures counted { Counted (D.fault_count journal.old.disk) (D.fault_count journal.new.disk) (IsErrOf result OpenRefusal.DiskFault) }
+{
+    let counts = match read_counts(alloc, journal, catalog) {
+        Ok(counts) => counts,
+        Err(refusal) => return Err(refusal),
+    };
+    match read_partials(alloc, journal, catalog) {
+        Ok(partials) => Ok(HeldTotals { counts, partials }),
+        Err(refusal) => Err(refusal),
+    }
+}
+
 /// What a store's files hold of its hosts.
 #[derive(Drop)]
 struct HeldHosts {
     catalog: Catalog,
     counts: HostCounts,
+    partials: HostPartials,
 }
 
-/// The catalog and the counts of a store's files.
+/// The catalog, the counts, and what is known of the partials of a store's files.
 fn read_hosts<D: Disk>(alloc: Global, journal: &mut Journal<D>) -> Result<HeldHosts, OpenRefusal>
     requires { journal.old.halted ≡ false }
     ensures catalog { IfOk result (λ hosts. (all : Files) → told journal.old ≡ Some all → HoldsCatalog all hosts.catalog) }
     ensures counts { IfOk result (λ hosts. (all : Files) → told journal.old ≡ Some all → AreTold all (length hosts.catalog.hosts) hosts.counts) }
+    ensures partials { IfOk result (λ hosts. (all : Files) → told journal.old ≡ Some all → ArePartialsTold all (length hosts.catalog.hosts) hosts.partials) }
     ensures foreign { IfErr result (λ refusal. (file : File) (found : Option (List ℕ)) → refusal ≡ OpenRefusal.Foreign file found
-        → IsForeignToCatalog (told journal.old) file found ⊎ ((all : Files) → told journal.old ≡ Some all → IsWithoutCounts all file found)) }
+        → IsForeignToCatalog (told journal.old) file found ⊎ ((all : Files) → told journal.old ≡ Some all → IsForeignToHosts all file found)) }
     ensures complete { IfErr result (λ refusal. (digest_of : List ℕ → List ℕ) (all : Files) (office : Durable) → told journal.old ≡ Some all
         → StandsFor digest_of all office → (file : File) (found : Option (List ℕ)) → refusal ≡ OpenRefusal.Foreign file found → ⊥) }
     ensures kind { IfErr result (λ refusal. refusal ≡ OpenRefusal.EpochsSpent → ⊥) }
@@ -115,13 +171,17 @@ fn read_hosts<D: Disk>(alloc: Global, journal: &mut Journal<D>) -> Result<HeldHo
         Ok(catalog) => catalog,
         Err(refusal) => return Err(refusal),
     };
-    match read_counts(alloc, journal, &catalog) {
-        Ok(counts) => Ok(HeldHosts { catalog, counts }),
+    match read_totals(alloc, journal, &catalog) {
+        Ok(totals) => Ok(HeldHosts {
+            catalog,
+            counts: totals.counts,
+            partials: totals.partials,
+        }),
         Err(refusal) => Err(refusal),
     }
 }
 
-/// The pool, the catalog and the counts of a store's files.
+/// The pool, the catalog, the counts, and what is known of the partials of a store's files.
 fn read_parts<D: Disk, N: Namer>(
     alloc: Global,
     journal: &mut Journal<D>,
@@ -132,6 +192,7 @@ fn read_parts<D: Disk, N: Namer>(
     ensures fresh { IfOk result (λ found. AreFresh (slots_of found.pool.names)) }
     ensures catalog { IfOk result (λ found. (all : Files) → told journal.old ≡ Some all → HoldsCatalog all found.catalog) }
     ensures counts { IfOk result (λ found. (all : Files) → told journal.old ≡ Some all → AreTold all (length found.catalog.hosts) found.counts) }
+    ensures partials { IfOk result (λ found. (all : Files) → told journal.old ≡ Some all → ArePartialsTold all (length found.catalog.hosts) found.partials) }
     ensures foreign { IfErr result (SaysForeign (told journal.old)) }
     ensures known { IfErr result (λ refusal. (a b : Durable) → Holds N.digest_of journal.old a b
         → (file : File) (found : Option (List ℕ)) → refusal ≡ OpenRefusal.Foreign file found → ⊥) }
@@ -148,6 +209,7 @@ fn read_parts<D: Disk, N: Namer>(
             pool,
             catalog: hosts.catalog,
             counts: hosts.counts,
+            partials: hosts.partials,
         }),
         Err(refusal) => Err(refusal),
     }

@@ -69,6 +69,7 @@ fn parts_of<D: Disk, N: Namer>(
         pool: found.pool,
         catalog: found.catalog,
         counts: found.counts,
+        partials: found.partials,
         sessions: Sessions::new(alloc),
         views: Views::new(),
         halted: false,

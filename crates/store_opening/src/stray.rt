@@ -35,7 +35,6 @@ fn is_known(catalog: &Catalog, owner: Owner) -> bool
         Owner::Store => true,
         Owner::Host(host) => catalog.index(host as usize).is_some(),
         Owner::Backup(host, number) => has_line(catalog, host as usize, number),
-        Owner::Nothing => false,
     }
 }
 

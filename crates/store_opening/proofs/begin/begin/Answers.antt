@@ -52,7 +52,7 @@ returns-in-Err-clause-spent g c = λ e. absurd (c.in-Err.ensures.kind e)
 
 pub returns-then-epoch-ge18446744073709551615-clause-spent : goal.returns-then-epoch-ge18446744073709551615-clause-spent
 returns-then-epoch-ge18446744073709551615-clause-spent g c = λ e all is.
-    last_whole _ _ _ _ all (c.in-Ok.ensures.whole all (sym c.in-Ok.ensures.quiet.told_same ∙ is)) c.epoch.result c.epoch.ensures
+    last_whole _ _ _ _ _ all (c.in-Ok.ensures.whole all (sym c.in-Ok.ensures.quiet.told_same ∙ is)) c.epoch.result c.epoch.ensures
     c.if-epoch-ge18446744073709551615.true
 
 pub returns-in-Ok-raise-clause-whole : goal.returns-in-Ok-raise-clause-whole

@@ -1,4 +1,4 @@
-use Rattle.std.proofs.Common.{List, sym, subst}
+use Rattle.std.proofs.Common.{List, sym, subst, ◌∙◌}
 use Rattle.ref_counts.specs.Numbers.{Items}
 use Rattle.store_parts.specs.Held.{AreCountsOf}
 use Rattle.store_opening.proofs.Raising.{looks_still, held_raised, looks_raised, next_are, next_done, next_committed}
@@ -16,7 +16,8 @@ pub returns-in-Ok-commit-clause-ok : goal.returns-in-Ok-commit-clause-ok
 returns-in-Ok-commit-clause-ok g c = λ office names held.
     held_raised c.args.journal.now c.args.found.now.pool c.args.found.now.catalog office names held.stored c.in-Ok.next c.in-Ok.ensures
     c.commit.new.journal c.accept.new.found.pool c.accept.ensures.names c.accept.ensures.buckets c.accept.new.found.counts
-    (subst (λ (cs : List Items). AreCountsOf cs held.stored.backups) (sym c.accept.ensures.counts) held.counted)
+    (subst (λ (cs : List Items). AreCountsOf cs held.stored.shown) (sym c.accept.ensures.counts) held.counted)
+    c.accept.new.found.partials (c.accept.ensures.partials ∙ held.parked)
     c.accept.new.found.catalog c.accept.ensures.catalog c.in-Ok-commit.ensures.ready
     (next_done _ _ c.in-Ok.next c.in-Ok.ensures c.args.journal.now c.commit.new.journal c.in-Ok-commit.ensures.done)
     c.in-Ok-commit.ensures.certain
@@ -34,5 +35,5 @@ returns-in-Err-commit-clause-looks g c = λ office names at.
 pub returns-in-Ok-commit-clause-whole : goal.returns-in-Ok-commit-clause-whole
 returns-in-Ok-commit-clause-whole g c = λ whole.
     whole_raised c.args.journal.now c.commit.new.journal c.args.found.now.pool c.accept.new.found.pool c.args.found.now.catalog
-    c.args.found.now.counts c.accept.new.found.counts c.in-Ok.next c.in-Ok.ensures c.accept.new.found.catalog c.accept.ensures.catalog
-    c.accept.ensures.counts c.accept.ensures.names c.accept.ensures.buckets c.in-Ok-commit.ensures.done whole
+    c.args.found.now.counts c.accept.new.found.counts c.args.found.now.partials c.accept.new.found.partials c.in-Ok.next c.in-Ok.ensures
+    c.accept.new.found.catalog c.accept.ensures.catalog c.accept.ensures.counts c.accept.ensures.partials c.accept.ensures.names c.accept.ensures.buckets c.in-Ok-commit.ensures.done whole

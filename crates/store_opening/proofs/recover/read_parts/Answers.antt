@@ -16,6 +16,9 @@ returns-in-Ok-read_hosts-clause-catalog g c = λ all is. c.in-Ok-read_hosts.ensu
 pub returns-in-Ok-read_hosts-clause-counts : goal.returns-in-Ok-read_hosts-clause-counts
 returns-in-Ok-read_hosts-clause-counts g c = λ all is. c.in-Ok-read_hosts.ensures.counts all (c.in-Ok.ensures.quiet.told_same ∙ is)
 
+pub returns-in-Ok-read_hosts-clause-partials : goal.returns-in-Ok-read_hosts-clause-partials
+returns-in-Ok-read_hosts-clause-partials g c = λ all is. c.in-Ok-read_hosts.ensures.partials all (c.in-Ok.ensures.quiet.told_same ∙ is)
+
 pub returns-in-Ok-read_hosts-clause-quiet : goal.returns-in-Ok-read_hosts-clause-quiet
 returns-in-Ok-read_hosts-clause-quiet g c = Quiet-then c.args.journal.now c.read_pool.new.journal _ c.in-Ok.ensures.quiet
     c.in-Ok-read_hosts.ensures.quiet

@@ -13,13 +13,13 @@ returns-in-Ok-refuse_unlisted-clause-recovers g c = λ a b holds.
     (Quiet-then c.args.journal.now c.read_parts.new.journal _ c.in-Ok.ensures.quiet
     (Quiet-then c.read_parts.new.journal c.refuse_strays.new.journal _ c.in-Ok-refuse_strays.ensures.quiet
     c.in-Ok-refuse_unlisted.ensures.quiet))
-    holds c.in-Ok.ensures.opened c.in-Ok.ensures.fresh c.in-Ok.ensures.catalog c.in-Ok.ensures.counts
+    holds c.in-Ok.ensures.opened c.in-Ok.ensures.fresh c.in-Ok.ensures.catalog c.in-Ok.ensures.counts c.in-Ok.ensures.partials
 
 pub returns-in-Ok-refuse_unlisted-clause-whole : goal.returns-in-Ok-refuse_unlisted-clause-whole
 returns-in-Ok-refuse_unlisted-clause-whole g c = λ all is.
     whole_of (g.D.Disk.files c.args.journal.now.disk) c.in-Ok.found.pool.in_one_file (slots_of c.in-Ok.found.pool.names)
-    c.in-Ok.found.catalog c.in-Ok.found.counts all is c.in-Ok.ensures.opened (c.in-Ok.ensures.catalog all is)
-    (c.in-Ok.ensures.counts all is) (c.in-Ok-refuse_strays.ensures.none all (c.in-Ok.ensures.quiet.told_same ∙ is))
+    c.in-Ok.found.catalog c.in-Ok.found.counts c.in-Ok.found.partials all is c.in-Ok.ensures.opened (c.in-Ok.ensures.catalog all is)
+    (c.in-Ok.ensures.counts all is) (c.in-Ok.ensures.partials all is) (c.in-Ok-refuse_strays.ensures.none all (c.in-Ok.ensures.quiet.told_same ∙ is))
     c.in-Ok-refuse_unlisted.ensures.listed
     (c.in-Ok-refuse_gaps.ensures.none all (c.in-Ok-refuse_strays.ensures.seen all (c.in-Ok.ensures.quiet.told_same ∙ is)))
 

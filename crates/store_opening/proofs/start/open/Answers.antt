@@ -1,4 +1,4 @@
-use Rattle.std.proofs.Common.{inl}
+use Rattle.std.proofs.Common.{inl, inr}
 use Rattle.store_opening.proofs.Reopening.{again_holds, failed_each, unknown_never, left_unopened, told_files, openable}
 use Rattle.store_opening.proofs.Settling.{settles_then, stops_then, stops_unopened}
 use Rattle.store_opening.proofs.Whole.{listed_before}
@@ -16,6 +16,9 @@ returns-in-Err-clause-left g c = λ a b is.
 
 pub returns-in-Err-clause-foreign : goal.returns-in-Err-clause-foreign
 returns-in-Err-clause-foreign g c = λ file found e. inl (c.in-Err.ensures.foreign file found e)
+
+pub returns-in-Err-start-clause-foreign : goal.returns-in-Err-start-clause-foreign
+returns-in-Err-start-clause-foreign g c = λ file found e. inr (c.in-Err-start.ensures.foreign file found e)
 
 pub returns-in-Err-start-clause-left : goal.returns-in-Err-start-clause-left
 returns-in-Err-start-clause-left g c = λ a b is.

@@ -1,5 +1,4 @@
-use Rattle.std.specs.BTreeSet.{BTreeSet, contains}
-use Rattle.std.proofs.Common.{List, Bool, sym, ap, ◌∙◌}
+use Rattle.std.proofs.Common.{Bool, sym, ap, ◌∙◌}
 use Rattle.disk_trait.specs.declared.ids.FileId.TheVariants.{Table}
 use Rattle.store_opening.specs.Tables.{noted}
 use Rattle.store_opening.proofs.MissingTables.{none_in, noted_lists}
