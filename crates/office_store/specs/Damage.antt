@@ -29,6 +29,8 @@ use Rattle.open_sessions.specs.Places.{next_in}
 use Rattle.store_parts.specs.declared.parts.StoreParts.{StoreParts}
 use Rattle.store_parts.specs.FoundLaws.{reader_place}
 use Rattle.store_dumps.specs.Opening.{OpensDump}
+use Rattle.store_dumps.specs.Resuming.{ResumesDump}
+use Rattle.store_partials.specs.Heeding.{HeedsPartial, IsKnownFor, IsKnownNamed}
 use Rattle.store_stages.specs.Losing.{NamesLost}
 use Rattle.store_reads.specs.Told.{ReadsTree, TellsBackup, HasDamagedTable, IsReadReply, ListsRows, SaysNode, GivesFile}
 use Rattle.store_restores.specs.Finding.{place_of, HasRestore}
@@ -97,7 +99,10 @@ module _ {D N S : Type 0} {d : DiskGhosts D} {n : NamerGhosts N S} where
   SaysOfFiles old (E.Put session path item) reply new = PutSays old item reply
   SaysOfFiles old E.Sweep reply new = SweepSays old reply new
   SaysOfFiles old (E.OpenDump host kind now) reply new = OpensDump old host kind now reply new
+  SaysOfFiles old (E.Resume host) reply new = ResumesDump old host reply new
   SaysOfFiles old (E.Commit session now) reply new = HeedsTables old session reply new
+  SaysOfFiles old (E.Park session) reply new = HeedsPartial old (IsKnownFor old session) reply new
+  SaysOfFiles old (E.DropPartial host) reply new = HeedsPartial old (IsKnownNamed old host) reply new
   SaysOfFiles old (E.OpenRead host number) reply new = IsReadReply (TellsBackup old host number) (HasDamagedTable old host number)
       (λ rows answer. OpensRestore old.sessions old.catalog.epoch rows answer new.sessions) reply
   SaysOfFiles old (E.ReadNext restore) reply new = NextSays old restore reply new

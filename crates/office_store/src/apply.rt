@@ -13,8 +13,9 @@ use std::alloc::Global;
 use store_cleaning::{clean, sweep};
 use store_commits::commit_dump;
 use store_deletions::{delete, expire};
-use store_dumps::{abort, open_dump, put, remove};
+use store_dumps::{abort, open_dump, put, remove, resume};
 use store_hosts::{add_host, backups, contact, due, hosts, keep, set_rules, stats};
+use store_partials::{drop_partial, park, partial_info};
 use store_parts::StoreParts;
 use store_readers::{close_file, open_file, read_part};
 use store_reads::{list, lookup, read_file};
@@ -55,6 +56,10 @@ fn carry_out<D: Disk, N: Namer>(
         Event::StageDrop { stage } => stage_drop(parts, *stage),
         Event::Commit { dump, now } => commit_dump(parts, alloc, *dump, *now),
         Event::Abort { dump } => abort(parts, alloc, *dump),
+        Event::Park { dump } => park(parts, alloc, *dump),
+        Event::Resume { host } => resume(parts, alloc, host),
+        Event::DropPartial { host } => drop_partial(parts, alloc, host),
+        Event::PartialInfo { host } => partial_info(parts, host),
         Event::List {
             host,
             number,

@@ -8,8 +8,8 @@
 //! `Moves` of `specs/Moves` says it of a list of calls: a legal history.
 //!
 //! Over any disk that tells its files, a damaged one too, `TellsDamage` of `specs/Damage` holds of each answer: after Ok each
-//! table, content and index that the event called for was there, in its grammar or with its digest, and `Damaged` names one
-//! that wasn't, with what was found of it. An event that calls for no file never answers `Damaged`.
+//! table, partial, content and index that the event called for was there, in its grammar or with its digest, and `Damaged` names
+//! one that wasn't, with what was found of it. An event that calls for no file never answers `Damaged`.
 //!
 //! ```text
 //! let mut store = Store::open(alloc, disk, Md5Namer)?;

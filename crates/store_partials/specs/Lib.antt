@@ -1,0 +1,17 @@
+pub mod Written
+pub mod Parked
+pub mod Heeding
+pub mod RowLaws
+pub mod CountLaws
+pub mod WrittenLaws
+pub mod GatherLaws
+pub mod BuildLaws
+pub mod PlanLaws
+pub mod AfterLaws
+pub mod MemoryLaws
+pub mod HostLaws
+pub mod StoredLaws
+pub mod ParkLaws
+pub mod DropLaws
+pub mod InfoLaws
+pub mod HeedLaws
