@@ -9,6 +9,7 @@ use backup_rules::{Kind, Line, Rules};
 use backup_views::Views;
 use disk_trait::{DiskRoom, MemoryDisk};
 use host_counts::HostCounts;
+use host_partials::HostPartials;
 use intent_journal::Journal;
 use office_catalog::{Catalog, CatalogChange};
 use office_model::{Answer, Event, Refusal};
@@ -205,6 +206,7 @@ pub fn parts_with(
         pool,
         catalog,
         counts: HostCounts::new(alloc)?,
+        partials: HostPartials::new(alloc)?,
         sessions: Sessions::new(alloc),
         views: Views::new(),
         halted: false,

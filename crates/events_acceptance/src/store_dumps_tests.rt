@@ -6,6 +6,7 @@ use backup_rules::{Kind, Rules};
 use backup_views::Views;
 use disk_trait::{Bytes, DiskRoom, MemoryDisk};
 use host_counts::HostCounts;
+use host_partials::HostPartials;
 use intent_journal::Journal;
 use office_model::{Answer, Refusal, SessionName};
 use open_sessions::Sessions;
@@ -141,6 +142,7 @@ fn opened<'a>(alloc: Global, made: &'a Cell<u64>) -> Result<Parts<'a>, Fail> {
         pool,
         catalog,
         counts: HostCounts::new(alloc)?,
+        partials: HostPartials::new(alloc)?,
         sessions: Sessions::new(alloc),
         views: Views::new(),
         halted: false,

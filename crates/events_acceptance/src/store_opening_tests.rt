@@ -161,6 +161,7 @@ const STRAYS: &[(FileId, &[u8], FileId, bool)] = &[
     (FileId::Head, b"abc", FileId::Head, true),
     (FileId::Host(0), b"abc", FileId::Host(0), true),
     (FileId::Table(0, 0), b"", FileId::Table(0, 0), true),
+    (FileId::Partial(0), b"abc", FileId::Partial(0), true),
     (FileId::Partial(2), b"abc", FileId::Partial(2), true),
     (FileId::PoolBucket(7), b"abc", FileId::PoolBucket(7), true),
     (FileId::Counts(0), COUNTS, FileId::PoolBucket(0x5d), false),

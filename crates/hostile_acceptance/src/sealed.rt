@@ -7,7 +7,7 @@ use crate::disks::{
 use disk_trait::{Disk, FileId, MemoryDisk, PoolId};
 use pool_name::Md5Namer;
 use std::test::Fail;
-use store_talks::scripts::Step::{Ask, Clean, Dump, File};
+use store_talks::scripts::Step::{Ask, Clean, Dump, File, Open};
 use store_talks::scripts::{Put, Step, expect_steps};
 use store_talks::talks::{DONE, HOST, Machine, NOW, Row, Says, blank_disk, expect, expect_talk};
 
@@ -38,6 +38,19 @@ fn an_opening_names_a_sealed_file_that_was_altered(rt: HostRuntime) -> Result<()
         expect_each_foreign(&rt, &disk, *file)?;
     }
     Ok(())
+}
+
+/// A host whose one dump was parked.
+const PARKED: &[Step] = &[
+    Ask(HOST),
+    Open(0, "full"),
+    Ask(Row("POST /dumps/1-0/park", "", DONE)),
+];
+
+#[test]
+fn an_opening_names_a_partial_that_was_altered(rt: HostRuntime) -> Result<(), Fail> {
+    let disk = expect_steps(&rt, blank_disk(rt.alloc(), &[])?, PARKED)?;
+    expect_each_foreign(&rt, &disk, FileId::Partial(0))
 }
 
 /// The one file of an older store's index, with the content `hello`.

@@ -1,10 +1,12 @@
-//! Tests of what is open: dumps, restores, and the office in memory. They use only what the crates show, and stand apart from
-//! them, so that each crate is proved once.
+//! Tests of what is open: dumps, restores, the files of partial dumps, and the office in memory. They use only what the crates
+//! show, and stand apart from them, so that each crate is proved once.
 #![tactic(auto)]
 
 #[cfg(test)]
 mod dump_session_tests;
 #[cfg(test)]
 mod open_sessions_tests;
+#[cfg(test)]
+mod partial_files_tests;
 #[cfg(test)]
 mod tree_office_tests;

@@ -10,7 +10,6 @@ use shared_tables::SharedTable;
 use std::alloc::{AllocError, Global};
 use std::sync::Arc;
 use std::test::Fail;
-use stream_traits::Moment;
 
 // What a call on a dump answers.
 #[derive(Clone, Copy, PartialEq, Eq)]
@@ -71,7 +70,7 @@ fn dump_of(alloc: Global, sequence: u64, host: usize) -> Result<OpenDump, AllocE
         name: name_of(sequence),
         host,
         kind: Kind::Full,
-        start: Moment::first(),
+        start: 0,
         base: Arc::new(alloc, Table::new(alloc))?,
         hint: None,
         tree: Session::begin_full(alloc)?,

@@ -161,7 +161,7 @@ fn a_content_in_pieces_comes_back_whole(rt: HostRuntime) -> Result<(), Fail> {
 }
 
 /// Cleans all buckets, of which none has a content that nothing holds.
-fn clean_all<P: Port>(alloc: Global, port: &mut P) -> Result<(), Fail> {
+pub fn clean_all<P: Port>(alloc: Global, port: &mut P) -> Result<(), Fail> {
     for bucket in 0..16u8 {
         expect_step(alloc, port, Ask::Clean(bucket), "0 0 0")?;
     }

@@ -1,5 +1,5 @@
-//! Tests of large contents in the store: stages, puts of stages, readers; with stops and faults at each call. They use only what the
-//! crates show, and stand apart from them, so that each crate is proved once.
+//! Tests of large contents in the store: stages, puts of stages, readers; with stops and faults at each call. And of partial dumps. They
+//! use only what the crates show, and stand apart from them, so that each crate is proved once.
 #![tactic(auto)]
 
 #[cfg(test)]
@@ -8,6 +8,8 @@ mod altered;
 mod contents;
 #[cfg(test)]
 mod faults;
+#[cfg(test)]
+mod partials_tests;
 #[cfg(test)]
 mod ports;
 #[cfg(test)]

@@ -191,6 +191,16 @@ fn stops_in_an_incremental_dump(rt: HostRuntime) -> Result<(), Fail> {
 }
 
 #[test]
+fn stops_in_a_parking(rt: HostRuntime) -> Result<(), Fail> {
+    expect_stops(&rt, 4, 5)
+}
+
+#[test]
+fn stops_in_a_resumed_dump(rt: HostRuntime) -> Result<(), Fail> {
+    expect_stops(&rt, 5, 6)
+}
+
+#[test]
 fn stops_in_a_deletion_and_a_night(rt: HostRuntime) -> Result<(), Fail> {
-    expect_stops(&rt, 4, 8)
+    expect_stops(&rt, 6, 10)
 }

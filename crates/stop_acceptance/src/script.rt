@@ -39,7 +39,33 @@ const INCREMENTAL: &[Row] = &[
     ),
 ];
 
-/// The one content is then nobody's.
+/// A full dump with another file, which is broken off: what it has is the host's partial.
+const PARKING: &[Row] = &[
+    Row(
+        "POST /hosts/pc1/dumps?kind=full",
+        "",
+        Says::Json(MADE, "{\"dump\":\"1-2\"}"),
+    ),
+    Row("PUT /dumps/1-2/entry?path=p&kind=file", "parked", DONE),
+    Row("POST /dumps/1-2/park", "", DONE),
+];
+
+/// The dump is dropped and gone on with from the partial, which the commit drops.
+const RESUMING: &[Row] = &[
+    Row("DELETE /dumps/1-2", "", DONE),
+    Row(
+        "POST /hosts/pc1/resume",
+        "",
+        Says::Json(MADE, "{\"dump\":\"1-3\"}"),
+    ),
+    Row(
+        "POST /dumps/1-3/commit",
+        "",
+        Says::Json(MADE, "{\"number\":2}"),
+    ),
+];
+
+/// The content of the first dump is then nobody's.
 const DELETION: &[Row] = &[Row("DELETE /hosts/pc1/backups/0", "", DONE)];
 
 const MARKING: &[Row] = &[Row(
@@ -61,6 +87,8 @@ const EVENTS: &[&[Row]] = &[
     &[HOST],
     FULL,
     INCREMENTAL,
+    PARKING,
+    RESUMING,
     DELETION,
     MARKING,
     REMOVAL,
@@ -84,15 +112,17 @@ pub fn rows_of(alloc: Global, events: usize) -> Result<Vec<Row>, Fail> {
     Ok(rows)
 }
 
-/// The nine questions: hosts, backups, lists, files, numbers, the counts of contacts, a cleaning, a sweep, and a further dump with
-/// what it keeps. The dump's name goes by how often the store was opened, so it is asked for by three names.
+/// The questions: hosts, backups, the partial, lists, files, numbers, the counts of contacts, a cleaning, a sweep, and a further dump
+/// with what it keeps. The dump's name goes by how often the store was opened, so it is asked for by three names.
 const QUESTIONS: &[(&str, &str)] = &[
     ("GET /hosts", ""),
     ("GET /hosts/pc1/backups", ""),
+    ("GET /hosts/pc1/partial", ""),
     ("GET /hosts/pc1/backups/0/list", ""),
     ("GET /hosts/pc1/backups/1/list", ""),
     ("GET /hosts/pc1/backups/0/file?path=a.txt", ""),
     ("GET /hosts/pc1/backups/1/file?path=a.txt", ""),
+    ("GET /hosts/pc1/backups/2/file?path=p", ""),
     ("GET /stats", ""),
     ("POST /hosts/pc1/contacts?good=1", ""),
     ("POST /night/clean?bucket=5", ""),
@@ -107,6 +137,7 @@ const QUESTIONS: &[(&str, &str)] = &[
     ("GET /hosts/pc1/backups/0/file?path=b", ""),
     ("GET /hosts/pc1/backups/1/file?path=b", ""),
     ("GET /hosts/pc1/backups/2/file?path=b", ""),
+    ("GET /hosts/pc1/backups/3/file?path=b", ""),
     ("GET /stats", ""),
 ];
 

@@ -15,7 +15,7 @@ const OWNERS: [(FileId, Owner); 8] = [
     (FileId::PoolBucket(0x5d), Owner::Store),
     (FileId::Pool(HELLO), Owner::Store),
     (FileId::Stage(7), Owner::Store),
-    (FileId::Partial(0), Owner::Nothing),
+    (FileId::Partial(0), Owner::Host(0)),
 ];
 
 #[test]
