@@ -458,7 +458,7 @@ def plain_paths(room):
 
 
 def stopped(room):
-    """SIGINT in mid push ends it with status 130 and no open dump; the next push is whole."""
+    """SIGINT in mid push ends it with status 130 and its dump is parked; the next push goes on with what it sent, and is whole."""
     make_small(room.tree, 300, 8_000)
     room.relay.reset(rate=1_000_000)
     run = Begun(room.top, room.relay.port, "push", room.host, room.tree)
@@ -466,9 +466,11 @@ def stopped(room):
     run.send_signal(signal.SIGINT)
     status, _, said = run.end()
     want(status, 130, "status")
-    want_in("the dump is aborted", said)
+    want_in("the dump is parked", said)
     want((room.backups()["dump"], room.backups()["backups"]), (None, []), "what is left")
-    room.push()
+    found = room.push()
+    if found["unchanged"] < 20:
+        raise Wrong(f"what was sent is sent again: {found}")
     want_same(room.tree, room.restored())
 
 
