@@ -1,0 +1,4 @@
+pub mod Session
+pub mod TokenSets
+pub mod Receipts
+pub mod TokenLaws
