@@ -1,5 +1,5 @@
 -- The office: hosts with their backups, the pool, the open dumps, restores, stages and readers. Trees are whole.
-use Rattle.std.specs.Prelude.{◌≡◌, ℕ, ◌+◌, ◌-◌, ◌<◌, ◌≤◌, ◌^◌, Bool, true, false, not, List, [], length, Option, Some, IfSome, ◌==◌, ◌||◌, slice_get, bytes_eq}
+use Rattle.std.specs.Prelude.{◌≡◌, ◌≢◌, ℕ, ◌+◌, ◌-◌, ◌<◌, ◌≤◌, ◌^◌, Bool, true, false, not, List, [], length, Option, Some, IfSome, ◌==◌, ◌||◌, slice_get, bytes_eq}
 use Rattle.std.specs.List.{position_from, list_any, filter}
 use Rattle.std.specs.Option.{option_and_then, option_map_or}
 use Rattle.attr_records.specs.Items.{Tree, is_dir, some_bytes}
@@ -9,8 +9,11 @@ use Rattle.backup_rules.specs.declared.lines.Kind.{Kind}
 use Rattle.backup_rules.specs.declared.lines.Line.{Line}
 use Rattle.backup_rules.specs.Values.{RuleSet}
 use Rattle.disk_trait.specs.declared.ids.PoolId.{PoolId}
-use Rattle.office_model.specs.declared.session.SessionName.{SessionName}
-use Rattle.office_model.specs.Session.{is_same_session}
+use Rattle.receipts.specs.declared.session.SessionName.{SessionName}
+use Rattle.receipts.specs.declared.session.Token.{Token}
+use Rattle.receipts.specs.declared.receipt.Receipt.{Receipt}
+use Rattle.receipts.specs.Receipts.{receipt_limit}
+use Rattle.receipts.specs.Session.{is_same_session}
 use Rattle.office_model.specs.Places.{AtEach, Differ}
 use Rattle.office_model.specs.Pool.{Pool, byte_cmp, is_pooled, is_same_content, holds}
 
@@ -24,7 +27,8 @@ pub record Partial : Type 0 where
   pub start : ℕ
   pub tree : Tree
 
--- good and bad count contacts; next is the number of the next backup
+-- good and bad count contacts; next is the number of the next backup; receipts are those of the last 256 commits that gave one, the
+-- oldest first, and outlive the backups
 pub record Host : Type 0 where
   pub name : List ℕ
   pub rules : RuleSet
@@ -33,8 +37,10 @@ pub record Host : Type 0 where
   pub next : ℕ
   pub backups : List Backup
   pub partial : Option Partial
+  pub receipts : List Receipt
 
--- an open dump of the host at this index in order of adding, which began with the tree base
+-- an open dump of the host at this index in order of adding, which began with the tree base: the token that it was opened with, if it was
+-- with one, and those of its puts and removals, in the order of these
 pub record Dump : Type 0 where
   pub name : SessionName
   pub host : ℕ
@@ -42,6 +48,8 @@ pub record Dump : Type 0 where
   pub start : ℕ
   pub base : Tree
   pub tree : Tree
+  pub token : Option Token
+  pub kept : List Token
 
 -- an open restore; its position is the number of frames that were given
 pub record Restore : Type 0 where
@@ -199,6 +207,10 @@ host_limit = 1024
 abbrev pub last_sequence : ℕ
 last_sequence = 2 ^ 64 - 1
 
+-- the most tokens that a dump keeps
+abbrev pub token_limit : ℕ
+token_limit = 1048576
+
 -- the most bytes of one content
 abbrev pub content_limit : ℕ
 content_limit = 1099511627775
@@ -228,16 +240,35 @@ pub record AreBackups (next : ℕ) (backups : List Backup) : Type 0 where
   pub numbered : AreNumbered next backups
   pub last_filled : (last : Backup) → slice_get backups (length backups - 1) ≡ Some last → last.line.filled ≡ true
 
+-- at most 256 receipts of different tokens
+pub record AreReceipts (receipts : List Receipt) : Type 0 where
+  pub few : length receipts ≤ receipt_limit
+  pub tokens_differ : Differ (λ (receipt : Receipt). receipt.token) receipts
+
 pub record IsSoundHost (host : Host) : Type 0 where
   pub numbers : host.next ≤ number_limit
   pub backups : AreBackups host.next host.backups
   pub partial : IfSome host.partial (λ (partial : Partial). IsTree partial.tree)
+  pub receipts : AreReceipts host.receipts
 
 -- at most 1,024 hosts of different names
 pub record AreHosts (hosts : List Host) : Type 0 where
   pub few : length hosts ≤ host_limit
   pub differ : Differ (λ (host : Host). host.name) hosts
   pub each : AtEach IsSoundHost hosts
+
+-- a receipt that stands at this place among those of the host at this place
+abbrev pub StandsAt : List Host → ℕ → ℕ → Receipt → Type 0
+StandsAt hosts i n receipt = (host : Host) × (slice_get hosts i ≡ Some host) × (slice_get host.receipts n ≡ Some receipt)
+
+-- what holds of each receipt of each host
+abbrev pub AtEachReceipt : (Receipt → Type 0) → List Host → Type 0
+AtEachReceipt P hosts = (i n : ℕ) (receipt : Receipt) → StandsAt hosts i n receipt → P receipt
+
+-- the names in receipts, of one host or of two, differ, and none is of a later epoch
+pub record AreEnded (epoch : ℕ) (hosts : List Host) : Type 0 where
+  pub differ : (i j m n : ℕ) (a b : Receipt) → StandsAt hosts i m a → StandsAt hosts j n b → a.name ≡ b.name → (i ≡ j) × (m ≡ n)
+  pub up_to_now : AtEachReceipt (λ (receipt : Receipt). receipt.name.epoch ≤ epoch) hosts
 
 -- a session of this epoch that was given out
 pub record IsGiven (epoch sequence : ℕ) (name : SessionName) : Type 0 where
@@ -253,11 +284,22 @@ pub record AreSessions (epoch sequence : ℕ) (dumps : List Dump) (restores : Li
   pub apart : (i j : ℕ) (dump : Dump) (restore : Restore) → slice_get dumps i ≡ Some dump → slice_get restores j ≡ Some restore
       → dump.name ≡ restore.name → ⊥
 
--- an open dump's host is there and has a number left
+-- a name in a receipt is no open session's, and, of this epoch, was given out
+pub record IsOver (epoch sequence : ℕ) (dumps : List Dump) (restores : List Restore) (receipt : Receipt) : Type 0 where
+  pub given : receipt.name.epoch ≡ epoch → receipt.name.sequence < sequence
+  pub no_dump : AtEach (λ (dump : Dump). dump.name ≢ receipt.name) dumps
+  pub no_restore : AtEach (λ (restore : Restore). restore.name ≢ receipt.name) restores
+
+-- no receipt has this token
+abbrev pub IsUnspent : List Receipt → Option Token → Type 0
+IsUnspent receipts token = IfSome token (λ (token : Token). AtEach (λ (receipt : Receipt). receipt.token ≢ token) receipts)
+
+-- an open dump's host is there, has a number left, and no receipt of the dump's token
 pub record HasHost (hosts : List Host) (dump : Dump) : Type 0 where
   pub host : Host
   pub is_host : slice_get hosts dump.host ≡ Some host
   pub has_number : host.next < number_limit
+  pub unspent : IsUnspent host.receipts dump.token
 
 -- the contents of a tree are in the pool
 abbrev pub IsPooledTree : Pool → Tree → Type 0
@@ -269,18 +311,25 @@ ArePooledHosts pool hosts = AtEach (λ (host : Host). AtEach (λ (backup : Backu
 abbrev pub IsPooledPartial : Pool → Host → Type 0
 IsPooledPartial pool host = IfSome host.partial (λ (partial : Partial). IsPooledTree pool partial.tree)
 
--- what the disk keeps: its hosts, and a pool that has the contents of their backups and partials
+-- what the disk keeps: its hosts with their receipts, and a pool that has the contents of their backups and partials
 pub record IsSoundDurable (kept : Durable) : Type 0 where
   pub hosts : AreHosts kept.hosts
   pub pool_order : IsInOrder byte_cmp kept.pool
   pub of_backups : ArePooledHosts kept.pool kept.hosts
   pub of_partials : AtEach (IsPooledPartial kept.pool) kept.hosts
+  pub ended : AreEnded kept.epoch kept.hosts
+
+-- at most 1,048,576 tokens that differ
+pub record AreKept (kept : List Token) : Type 0 where
+  pub few : length kept ≤ token_limit
+  pub differ : Differ (λ (token : Token). token) kept
 
 -- open dumps by themselves: at most one of a host
 pub record AreDumps (dumps : List Dump) : Type 0 where
   pub one_a_host : Differ (λ (dump : Dump). dump.host) dumps
   pub bases : AtEach (λ (dump : Dump). IsTree dump.base) dumps
   pub trees : AtEach (λ (dump : Dump). IsTree dump.tree) dumps
+  pub tokens : AtEach (λ (dump : Dump). AreKept dump.kept) dumps
 
 abbrev pub AreRestores : List Restore → Type 0
 AreRestores restores = AtEach (λ (restore : Restore). IsTree restore.tree) restores
@@ -326,9 +375,10 @@ pub record IsPooledOpen (pool : Pool) (now : Volatile) : Type 0 where
   pub of_restores : AtEach (λ (restore : Restore). IsPooledTree pool restore.tree) now.restores
   pub of_readers : AtEach (IsPooledReader pool) now.readers
 
--- what ties both: open dumps have their hosts, and what is open is in the pool
+-- what ties both: open dumps have their hosts, what is open is in the pool, and what has a receipt isn't open
 pub record AreTied (kept : Durable) (now : Volatile) : Type 0 where
   pub hosted : AtEach (HasHost kept.hosts) now.dumps
+  pub over : AtEachReceipt (IsOver kept.epoch now.sequence now.dumps now.restores) kept.hosts
   pub pooled : IsPooledOpen kept.pool now
   pub open pooled use *
 

@@ -1,7 +1,7 @@
 -- A host's partial stays until a dump of the host is committed or parked, or the partial is dropped; and it is what was parked, and what
 -- a resumed dump begins with.
 use Rattle.std.specs.Prelude.{◌≡◌, ℕ, List, [], ◌∷◌, ◌++◌, Some, Ok, slice_get}
-use Rattle.office_model.specs.declared.session.SessionName.{SessionName}
+use Rattle.receipts.specs.declared.session.SessionName.{SessionName}
 use Rattle.office_model.specs.declared.event.Event.{Event}
 use Rattle.office_model.specs.declared.event.Event.TheVariants.{Commit, Park, DropPartial}
 use Rattle.office_model.specs.Office.{Office, Host, Dump, Names, Partial}

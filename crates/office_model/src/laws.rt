@@ -4,6 +4,7 @@ ghost use Rattle.office_model.specs.declared.event.Event.{Event};
 ghost use Rattle.office_model.specs.Meaning.{Reply};
 ghost use Rattle.office_model.specs.Step.{State, meaning_of, IsStep, IsSoundState};
 ghost use Rattle.office_model.specs.Partials.{PartialsStay, ParkedIsPartial, ResumedIsPartial, ParkedReads};
+ghost use Rattle.office_model.specs.Tokens.{ReceiptsDiffer, OpeningByReceipt, OpeningByDump, CommitByReceipt, OkRepeats, PutByToken, RemoveByToken, FirstAlone};
 ghost use Rattle.office_model.specs.laws.Lawful.{IsLawful};
 
 /// Each event is lawful: carried out in a sound office with its names, it answers what is of its kind and leaves a sound office, in
@@ -27,4 +28,25 @@ pub fn what_is_parked_is_resumed()
     ensures parked { ParkedIsPartial }
     ensures resumed { ResumedIsPartial }
     ensures reads { ParkedReads }
+{}
+
+/// Among the receipts of a host no two have one token, in every legal history.
+pub fn receipts_have_different_tokens()
+    ensures { ReceiptsDiffer }
+{}
+
+/// An opening or a commit that repeats another has its answer, and a put or a removal that repeats one is Done; all of them leave the
+/// office as it was, but for a stage that the put names.
+pub fn a_repeated_request_changes_nothing()
+    ensures by_receipt { OpeningByReceipt }
+    ensures by_dump { OpeningByDump }
+    ensures committed { CommitByReceipt }
+    ensures ok { OkRepeats }
+    ensures put { PutByToken }
+    ensures removed { RemoveByToken }
+{}
+
+/// Of the puts and removals of one open dump with one token only the first Ok changes a tree, whatever came between it and the next.
+pub fn only_the_first_of_a_token_changes()
+    ensures { FirstAlone }
 {}

@@ -1,7 +1,7 @@
 -- An open dump's kind, start and tree become its host's partial, in the place of an earlier one, and its contents are in the pool,
 -- unmarked. The dump stays open.
 use Rattle.std.specs.Prelude.{List, Option, Some, Ok, slice_get, slice_set}
-use Rattle.office_model.specs.declared.session.SessionName.{SessionName}
+use Rattle.receipts.specs.declared.session.SessionName.{SessionName}
 use Rattle.office_model.specs.declared.answer.Answer.TheVariants.{Done}
 use Rattle.office_model.specs.declared.answer.AnswerKind.TheVariants.{Done as DoneKind}
 use Rattle.office_model.specs.declared.refusal.BrokenRule.TheVariants.{NoSession}

@@ -1,6 +1,6 @@
 -- A dump of a host's partial: of its kind and its start, from its tree. The partial stays.
 use Rattle.std.specs.Prelude.{ℕ, List, [], ◌∷◌, ◌++◌, Ok, is_some, nat_le}
-use Rattle.office_model.specs.declared.session.SessionName.{SessionName}
+use Rattle.receipts.specs.declared.session.SessionName.{SessionName}
 use Rattle.office_model.specs.declared.answer.Answer.TheVariants.{Dump as Opened}
 use Rattle.office_model.specs.declared.answer.AnswerKind.TheVariants.{Dump as OpenedKind}
 use Rattle.office_model.specs.declared.refusal.BrokenRule.TheVariants.{NoPartial, SessionOpen, NumbersSpent}

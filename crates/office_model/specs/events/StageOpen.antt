@@ -1,6 +1,6 @@
 -- A stage of an open dump, with no bytes. Its number is that of the next stage, which rises.
 use Rattle.std.specs.Prelude.{ℕ, List, [], ◌∷◌, ◌++◌, Ok, nat_le}
-use Rattle.office_model.specs.declared.session.SessionName.{SessionName}
+use Rattle.receipts.specs.declared.session.SessionName.{SessionName}
 use Rattle.office_model.specs.declared.answer.Answer.TheVariants.{Stage as Opened}
 use Rattle.office_model.specs.declared.answer.AnswerKind.TheVariants.{Stage as OpenedKind}
 use Rattle.office_model.specs.declared.refusal.BrokenRule.TheVariants.{NumbersSpent}

@@ -2,16 +2,15 @@
 use Rattle.std.specs.Prelude.{◌≡◌, ◌<◌, ℕ, true, not, List, Ok}
 use Rattle.std.specs.List.{remove}
 use Rattle.std.proofs.Common.{refl, ap, ◌∙◌, subst}
-use Rattle.office_model.specs.declared.session.SessionName.{SessionName}
-use Rattle.office_model.specs.declared.answer.Answer.TheVariants.{Done}
+use Rattle.receipts.specs.declared.session.SessionName.{SessionName}
 use Rattle.office_model.specs.Places.{AtEach-remove}
-use Rattle.office_model.specs.Session.{is_same_session}
+use Rattle.receipts.specs.Session.{is_same_session}
 use Rattle.office_model.specs.Office.{Office, Dump, Stage, with_dumps, with_stages, stages_left, IsSound, HasHost, in_dumps}
 use Rattle.office_model.specs.Meaning.{Same}
 use Rattle.office_model.specs.Parts.{dump_at}
 use Rattle.office_model.specs.events.Abort.{without_dump, meaning}
 use Rattle.office_model.specs.laws.Judging.{bound, at_is}
-use Rattle.office_model.specs.laws.VolatileLaws.{dump_removed, pooled_dump_removed}
+use Rattle.office_model.specs.laws.VolatileLaws.{dump_removed, over_dump_removed, pooled_dump_removed}
 use Rattle.office_model.specs.laws.StageLaws.{AtEach-filter}
 use Rattle.office_model.specs.laws.Lookups.{named}
 use Rattle.office_model.specs.laws.HeldLaws.{removed_held, held_by, was_pooled, was_in_dumps}
@@ -28,6 +27,7 @@ IsSound-without_dump office session dumps sound e =
       now = dump_removed office.epoch office.volatile sound.now w.0.index w.0.value session is.1 (named office.dumps session w.0.index w.0.value is.0 is.1);
       tied = record {
         hosted = AtEach-remove (HasHost office.hosts) office.dumps w.0.index sound.hosted;
+        over = λ i n r at. over_dump_removed office.epoch office.sequence office.dumps office.restores r (sound.over i n r at) w.0.index;
         pooled = pooled_dump_removed office.pool office.volatile sound.pooled w.0.index (stages_left session office.stages);
       };
     })

@@ -8,6 +8,7 @@ use Rattle.office_model.specs.Places.{AtEach, AtEach-longer, Differ-longer, slic
 use Rattle.office_model.specs.Office.{Office, Host, Backup, host_index, host_limit, with_hosts, IsSound, AreHosts, IsSoundHost, HasHost, IsPooledTree, IsPooledPartial}
 use Rattle.office_model.specs.events.AddHost.{new_host, with_host, meaning}
 use Rattle.office_model.specs.laws.Judging.{bound, passed}
+use Rattle.office_model.specs.laws.ReceiptLaws.{added_among, among_ended}
 use Rattle.office_model.specs.laws.Lookups.{host_index-none}
 use Rattle.office_model.specs.laws.Lawful.{IsLawful, does, does_hosts}
 
@@ -26,6 +27,7 @@ IsSoundHost-new name rules = record {
     last_filled = λ last e. absurd (cc);
   };
   partial = tt;
+  receipts = record { few = omega arith; tokens_differ = λ i j a b e. absurd (cc) };
 }
 
 AreHosts-added : (hosts : List Host) (name : List ℕ) (rules : RuleSet) → AreHosts hosts → host_index hosts name ≡ None
@@ -48,11 +50,13 @@ IsSound-with_host office name rules hosts sound e =
         pool_order = sound.pool_order;
         of_backups = AtEach-longer (λ (host : Host). AtEach (λ (backup : Backup). IsPooledTree office.pool backup.tree) host.backups) office.hosts (new_host name rules) sound.of_backups (λ i backup e. absurd (cc));
         of_partials = AtEach-longer (IsPooledPartial office.pool) office.hosts (new_host name rules) sound.of_partials tt;
+        ended = among_ended office.epoch (office.hosts ++ new_host name rules ∷ []) office.hosts (added_among office.hosts (new_host name rules) refl) sound.ended;
       };
       now = sound.now;
       tied = record {
         hosted = λ i dump at. let was : HasHost office.hosts dump = sound.hosted i dump at in
-            record { host = was.host; is_host = slice_get-longer office.hosts (new_host name rules) dump.host was.host was.is_host; has_number = was.has_number };
+            record { host = was.host; is_host = slice_get-longer office.hosts (new_host name rules) dump.host was.host was.is_host; has_number = was.has_number; unspent = was.unspent };
+        over = λ i n r at. sound.over i n r (added_among office.hosts (new_host name rules) refl i n r at);
         pooled = sound.pooled;
       };
     })

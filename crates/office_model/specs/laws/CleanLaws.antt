@@ -126,10 +126,12 @@ IsSound-cleaned office inside sound = record {
     pool_order = cleaned_order inside (is_protected office.hosts office.dumps office.restores office.readers) office.pool sound.pool_order;
     of_backups = λ i host at n backup at_backup content h. has content (backup_safe office content i n host backup at at_backup h) (sound.of_backups i host at n backup at_backup content h);
     of_partials = λ i host at. partial_stays i host at host.partial refl (sound.of_partials i host at);
+    ended = sound.ended;
   };
   now = sound.now;
   tied = record {
     hosted = sound.hosted;
+    over = sound.over;
     pooled = pooled_more office.pool office.volatile sound.pooled (cleaned inside (is_protected office.hosts office.dumps office.restores office.readers) office.pool)
         (λ i dump at was content h. has content (base_safe office content i dump at h) (was content h))
         (λ i restore at was content h. has content (restore_safe office content i restore at h) (was content h))

@@ -1,38 +1,49 @@
 -- A commit, as the parts of an office in memory make it, and that it keeps an office sound.
-use Rattle.std.specs.Prelude.{◌≡◌, ◌≢◌, ◌<◌, ℕ, true, not, List, Some, Ok, slice_get, slice_set, ◌⊎◌}
+use Rattle.std.specs.Prelude.{◌≡◌, ◌≢◌, ◌<◌, ◌≤◌, ℕ, Bool, true, false, not, List, Option, None, Some, Ok, is_some, slice_get, slice_set, if◌then◌else◌, ◌⊎◌}
+use Rattle.std.specs.Option.{option_map}
 use Rattle.std.specs.List.{remove}
 use Rattle.std.proofs.Common.{refl, sym, ap, ◌∙◌, subst, inl, inr, arith}
 use Rattle.attr_records.specs.Items.{Tree}
 use Rattle.backup_rules.specs.Values.{RuleSet}
-use Rattle.office_model.specs.declared.session.SessionName.{SessionName}
+use Rattle.receipts.specs.declared.session.SessionName.{SessionName}
+use Rattle.office_model.specs.declared.answer.Answer.{Answer}
+use Rattle.office_model.specs.declared.answer.Answer.TheVariants.{Committed}
+use Rattle.office_model.specs.declared.answer.AnswerKind.TheVariants as K
 use Rattle.office_model.specs.declared.refusal.BrokenRule.TheVariants.{NoSession}
 use Rattle.office_model.specs.Places.{AtEach, AtEach-set, AtEach-longer, slice_get-set_other, slice_get-remove, place_before, place_before-other}
 use Rattle.office_model.specs.Pool.{Pool, is_pooled, holds, with_tree}
-use Rattle.office_model.specs.Office.{Office, Host, Backup, Dump, Stage, stages_left, number_limit, IsSound, IsTree, IsSoundHost, HasHost, AreDumps, IsPooledTree, IsPooledPartial, is_held}
-use Rattle.office_model.specs.Session.{is_same_session}
-use Rattle.office_model.specs.Meaning.{Same, found}
+use Rattle.receipts.specs.declared.receipt.Receipt.{Receipt}
+use Rattle.office_model.specs.Office.{Office, Host, Backup, Dump, Stage, Names, dump_index, IsOver, IsUnspent, stages_left, number_limit, IsSound, IsTree, IsSoundHost, HasHost, AreDumps, IsPooledTree, IsPooledPartial, is_held}
+use Rattle.receipts.specs.Session.{is_same_session}
+use Rattle.office_model.specs.Meaning.{Carried, Same, found}
+use Rattle.office_model.specs.Step.{kind_of}
+use Rattle.office_model.specs.UsedNames.{AreSound}
+use Rattle.office_model.specs.Repeats.{receipt_named}
 use Rattle.office_model.specs.Parts.{dump_at, with_last, with_newest, filled_as}
 use Rattle.backup_rules.specs.Fill.{stays_filled}
-use Rattle.office_model.specs.events.Commit.{Committing, committed, after, new_backup, with_commit, meaning}
+use Rattle.office_model.specs.events.Commit.{Committing, committed, after, new_backup, with_commit, ended, repeated, meaning}
 use Rattle.office_model.specs.laws.Judging.{bound, at_is, found_is}
+use Rattle.office_model.specs.laws.ReceiptLaws.{AreReceipts-more, AreEnded-more, AtEachReceipt-more}
+use Rattle.office_model.specs.laws.RepeatLaws.{given_as, again_is}
 use Rattle.office_model.specs.laws.DurableLaws.{AreHosts-set, partial_more}
-use Rattle.office_model.specs.laws.VolatileLaws.{dump_removed, pooled_dump_removed, pooled_more}
+use Rattle.office_model.specs.laws.VolatileLaws.{dump_removed, over_dump_removed, pooled_dump_removed, pooled_more}
 use Rattle.office_model.specs.laws.StageLaws.{AtEach-filter}
 use Rattle.office_model.specs.laws.Lookups.{named}
 use Rattle.office_model.specs.laws.HeldLaws.{Reason, pooled-with_tree, removed_held, one_holds, held_by, was_pooled, was_in_dumps}
-use Rattle.office_model.specs.laws.Lawful.{IsLawful, does}
+use Rattle.office_model.specs.laws.Lawful.{IsLawful, Does, judged, does, does_nothing}
 use Rattle.office_model.specs.laws.PoolLaws.{tree_keeps, tree_has, tree_order}
 use Rattle.office_model.specs.laws.BackupLaws.{numbered_refilled, numbered_longer, last_longer, with_last-at}
 
 IsSoundHost-commit : (host : Host) (dump : Dump) (now : ℕ) → IsSoundHost host → host.next < number_limit → IsTree dump.tree
-    → IsSoundHost (with_commit host dump now)
-IsSoundHost-commit host dump now sound room tree = record {
+    → IsUnspent host.receipts dump.token → IsSoundHost (with_commit host dump now)
+IsSoundHost-commit host dump now sound room tree unspent = record {
   numbers = omega (arith, room);
   backups = record {
     numbered = numbered_longer host.next _ (new_backup host dump now) (numbered_refilled host.next (λ last. stays_filled host.rules last.line) host.backups sound.backups.numbered) refl tree;
     last_filled = λ last e. ap (λ (x : Backup). x.line.filled) (last_longer (with_last (λ last. filled_as (stays_filled host.rules last.line) last) host.backups) (new_backup host dump now) last e);
   };
   partial = tt;
+  receipts = AreReceipts-more dump.token dump.name host.next host.receipts sound.receipts unspent;
 }
 
 -- another open dump is of another host
@@ -46,7 +57,20 @@ hosted-commit : (hosts : List Host) (dumps : List Dump) (p : ℕ) (dump : Dump) 
     → slice_get dumps p ≡ Some dump → AtEach (HasHost (slice_set hosts dump.host new)) (remove dumps p)
 hosted-commit hosts dumps p dump new are hosted at i other at_other =
     let has : HasHost hosts other = hosted (place_before p i) other (sym (slice_get-remove dumps p i) ∙ at_other) in
-    record { host = has.host; is_host = slice_get-set_other hosts dump.host other.host new (other_host dumps p dump are at i other at_other) ∙ has.is_host; has_number = has.has_number }
+    record { host = has.host; is_host = slice_get-set_other hosts dump.host other.host new (other_host dumps p dump are at i other at_other) ∙ has.is_host; has_number = has.has_number; unspent = has.unspent }
+
+no_later : (m n : ℕ) → m ≡ n → m ≤ n
+no_later m n e = omega arith
+
+-- the name of a dump that was committed is no open session's any more
+over_committed : (office : Office) (p : ℕ) (dump : Dump) → IsSound office → slice_get office.dumps p ≡ Some dump
+    → (receipt : Receipt) → receipt.name ≡ dump.name → IsOver office.epoch office.sequence (remove office.dumps p) office.restores receipt
+over_committed office p dump sound at receipt is = record {
+  given = λ e. subst (λ (n : SessionName). n.sequence < office.sequence) (sym is) (sound.sessions.dumps_given p dump at).given_out;
+  no_dump = λ i d there same. place_before-other p i
+      (sound.sessions.dumps_differ (place_before p i) p d dump (sym (slice_get-remove office.dumps p i) ∙ there) at (same ∙ is));
+  no_restore = λ j r there same. sound.sessions.apart p j dump r at there (sym (same ∙ is));
+}
 
 pooled_newest : (pool pool' : Pool) (rules : RuleSet) (backups : List Backup) (new : Backup)
     → ((tree : Tree) → IsPooledTree pool tree → IsPooledTree pool' tree)
@@ -72,6 +96,7 @@ IsSound-committed office session now parts sound e =
     let has : HasHost office.hosts dump = sound.hosted a.0.index dump is_dump in
     let same_host : has.host ≡ host = let h = has.is_host in cc in
     let room : host.next < number_limit = subst (λ (h : Host). h.next < number_limit) same_host has.has_number in
+    let unspent : IsUnspent host.receipts dump.token = subst (λ (h : Host). IsUnspent h.receipts dump.token) same_host has.unspent in
     let more : (tree : Tree) → IsPooledTree office.pool tree → IsPooledTree (with_tree office.pool dump.tree) tree = λ tree pooled content h. tree_keeps office.pool dump.tree content (pooled content h) in
     let made : Committing = record {
       number = host.next;
@@ -83,17 +108,24 @@ IsSound-committed office session now parts sound e =
     subst (λ (p : Committing). IsSound (after session office p)) same (record {
       kept = record {
         hosts = AreHosts-set office.hosts dump.host host (with_commit host dump now) is_host refl
-            (IsSoundHost-commit host dump now (sound.hosts.each dump.host host is_host) room (sound.dumps.trees a.0.index dump is_dump)) sound.hosts;
+            (IsSoundHost-commit host dump now (sound.hosts.each dump.host host is_host) room (sound.dumps.trees a.0.index dump is_dump) unspent) sound.hosts;
         pool_order = tree_order office.pool dump.tree sound.pool_order;
         of_backups = AtEach-set (λ (h : Host). AtEach (λ (backup : Backup). IsPooledTree (with_tree office.pool dump.tree) backup.tree) h.backups) office.hosts dump.host (with_commit host dump now)
             (λ i h at n backup at_backup. more backup.tree (sound.of_backups i h at n backup at_backup))
             (pooled_newest office.pool (with_tree office.pool dump.tree) host.rules host.backups (new_backup host dump now) more (sound.of_backups dump.host host is_host) (tree_has office.pool dump.tree));
         of_partials = AtEach-set (IsPooledPartial (with_tree office.pool dump.tree)) office.hosts dump.host (with_commit host dump now)
             (λ i h at. partial_more office.pool (with_tree office.pool dump.tree) h more (sound.of_partials i h at)) tt;
+        ended = AreEnded-more office.hosts dump.host host (with_commit host dump now) dump.token dump.name host.next is_host refl office.epoch sound.ended
+            (λ i n r at same. (sound.over i n r at).no_dump a.0.index dump is_dump (sym same))
+            (no_later dump.name.epoch office.epoch (sound.sessions.dumps_given a.0.index dump is_dump).this_epoch);
       };
       now = dump_removed office.epoch office.volatile sound.now a.0.index dump session is_dump (named office.dumps session a.0.index dump (at_is _ office.dumps _ a.0 a.1).0 is_dump);
       tied = record {
         hosted = hosted-commit office.hosts office.dumps a.0.index dump (with_commit host dump now) sound.dumps sound.hosted is_dump;
+        over = AtEachReceipt-more office.hosts dump.host host (with_commit host dump now) dump.token dump.name host.next is_host refl
+            (IsOver office.epoch office.sequence (remove office.dumps a.0.index) office.restores)
+            (λ i n r at. over_dump_removed office.epoch office.sequence office.dumps office.restores r (sound.over i n r at) a.0.index)
+            (over_committed office a.0.index dump sound is_dump);
         pooled = pooled_dump_removed (with_tree office.pool dump.tree) office.volatile
             (pooled_more office.pool office.volatile sound.pooled (with_tree office.pool dump.tree) (λ i d at. more d.base) (λ i r at. more r.tree)
             (λ i r at was content h. tree_keeps office.pool dump.tree content (was content h))) a.0.index (stages_left session office.stages);
@@ -123,8 +155,9 @@ held-committed content office session now parts e h =
     step i dump at (inl f) = was_pooled content office Same f
     step i dump at (inr f) = was_in_dumps content office Same (one_holds content office.dumps i dump at f)
 
-pub lawful : (session : SessionName) (now : ℕ) → IsLawful (meaning session now)
-lawful session now office names c sound e =
+ended_does : (session : SessionName) (now : ℕ) (office : Office) (names : Names) (c : Carried) → AreSound office names → ended session now office ≡ Ok c
+    → Does (meaning session now) office names c
+ended_does session now office names c sound e =
     let a = bound (committed session now office.hosts office.pool office.dumps) _ c e in
     does _ office names sound _ c a.2 (record {
       in_kind = refl;
@@ -135,3 +168,23 @@ lawful session now office names c sound e =
       };
       held = λ content h. held-committed content office session now a.0 a.1 h;
     })
+
+-- ---- repeated
+
+repeated_kind : (session : SessionName) (hosts : List Host) (dumps : List Dump) (answer : Answer) → repeated session hosts dumps ≡ Some answer
+    → kind_of answer ≡ K.Committed
+repeated_kind session hosts dumps answer e = step (is_some (dump_index dumps session)) (receipt_named hosts session) e
+  where
+    step : (b : Bool) (r : Option Receipt) → (if b then None else option_map (λ (x : Receipt). Committed x.number) r) ≡ Some answer
+        → kind_of answer ≡ K.Committed
+    step true r f = absurd (cc)
+    step false None f = absurd (cc)
+    step false (Some receipt) f = let same : Committed receipt.number ≡ answer = cc in ap kind_of (sym same)
+
+pub lawful : (session : SessionName) (now : ℕ) → IsLawful (meaning session now)
+lawful session now office names c sound e = step (again_is office (repeated session office.hosts office.dumps) (ended session now office) c e)
+  where
+    step : ((answer : Answer) × (repeated session office.hosts office.dumps ≡ Some answer) × (judged (given_as answer office) ≡ judged c))
+        ⊎ ((repeated session office.hosts office.dumps ≡ None) × (ended session now office ≡ Ok c)) → Does (meaning session now) office names c
+    step (inl f) = does _ office names sound _ c f.2 (does_nothing _ office names sound f.0 (repeated_kind session office.hosts office.dumps f.0 f.1))
+    step (inr f) = ended_does session now office names c sound f.1

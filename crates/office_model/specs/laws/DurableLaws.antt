@@ -5,7 +5,9 @@ use Rattle.std.proofs.Math.ListN.{length-set}
 use Rattle.office_model.specs.Places.{AtEach, AtEach-set, Differ-set, in_set}
 use Rattle.office_model.specs.Pool.{Pool}
 use Rattle.attr_records.specs.Items.{Tree}
-use Rattle.office_model.specs.Office.{Office, Host, Backup, Partial, Dump, host_limit, with_hosts, IsSound, IsTree, AreHosts, IsSoundHost, HasHost, IsPooledTree, IsPooledPartial}
+use Rattle.receipts.specs.declared.receipt.Receipt.{Receipt}
+use Rattle.office_model.specs.Office.{Office, Host, Backup, Partial, Dump, host_limit, with_hosts, IsSound, IsTree, AreHosts, IsSoundHost, AreReceipts, HasHost, IsUnspent, IsPooledTree, IsPooledPartial}
+use Rattle.office_model.specs.laws.ReceiptLaws.{set_among, among_ended}
 
 pub AreHosts-set : (hosts : List Host) (p : ℕ) (old new : Host) → slice_get hosts p ≡ Some old → new.name ≡ old.name → IsSoundHost new
     → AreHosts hosts → AreHosts (slice_set hosts p new)
@@ -38,50 +40,58 @@ set_finds (y ∷ ys) (suc p) (suc i) new x e = step (set_finds ys p i new x e)
     step (inl f) = inl f
     step (inr f) = inr (ap suc f.0, f.1)
 
--- open dumps have their hosts where a host changes and keeps its next number
+-- open dumps have their hosts where a host changes and keeps its next number and its receipts
 pub hosted-set : (hosts : List Host) (dumps : List Dump) (p : ℕ) (old new : Host) → slice_get hosts p ≡ Some old → new.next ≡ old.next
-    → AtEach (HasHost hosts) dumps → AtEach (HasHost (slice_set hosts p new)) dumps
-hosted-set hosts dumps p old new was next are i dump at = has dump (are i dump at)
+    → new.receipts ≡ old.receipts → AtEach (HasHost hosts) dumps → AtEach (HasHost (slice_set hosts p new)) dumps
+hosted-set hosts dumps p old new was next receipts are i dump at = has dump (are i dump at)
   where
     step : (dump : Dump) (h : HasHost hosts dump)
         → (slice_get (slice_set hosts p new) dump.host ≡ Some h.host) ⊎ ((dump.host ≡ p) × (slice_get (slice_set hosts p new) dump.host ≡ Some new)) → HasHost (slice_set hosts p new) dump
-    step dump h (inl f) = record { host = h.host; is_host = f; has_number = h.has_number }
+    step dump h (inl f) = record { host = h.host; is_host = f; has_number = h.has_number; unspent = h.unspent }
     step dump h (inr f) =
         let same : h.host ≡ old = let a = h.is_host in let b = ap (slice_get hosts) f.0 in cc in
-        record { host = new; is_host = f.1; has_number = subst (λ n. n < _) (ap (λ (x : Host). x.next) same ∙ sym next) h.has_number }
+        record {
+          host = new;
+          is_host = f.1;
+          has_number = subst (λ n. n < _) (ap (λ (x : Host). x.next) same ∙ sym next) h.has_number;
+          unspent = subst (λ (rs : List Receipt). IsUnspent rs dump.token) (ap (λ (x : Host). x.receipts) same ∙ sym receipts) h.unspent;
+        }
 
     has : (dump : Dump) → HasHost hosts dump → HasHost (slice_set hosts p new) dump
     has dump h = step dump h (set_finds hosts p dump.host new h.host h.is_host)
 
 pub host_set : (office : Office) (p : ℕ) (old new : Host) → IsSound office → slice_get office.hosts p ≡ Some old
-    → new.name ≡ old.name → new.next ≡ old.next → IsSoundHost new
+    → new.name ≡ old.name → new.next ≡ old.next → new.receipts ≡ old.receipts → IsSoundHost new
     → AtEach (λ (backup : Backup). IsPooledTree office.pool backup.tree) new.backups → IsPooledPartial office.pool new
     → IsSound (with_hosts office (slice_set office.hosts p new))
-host_set office p old new sound was name next host pooled partial = record {
+host_set office p old new sound was name next receipts host pooled partial = record {
   kept = record {
     hosts = AreHosts-set office.hosts p old new was name host sound.hosts;
     pool_order = sound.pool_order;
     of_backups = AtEach-set (λ (h : Host). AtEach (λ (backup : Backup). IsPooledTree office.pool backup.tree) h.backups) office.hosts p new sound.of_backups pooled;
     of_partials = AtEach-set (IsPooledPartial office.pool) office.hosts p new sound.of_partials partial;
+    ended = among_ended office.epoch (slice_set office.hosts p new) office.hosts (set_among office.hosts p old new was receipts) sound.ended;
   };
   now = sound.now;
   tied = record {
-    hosted = hosted-set office.hosts office.dumps p old new was next sound.hosted;
+    hosted = hosted-set office.hosts office.dumps p old new was next receipts sound.hosted;
+    over = λ i n r at. sound.over i n r (set_among office.hosts p old new was receipts i n r at);
     pooled = sound.pooled;
   };
 }
 
--- one that keeps its backups and its partial
+-- one that keeps its backups, its partial and its receipts
 pub host_same : (office : Office) (p : ℕ) (old new : Host) → IsSound office → slice_get office.hosts p ≡ Some old
-    → new.name ≡ old.name → new.next ≡ old.next → new.backups ≡ old.backups → new.partial ≡ old.partial
+    → new.name ≡ old.name → new.next ≡ old.next → new.receipts ≡ old.receipts → new.backups ≡ old.backups → new.partial ≡ old.partial
     → IsSound (with_hosts office (slice_set office.hosts p new))
-host_same office p old new sound was name next same partial =
+host_same office p old new sound was name next receipts same partial =
     let host : IsSoundHost old = sound.hosts.each p old was in
-    host_set office p old new sound was name next
+    host_set office p old new sound was name next receipts
     (record {
       numbers = rw next host.numbers;
       backups = rw (next, same) host.backups;
       partial = subst (λ p. IfSome p (λ (x : Partial). IsTree x.tree)) (sym partial) host.partial;
+      receipts = subst AreReceipts (sym receipts) host.receipts;
     })
     (subst (λ bs. AtEach (λ (backup : Backup). IsPooledTree office.pool backup.tree) bs) (sym same) (sound.of_backups p old was))
     (subst (λ p. IfSome p (λ (x : Partial). IsPooledTree office.pool x.tree)) (sym partial) (sound.of_partials p old was))

@@ -2,7 +2,7 @@
 use Rattle.std.specs.Prelude.{◌≡◌, ◌<◌, ℕ, ◌+◌, true, false, List, [], ◌∷◌, ◌++◌, Option, Some, None, Ok, IfSome, is_some, is_none, nat_le, slice_get, slice_set, ◌⊎◌}
 use Rattle.std.proofs.Common.{refl, ap, ◌∙◌, subst, inl, inr}
 use Rattle.attr_records.specs.Items.{Tree}
-use Rattle.office_model.specs.declared.session.SessionName.{SessionName}
+use Rattle.receipts.specs.declared.session.SessionName.{SessionName}
 use Rattle.office_model.specs.declared.answer.Answer.TheVariants as A
 use Rattle.office_model.specs.declared.refusal.BrokenRule.TheVariants.{NoSession, NoPartial}
 use Rattle.office_model.specs.Places.{AtEach, AtEach-set}
@@ -21,6 +21,7 @@ use Rattle.office_model.specs.events.PartialInfo as PartialInfo
 use Rattle.office_model.specs.laws.Judging.{bound, passed, at_is, found_is}
 use Rattle.office_model.specs.laws.AddHostLaws.{is_none as nothing, below}
 use Rattle.office_model.specs.laws.DurableLaws.{AreHosts-set, hosted-set, host_set, partial_more}
+use Rattle.office_model.specs.laws.ReceiptLaws.{set_among, among_ended}
 use Rattle.office_model.specs.laws.VolatileLaws.{pooled_more}
 use Rattle.office_model.specs.laws.PoolLaws.{tree_keeps, tree_has, tree_order}
 use Rattle.office_model.specs.laws.HeldLaws.{Reason, pooled-with_tree, one_holds, longer_held, held_by, was_pooled, was_in_dumps}
@@ -61,7 +62,7 @@ is_parked session hosts pool dumps made e =
     }
 
 IsSoundHost-parked : (host : Host) (dump : Dump) → IsSoundHost host → IsTree dump.tree → IsSoundHost (with_partial host (Some (partial_of dump)))
-IsSoundHost-parked host dump sound tree = record { numbers = sound.numbers; backups = sound.backups; partial = tree }
+IsSoundHost-parked host dump sound tree = record { numbers = sound.numbers; backups = sound.backups; partial = tree; receipts = sound.receipts }
 
 pub IsSound-parked : (office : Office) (session : SessionName) (made : Parking) → IsSound office
     → parked session office.hosts office.pool office.dumps ≡ Ok made → IsSound (with_pool (with_hosts office made.hosts) made.pool)
@@ -81,10 +82,12 @@ IsSound-parked office session made sound e =
             (λ i h at. each h (sound.of_backups i h at)) (each is.host (sound.of_backups is.dump.host is.host is.is_host));
         of_partials = AtEach-set (IsPooledPartial pool') office.hosts is.dump.host new
             (λ i h at. partial_more office.pool pool' h more (sound.of_partials i h at)) (tree_has office.pool is.dump.tree);
+        ended = among_ended office.epoch (slice_set office.hosts is.dump.host new) office.hosts (set_among office.hosts is.dump.host is.host new is.is_host refl) sound.ended;
       };
       now = sound.now;
       tied = record {
-        hosted = hosted-set office.hosts office.dumps is.dump.host is.host new is.is_host refl sound.hosted;
+        hosted = hosted-set office.hosts office.dumps is.dump.host is.host new is.is_host refl refl sound.hosted;
+        over = λ i n r at. sound.over i n r (set_among office.hosts is.dump.host is.host new is.is_host refl i n r at);
         pooled = pooled_more office.pool office.volatile sound.pooled pool' (λ i d at. more d.base) (λ i r at. more r.tree)
             (λ i r at was content h. tree_keeps office.pool is.dump.tree content (was content h));
       };
@@ -162,7 +165,7 @@ IsSound-resumed office name hosts dumps sound slice e =
     let tree : IsTree may.partial.tree = of_partial IsTree may.host.value.partial may.partial may.is_partial (sound.hosts.each may.host.index may.host.value may.is_host).partial in
     let pooled : IsPooledTree office.pool may.partial.tree = of_partial (IsPooledTree office.pool) may.host.value.partial may.partial may.is_partial (sound.of_partials may.host.index may.host.value may.is_host) in
     subst (λ ds. IsSound (numbered (with_dumps office ds))) may.new_is
-    (IsSound-opened office may.host.index may.host.value may.partial.kind may.partial.start may.partial.tree sound may.is_host may.none may.has_number tree pooled)
+    (IsSound-opened office may.host.index may.host.value may.partial.kind may.partial.start None may.partial.tree sound may.is_host may.none may.has_number tt tree pooled)
 
 held-resumed : (content : List ℕ) (office : Office) (name : List ℕ) (dumps : List Dump) → IsSound office
     → with_resumed name (next_session office) office.hosts office.dumps ≡ Ok dumps
@@ -192,8 +195,8 @@ IsSound-without_partial office name hosts sound e =
     let b : (is_none a.0.value.partial ≡ false) × (Ok (slice_set office.hosts a.0.index (with_partial a.0.value None)) ≡ Ok hosts) = passed _ _ _ _ a.2 in
     let same : slice_set office.hosts a.0.index (with_partial a.0.value None) ≡ hosts = let f = b.1 in cc in
     subst (λ hs. IsSound (with_hosts office hs)) same
-    (host_set office a.0.index a.0.value (with_partial a.0.value None) sound was refl refl
-    (record { numbers = host.numbers; backups = host.backups; partial = tt }) (sound.of_backups a.0.index a.0.value was) tt)
+    (host_set office a.0.index a.0.value (with_partial a.0.value None) sound was refl refl refl
+    (record { numbers = host.numbers; backups = host.backups; partial = tt; receipts = host.receipts }) (sound.of_backups a.0.index a.0.value was) tt)
 
 pub drop_partial : (name : List ℕ) → IsLawful (DropPartial.meaning name)
 drop_partial name office names c sound e =

@@ -1,21 +1,26 @@
 -- A host's partial stays until a dump of the host is committed or parked, or the partial is dropped.
-use Rattle.std.specs.Prelude.{◌≡◌, ℕ, zero, suc, ◌+◌, Bool, true, false, cond, List, [], ◌∷◌, ◌++◌, None, Some, Ok, Err, nat_le, is_some, is_none, length, bytes_eq, slice_get, slice_set, Option, ◌⊎◌}
+use Rattle.std.specs.Prelude.{◌≡◌, ℕ, zero, suc, ◌+◌, Bool, true, false, cond, if◌then◌else◌, List, [], ◌∷◌, ◌++◌, None, Some, Ok, Err, nat_le, is_some, is_none, length, bytes_eq, slice_get, slice_set, Option, ◌⊎◌}
 use Rattle.std.specs.List.{position_from}
 use Rattle.std.specs.Option.{option_map}
 use Rattle.std.proofs.Common.{refl, sym, ap, ◌∙◌, subst, inl, inr}
-use Rattle.office_model.specs.declared.session.SessionName.{SessionName}
-use Rattle.office_model.specs.declared.answer.Answer.TheVariants.{Reopened, Dump as Opened}
+use Rattle.receipts.specs.declared.session.SessionName.{SessionName}
+use Rattle.receipts.specs.declared.session.Token.{Token}
+use Rattle.office_model.specs.declared.answer.Answer.{Answer}
+use Rattle.office_model.specs.declared.answer.Answer.TheVariants.{Done, Reopened, Dump as Opened}
+use Rattle.backup_rules.specs.declared.lines.Kind.{Kind}
 use Rattle.office_model.specs.declared.event.Event.{Event}
 use Rattle.office_model.specs.declared.event.Event.TheVariants.{AddHost, SetRules, OpenDump, Put, Remove, StageOpen, StagePiece, StageDrop, Commit, Abort, Park, Resume, DropPartial, PartialInfo, List as ListEvent, Lookup, ReadFile, OpenFile, ReadPart, CloseFile, OpenRead, ReadNext, CloseRead, Keep, Delete, Expire, Contact, Due, Clean, Sweep, Stats, Hosts, Backups, Reopen}
 use Rattle.office_model.specs.declared.event.PutItem.TheVariants.{Whole, Staged}
-use Rattle.office_model.specs.declared.refusal.BrokenRule.TheVariants.{NoHost, NoBackup, NoSession, NoPartial, NumbersSpent, BadBucket}
+use Rattle.office_model.specs.declared.refusal.BrokenRule.TheVariants.{NoHost, NoBackup, NoSession, NoPartial, NumbersSpent, BadBucket, TokensFull}
 use Rattle.office_model.specs.declared.refusal.Refusal.TheVariants.{Broken, Halted as HaltedReply, DiskFault, Damaged, Memory}
 use Rattle.attr_records.specs.Items.{content_of, is_large}
 use Rattle.backup_rules.specs.Values.{RuleSet, RuleChanges}
 use Rattle.office_model.specs.declared.event.PutItem.{PutItem}
 use Rattle.office_model.specs.Places.{Differ, slice_get-longer}
-use Rattle.office_model.specs.Office.{Office, Host, Backup, Partial, Dump, Durable, Names, host_index, backup_index, host_limit, last_sequence, piece_limit, stage_content, raised, reopened, with_dumps, numbered}
+use Rattle.office_model.specs.Office.{Office, Host, Backup, Partial, Dump, Durable, Names, host_index, backup_index, host_limit, last_sequence, piece_limit, token_limit, stage_content, raised, reopened, with_dumps, numbered}
 use Rattle.office_model.specs.Meaning.{Meaning, Carried, Judged, Reply, Touch, Nothing, Reads, Stages, Removes, Commits, ReadsAndCommits, Reopens, NameChange, Renews, ◌>>=◌, found}
+use Rattle.office_model.specs.Repeats.{again, keeps as keeps_token, keeping, once}
+use Rattle.office_model.specs.laws.RepeatLaws.{given_as, again_is}
 use Rattle.office_model.specs.Parts.{At, at as looked_up, host_at, dump_at, backup_at, backup_of}
 use Rattle.office_model.specs.Step.{State, Running, Halted, IsSoundState, MayHalt, IsReply, meaning_of, IsPicked, IsLeft, IsHaltedReopen, IsHaltedReply, IsStay, IsStep}
 use Rattle.office_model.specs.Partials.{IsDumpOf, MayPart, MayPartIn, HasPartial, PartialsStay, ParkedIsPartial, ResumedIsPartial, ParkedReads}
@@ -147,6 +152,16 @@ commit_keeps office session now parts e i host at other =
     (set_other office.hosts a.0.value.host b.0 (events.Commit.with_commit b.0 a.0.value now) i host is_host
     (λ same. other (record { dump = a.0; is_dump = a.1; host = b.0; is_host = is_host; named = ap (λ (h : Host). h.name) same })) at)
 
+commit_step : (office : Office) (session : SessionName) (now : ℕ) (c : Carried) (i : ℕ) (host : Host) → slice_get office.hosts i ≡ Some host
+    → (IsDumpOf office session host.name → ⊥)
+    → ((answer : Answer) × (events.Commit.repeated session office.hosts office.dumps ≡ Some answer) × (judged (given_as answer office) ≡ judged c))
+    ⊎ ((events.Commit.repeated session office.hosts office.dumps ≡ None) × (events.Commit.ended session now office ≡ Ok c))
+    → SameHost c.after.hosts i host
+commit_step office session now c i host at other (inl f) = stays (given_as f.0 office) c f.2 i host at
+commit_step office session now c i host at other (inr f) =
+    let a = bound (events.Commit.committed session now office.hosts office.pool office.dumps) _ c f.1 in
+    kept_by (λ (x : Carried). x.after.hosts) _ c a.2 i host (commit_keeps office session now a.0 a.1 i host at other)
+
 park_keeps : (office : Office) (session : SessionName) (parts : Parking)
     → events.Park.parked session office.hosts office.pool office.dumps ≡ Ok parts → (i : ℕ) (host : Host)
     → slice_get office.hosts i ≡ Some host → (IsDumpOf office session host.name → ⊥) → SameHost parts.hosts i host
@@ -170,8 +185,58 @@ drop_keeps name hosts changed e i host at other =
     (set_other hosts a.0.index a.0.value (with_partial a.0.value None) i host there.1
     (λ is. other (sym w.2 ∙ ap (λ (h : Host). h.name) (same ∙ is))) at)
 
+-- hosts that stay, each with its name and its partial
+abbrev Stay : Office → List Host → Type 0
+Stay office hosts = (i : ℕ) (host : Host) → slice_get office.hosts i ≡ Some host → SameHost hosts i host
+
+-- a request with an answer that was given
+again_stays : (left : Office) (repeated : Option Answer) (rest : Judged Carried) (c : Carried) (office : Office) → Stay office left.hosts
+    → (rest ≡ Ok c → Stay office c.after.hosts) → again left repeated rest ≡ Ok c → Stay office c.after.hosts
+again_stays left repeated rest c office was stay e = step (again_is left repeated rest c e)
+  where
+    step : ((answer : Answer) × (repeated ≡ Some answer) × (judged (given_as answer left) ≡ judged c)) ⊎ ((repeated ≡ None) × (rest ≡ Ok c))
+        → Stay office c.after.hosts
+    step (inl f) = λ i host at. kept_by (λ (x : Carried). x.after.hosts) (given_as f.0 left) c f.2 i host (was i host at)
+    step (inr f) = stay f.1
+
+once_stays : (session : SessionName) (token : Option Token) (repeated : Office) (rest : Judged Carried) (c : Carried) (office : Office)
+    → Stay office repeated.hosts → ((made : Carried) → rest ≡ Ok made → Stay office made.after.hosts)
+    → once session token office.dumps repeated rest ≡ Ok c → Stay office c.after.hosts
+once_stays session None repeated rest c office was stay e = stay c e
+once_stays session (Some token) repeated rest c office was stay e =
+    let a = bound (dump_at office.dumps session) _ c e in
+    again_stays repeated (if keeps_token token a.0.value then Some Done else None) (keeping a.0 token rest) c office was (kept a.0) a.2
+  where
+    kept : (dump : At Dump) → keeping dump token rest ≡ Ok c → Stay office c.after.hosts
+    kept dump f i host at =
+        let a = passed TokensFull (nat_le token_limit (length dump.value.kept)) _ c f in
+        let b = bound rest _ c a.1 in
+        kept_by (λ (x : Carried). x.after.hosts) _ c b.2 i host (stay b.0 b.1 i host at)
+
+opening_stays : (name : List ℕ) (kind : Kind) (now : ℕ) (token : Option Token) (office : Office) (c : Carried)
+    → events.OpenDump.opened name kind now token office ≡ Ok c → Stay office c.after.hosts
+opening_stays name kind now token office c e i host at =
+    let a = bound (events.OpenDump.with_dump name kind now token (next_session office) office.hosts office.dumps) _ c e in stays _ c a.2 i host at
+
+open_stays : (name : List ℕ) (kind : Kind) (now : ℕ) (token : Option Token) (office : Office) (c : Carried)
+    → events.OpenDump.carried name kind now token office ≡ Ok c → Stay office c.after.hosts
+open_stays name kind now None office c e = opening_stays name kind now None office c e
+open_stays name kind now (Some token) office c e =
+    let a = bound (host_at office.hosts name) _ c e in
+    again_stays office (events.OpenDump.repeated token a.0 office.dumps) (events.OpenDump.opened name kind now (Some token) office) c office
+    (λ i host at. same_host office.hosts i host at) (opening_stays name kind now (Some token) office c) a.2
+
+repeat_stays : (session : SessionName) (item : PutItem) (office : Office) → Stay office (events.Put.repeated session item office).hosts
+repeat_stays session (Whole item) office i host at = same_host office.hosts i host at
+repeat_stays session (Staged file) office i host at = same_host office.hosts i host at
+
+remove_stays : (session : SessionName) (path : List ℕ) (office : Office) (c : Carried) → events.Remove.removed session path office ≡ Ok c
+    → Stay office c.after.hosts
+remove_stays session path office c e i host at =
+    let a = bound (events.Remove.without_path session path office.dumps) _ c e in stays _ c a.2 i host at
+
 put_keeps : (session : SessionName) (path : List ℕ) (item : PutItem) (office : Office) (names : Names) (c : Carried)
-    → events.Put.carried session path item office names ≡ Ok c → (i : ℕ) (host : Host) → slice_get office.hosts i ≡ Some host
+    → events.Put.put session path item office names ≡ Ok c → (i : ℕ) (host : Host) → slice_get office.hosts i ≡ Some host
     → SameHost c.after.hosts i host
 put_keeps session path (Whole item) office names c e i host at =
     let a = bound (events.Put.with_put is_large session path item (is_chain_full office.pool office.dumps names (content_of item)) office.dumps) _ c e in
@@ -187,11 +252,13 @@ keeps (AddHost name rules) office names c e i host at other =
 keeps (SetRules name change) office names c e i host at other =
     let a = bound (events.SetRules.with_rules name change office.hosts) _ c e in
     kept_by (λ (x : Carried). x.after.hosts) _ c a.2 i host (rules_keep name change office.hosts a.0 a.1 i host at)
-keeps (OpenDump name kind now) office names c e i host at other =
-    let a = bound (events.OpenDump.with_dump name kind now (next_session office) office.hosts office.dumps) _ c e in stays _ c a.2 i host at
-keeps (Put session path item) office names c e i host at other = put_keeps session path item office names c e i host at
-keeps (Remove session path) office names c e i host at other =
-    let a = bound (events.Remove.without_path session path office.dumps) _ c e in stays _ c a.2 i host at
+keeps (OpenDump name kind now token) office names c e i host at other = open_stays name kind now token office c e i host at
+keeps (Put session path item token) office names c e i host at other =
+    once_stays session token (events.Put.repeated session item office) (events.Put.put session path item office names) c office
+    (repeat_stays session item office) (λ made is. put_keeps session path item office names made is) e i host at
+keeps (Remove session path token) office names c e i host at other =
+    once_stays session token office (events.Remove.removed session path office) c office
+    (λ j h there. same_host office.hosts j h there) (λ made is. remove_stays session path office made is) e i host at
 keeps (StageOpen session) office names c e i host at other =
     let a = bound (events.StageOpen.with_stage session names.next_stage office.dumps office.stages) _ c e in stays _ c a.2 i host at
 keeps (StagePiece number bytes) office names c e i host at other =
@@ -199,8 +266,8 @@ keeps (StagePiece number bytes) office names c e i host at other =
 keeps (StageDrop number) office names c e i host at other =
     let a = bound (events.StageDrop.without_stage number office.stages) _ c e in stays _ c a.2 i host at
 keeps (Commit session now) office names c e i host at other =
-    let a = bound (events.Commit.committed session now office.hosts office.pool office.dumps) _ c e in
-    kept_by (λ (x : Carried). x.after.hosts) _ c a.2 i host (commit_keeps office session now a.0 a.1 i host at other)
+    commit_step office session now c i host at other
+    (again_is office (events.Commit.repeated session office.hosts office.dumps) (events.Commit.ended session now office) c e)
 keeps (Abort session) office names c e i host at other =
     let a = bound (events.Abort.without_dump session office.dumps) _ c e in stays _ c a.2 i host at
 keeps (Park session) office names c e i host at other =

@@ -1,5 +1,5 @@
 -- An open dump's tree with a node more, or without a path, keeps an office sound.
-use Rattle.std.specs.Prelude.{◌≡◌, ◌<◌, ℕ, Bool, true, false, not, List, Option, Some, None, Ok, is_some, slice_get, slice_set, ◌⊎◌}
+use Rattle.std.specs.Prelude.{◌≡◌, ◌<◌, ℕ, Bool, true, false, not, List, Option, Some, None, Ok, Err, is_some, slice_get, slice_set, ◌⊎◌}
 use Rattle.std.specs.List.{remove as remove_at}
 use Rattle.std.specs.Option.{option_map, option_and_then}
 use Rattle.std.proofs.Common.{refl, sym, ap, ◌∙◌, subst, inl, inr, arith}
@@ -9,45 +9,29 @@ use Rattle.attr_records.specs.Items.{Tree, content_of, is_dir, is_large, some_by
 use Rattle.attr_records.specs.Paths.{is_within}
 use Rattle.attr_records.specs.Trees as Trees
 use Rattle.attr_records.specs.TreeLaws as TreeLaws
-use Rattle.office_model.specs.declared.session.SessionName.{SessionName}
+use Rattle.receipts.specs.declared.session.SessionName.{SessionName}
+use Rattle.receipts.specs.declared.session.Token.{Token}
 use Rattle.office_model.specs.declared.event.StagedFile.{StagedFile}
 use Rattle.office_model.specs.declared.event.PutItem.{PutItem}
 use Rattle.office_model.specs.declared.event.PutItem.TheVariants.{Whole, Staged}
 use Rattle.office_model.specs.declared.answer.Answer.TheVariants.{Done}
 use Rattle.office_model.specs.declared.refusal.BrokenRule.TheVariants.{Put, NoSession}
-use Rattle.office_model.specs.Places.{AtEach, AtEach-set, AtEach-remove}
+use Rattle.office_model.specs.Places.{AtEach, AtEach-remove}
 use Rattle.office_model.specs.Pool.{is_content}
-use Rattle.office_model.specs.Office.{Office, Dump, Stage, stage_index, stage_content, with_dumps, with_stages, IsSound, IsTree, HasHost, in_dumps}
-use Rattle.office_model.specs.Meaning.{Same, AddsStage}
-use Rattle.office_model.specs.Session.{is_same_session}
+use Rattle.office_model.specs.Office.{Office, Dump, Stage, stage_index, stage_content, Names, with_dumps, with_stages, IsSound, IsTree, in_dumps}
+use Rattle.office_model.specs.Meaning.{Carried, Judged, Same, AddsStage}
+use Rattle.receipts.specs.Session.{is_same_session}
 use Rattle.office_model.specs.Parts.{At, dump_at, stage_at}
-use Rattle.office_model.specs.UsedNames.{named_content}
+use Rattle.office_model.specs.UsedNames.{AreSound, named_content}
 use Rattle.office_model.specs.events.Put as PutEvent
 use Rattle.office_model.specs.events.Put.{with_item, with_put, is_chain_full, name_change}
 use Rattle.office_model.specs.events.Remove as Remove
 use Rattle.office_model.specs.laws.Judging.{bound, passed, kept, at_is}
-use Rattle.office_model.specs.laws.VolatileLaws.{dump_set, pooled_dump_set}
+use Rattle.office_model.specs.laws.DurableLaws.{kept_key}
+use Rattle.office_model.specs.laws.RepeatLaws.{IsSound-retreed, SameKept, given_as, once_does}
 use Rattle.office_model.specs.laws.StageLaws.{IsSound-stage_removed}
 use Rattle.office_model.specs.laws.HeldLaws.{Reason, holds-filter, holds-put, is_its_content, set_held, held_by, was_pooled, was_in_dumps}
-use Rattle.office_model.specs.laws.Lawful.{IsLawful, does, does_dumps}
-
--- a dump at its place with another tree
-pub record IsRetreed (old new : Dump) : Type 0 where
-  pub name : new.name ≡ old.name
-  pub host : new.host ≡ old.host
-  pub base : new.base ≡ old.base
-
-pub IsSound-retreed : (office : Office) (p : ℕ) (old new : Dump) → IsSound office → slice_get office.dumps p ≡ Some old
-    → IsRetreed old new → IsTree new.tree → IsSound (with_dumps office (slice_set office.dumps p new))
-IsSound-retreed office p old new sound was same tree = record {
-  kept = sound.kept;
-  now = dump_set office.epoch office.volatile sound.now p old new was same.name same.host same.base tree;
-  tied = record {
-    hosted = AtEach-set (HasHost office.hosts) office.dumps p new sound.hosted
-        (let has : HasHost office.hosts old = sound.hosted p old was in record { host = has.host; is_host = ap (slice_get office.hosts) same.host ∙ has.is_host; has_number = has.has_number });
-    pooled = pooled_dump_set office.pool office.volatile sound.pooled p old new was same.base;
-  };
-}
+use Rattle.office_model.specs.laws.Lawful.{IsLawful, Does, does, does_nothing, does_stages, does_dumps}
 
 -- ---- a node more
 
@@ -94,7 +78,15 @@ module _ (large : Item → Bool) where
       let may : MayPut session path item full office.dumps dumps = may_put session path item full office.dumps dumps e in
       let tree : IsTree (with_item may.dump path item).tree = IsTree-put may.dump.tree path item (sound.dumps.trees may.index may.dump may.is_dump) may.no_rule in
       subst (λ ds. IsSound (with_dumps office ds)) may.new_is
-      (IsSound-retreed office may.index may.dump (with_item may.dump path item) sound may.is_dump (record { name = refl; host = refl; base = refl }) tree)
+      (IsSound-retreed office may.index may.dump (with_item may.dump path item) sound may.is_dump (record { name = refl; host = refl; base = refl; token = refl }) tree
+      (sound.dumps.tokens may.index may.dump may.is_dump))
+
+  pub kept-with_put : (session : SessionName) (path : List ℕ) (item : Item) (full : Bool) (dumps new : List Dump)
+      → with_put large session path item full dumps ≡ Ok new → SameKept dumps new
+  kept-with_put session path item full dumps new e i dump at =
+      let may : MayPut session path item full dumps new = may_put session path item full dumps new e in
+      kept_key (λ (d : Dump). d.kept) dumps may.index i may.dump (with_item may.dump path item) dump may.is_dump refl
+      (ap (λ (ds : List Dump). slice_get ds i) may.new_is ∙ at)
 
   pub held-with_put : (content : List ℕ) (office : Office) (session : SessionName) (path : List ℕ) (item : Item) (full : Bool) (dumps : List Dump)
       → with_put large session path item full office.dumps ≡ Ok dumps → in_dumps dumps content ≡ true
@@ -119,8 +111,10 @@ was_put : (content : List ℕ) (office : Office) (held : Option (List ℕ)) → 
 was_put content office held (inl f) = was_in_dumps content office (name_change held) f
 was_put content office held (inr f) = inr (ap (λ h. named_content (name_change h) office) f)
 
-put_whole : (session : SessionName) (path : List ℕ) (item : Item) → IsLawful (PutEvent.meaning session path (Whole item))
-put_whole session path item office names c sound e =
+put_whole : (session : SessionName) (path : List ℕ) (item : Item) (token : Option Token) (office : Office) (names : Names) (c : Carried)
+    → AreSound office names → PutEvent.put session path (Whole item) office names ≡ Ok c
+    → Does (PutEvent.meaning session path (Whole item) token) office names c
+put_whole session path item token office names c sound e =
     let full : Bool = is_chain_full office.pool office.dumps names (content_of item) in
     let a = bound (with_put is_large session path item (is_chain_full office.pool office.dumps names (content_of item)) office.dumps) _ c e in
     does _ office names sound _ c a.2 (does_dumps _ office names sound a.0 office.sequence Done refl
@@ -187,8 +181,10 @@ stage_was_put : (content : List ℕ) (office : Office) (number : ℕ) (bytes : L
 stage_was_put content office number bytes is (inl f) = was_in_dumps content office (AddsStage number) f
 stage_was_put content office number bytes is (inr f) = inr (is ∙ f)
 
-put_staged : (session : SessionName) (path : List ℕ) (file : StagedFile) → IsLawful (PutEvent.meaning session path (Staged file))
-put_staged session path file office names c sound e =
+put_staged : (session : SessionName) (path : List ℕ) (file : StagedFile) (token : Option Token) (office : Office) (names : Names) (c : Carried)
+    → AreSound office names → PutEvent.put session path (Staged file) office names ≡ Ok c
+    → Does (PutEvent.meaning session path (Staged file) token) office names c
+put_staged session path file token office names c sound e =
     let full : Bool = is_chain_full office.pool office.dumps names (stage_content office.stages file.stage) in
     let a = bound (PutEvent.with_staged session path file (is_chain_full office.pool office.dumps names (stage_content office.stages file.stage)) office.dumps office.stages) _ c e in
     let may : MayPutStage session path file full office.dumps office.stages a.0 = may_put_stage session path file full office.dumps office.stages a.0 a.1 in
@@ -206,9 +202,49 @@ put_staged session path file office names c sound e =
           (held-with_put PutEvent.is_over content office session path (PutEvent.staged_item file may.stage.bytes) full a.0.dumps may.put g)) h;
     })
 
-pub put : (session : SessionName) (path : List ℕ) (item : PutItem) → IsLawful (PutEvent.meaning session path item)
-put session path (Whole item) = put_whole session path item
-put session path (Staged file) = put_staged session path file
+-- ---- once for a token
+
+put_does : (session : SessionName) (path : List ℕ) (item : PutItem) (token : Option Token) (office : Office) (names : Names) (c : Carried)
+    → AreSound office names → PutEvent.put session path item office names ≡ Ok c → Does (PutEvent.meaning session path item token) office names c
+put_does session path (Whole item) token office names c sound e = put_whole session path item token office names c sound e
+put_does session path (Staged file) token office names c sound e = put_staged session path file token office names c sound e
+
+dumps_made : (old made given : List Dump) → made ≡ given → SameKept old made → SameKept old given
+dumps_made old made given same kept = subst (SameKept old) same kept
+
+pub put_kept : (session : SessionName) (path : List ℕ) (item : PutItem) (office : Office) (names : Names) (c : Carried)
+    → PutEvent.put session path item office names ≡ Ok c → SameKept office.dumps c.after.dumps
+put_kept session path (Whole item) office names c e =
+    let a = bound (with_put is_large session path item (is_chain_full office.pool office.dumps names (content_of item)) office.dumps) _ c e in
+    let made : Carried = record { answer = Done; after = with_dumps office a.0 } in
+    let same : made ≡ c = let f = a.2 in cc in
+    dumps_made office.dumps a.0 c.after.dumps (ap (λ (x : Carried). x.after.dumps) same)
+    (kept-with_put is_large session path item (is_chain_full office.pool office.dumps names (content_of item)) office.dumps a.0 a.1)
+put_kept session path (Staged file) office names c e =
+    let full : Bool = is_chain_full office.pool office.dumps names (stage_content office.stages file.stage) in
+    let a = bound (PutEvent.with_staged session path file (is_chain_full office.pool office.dumps names (stage_content office.stages file.stage)) office.dumps office.stages) _ c e in
+    let may : MayPutStage session path file full office.dumps office.stages a.0 = may_put_stage session path file full office.dumps office.stages a.0 a.1 in
+    let made : Carried = record { answer = Done; after = with_stages (with_dumps office a.0.dumps) a.0.stages } in
+    let same : made ≡ c = let f = a.2 in cc in
+    dumps_made office.dumps a.0.dumps c.after.dumps (ap (λ (x : Carried). x.after.dumps) same)
+    (kept-with_put PutEvent.is_over session path (PutEvent.staged_item file may.stage.bytes) full office.dumps a.0.dumps may.put)
+
+repeat_does : (session : SessionName) (path : List ℕ) (item : PutItem) (token : Option Token) (office : Office) (names : Names) → AreSound office names
+    → Does (PutEvent.meaning session path item token) office names (given_as Done (PutEvent.repeated session item office))
+repeat_does session path (Whole item) token office names sound = does_nothing _ office names sound Done refl
+repeat_does session path (Staged file) token office names sound = step (PutEvent.stage_of office.stages session file.stage)
+  where
+    step : (r : Judged (At Stage)) → Does (PutEvent.meaning session path (Staged file) token) office names (given_as Done (with_stages office (PutEvent.without_stage r office.stages)))
+    step (Err rule) = does_stages _ office names sound office.stages Done refl sound.names.given.stages sound.office
+    step (Ok stage) = does_stages _ office names sound (remove_at office.stages stage.index) Done refl
+        (AtEach-remove (λ (s : Stage). s.number < names.next_stage) office.stages stage.index sound.names.given.stages)
+        (IsSound-stage_removed office stage.index sound.office)
+
+pub put : (session : SessionName) (path : List ℕ) (item : PutItem) (token : Option Token) → IsLawful (PutEvent.meaning session path item token)
+put session path item token office names c sound e =
+    once_does (PutEvent.meaning session path item token) office names sound session (PutEvent.repeated session item office) (PutEvent.put session path item office names)
+    (λ made is. put_does session path item token office names made sound is) (λ made is. put_kept session path item office names made is)
+    (repeat_does session path item token office names sound) token c e
 
 -- ---- without a path
 
@@ -223,8 +259,8 @@ IsSound-without_path office session path dumps sound e =
     let b : (not (is_some (Trees.node_at a.0.value.tree path)) ≡ false) × (Ok (slice_set office.dumps a.0.index (Remove.with_removed a.0.value path)) ≡ Ok dumps) = passed _ _ _ _ a.2 in
     let same : slice_set office.dumps a.0.index (Remove.with_removed a.0.value path) ≡ dumps = let g = b.1 in cc in
     subst (λ ds. IsSound (with_dumps office ds)) same
-    (IsSound-retreed office a.0.index a.0.value (Remove.with_removed a.0.value path) sound was (record { name = refl; host = refl; base = refl })
-    (IsTree-without a.0.value.tree path (sound.dumps.trees a.0.index a.0.value was)))
+    (IsSound-retreed office a.0.index a.0.value (Remove.with_removed a.0.value path) sound was (record { name = refl; host = refl; base = refl; token = refl })
+    (IsTree-without a.0.value.tree path (sound.dumps.trees a.0.index a.0.value was)) (sound.dumps.tokens a.0.index a.0.value was))
 
 was_removed : (content : List ℕ) (dumps : List Dump) → (in_dumps dumps content ≡ true) ⊎ ⊥ → in_dumps dumps content ≡ true
 was_removed content dumps (inl f) = f
@@ -240,9 +276,29 @@ held-without_path content office session path dumps e h =
     was_removed content office.dumps (set_held content ⊥ office.dumps a.0.index a.0.value (Remove.with_removed a.0.value path) was
     (λ g. inl (holds-filter content (λ p. not (is_within path p)) a.0.value.tree g)) (ap (λ ds. in_dumps ds content) same ∙ h))
 
-pub remove : (session : SessionName) (path : List ℕ) → IsLawful (Remove.meaning session path)
-remove session path office names c sound e =
+remove_does : (session : SessionName) (path : List ℕ) (token : Option Token) (office : Office) (names : Names) (c : Carried) → AreSound office names
+    → Remove.removed session path office ≡ Ok c → Does (Remove.meaning session path token) office names c
+remove_does session path token office names c sound e =
     let a = bound (Remove.without_path session path office.dumps) _ c e in
     does _ office names sound _ c a.2 (does_dumps _ office names sound a.0 office.sequence Done refl
     (λ content g. was_in_dumps content office Same (held-without_path content office session path a.0 a.1 g))
     (IsSound-without_path office session path a.0 sound.office a.1))
+
+pub remove_kept : (session : SessionName) (path : List ℕ) (office : Office) (c : Carried) → Remove.removed session path office ≡ Ok c
+    → SameKept office.dumps c.after.dumps
+remove_kept session path office c e i dump at =
+    let a = bound (Remove.without_path session path office.dumps) _ c e in
+    let b = bound (dump_at office.dumps session) _ a.0 a.1 in
+    let was : slice_get office.dumps b.0.index ≡ Some b.0.value = (at_is _ office.dumps _ b.0 b.1).1 in
+    let d : (not (is_some (Trees.node_at b.0.value.tree path)) ≡ false) × (Ok (slice_set office.dumps b.0.index (Remove.with_removed b.0.value path)) ≡ Ok a.0) = passed _ _ _ _ b.2 in
+    let new_is : slice_set office.dumps b.0.index (Remove.with_removed b.0.value path) ≡ a.0 = let g = d.1 in cc in
+    let made : Carried = record { answer = Done; after = with_dumps office a.0 } in
+    let same : made ≡ c = let f = a.2 in cc in
+    kept_key (λ (x : Dump). x.kept) office.dumps b.0.index i b.0.value (Remove.with_removed b.0.value path) dump was refl
+    (ap (λ (ds : List Dump). slice_get ds i) (new_is ∙ ap (λ (x : Carried). x.after.dumps) same) ∙ at)
+
+pub remove : (session : SessionName) (path : List ℕ) (token : Option Token) → IsLawful (Remove.meaning session path token)
+remove session path token office names c sound e =
+    once_does (Remove.meaning session path token) office names sound session office (Remove.removed session path office)
+    (λ made is. remove_does session path token office names made sound is) (λ made is. remove_kept session path office made is)
+    (does_nothing _ office names sound Done refl) token c e

@@ -1,8 +1,8 @@
 -- Open readers stay sound where one is opened, gives a part, and is dropped.
-use Rattle.std.specs.Prelude.{◌≡◌, ◌<◌, ◌≤◌, ℕ, ◌+◌, false, true, Bool, cond, ◌||◌, List, [], ◌∷◌, ◌++◌, length, take, drop, Option, Some, Ok, nat_le, slice_get, slice_set}
+use Rattle.std.specs.Prelude.{◌≡◌, ◌<◌, ◌≤◌, ℕ, ◌+◌, false, true, Bool, cond, ◌||◌, List, [], ◌∷◌, ◌++◌, length, take, drop, Some, Ok, nat_le, slice_get, slice_set}
 use Rattle.std.specs.List.{remove}
 use Rattle.std.specs.Ordering.{eq_by_cmp}
-use Rattle.std.proofs.Common.{refl, sym, ap, ◌∙◌, subst, arith, length-take, length-drop}
+use Rattle.std.proofs.Common.{refl, ap, ◌∙◌, subst, arith, length-take, length-drop}
 use Rattle.std.proofs.lemmas.Slice.Eq.{bytes_eq-Decides}
 use Rattle.attr_records.specs.declared.nodes.Item.{Item}
 use Rattle.attr_records.specs.declared.nodes.Item.TheVariants.{File, Dir, Link}
@@ -12,7 +12,7 @@ use Rattle.attr_records.specs.Trees.{node_at}
 use Rattle.office_model.specs.declared.answer.Answer.TheVariants as A
 use Rattle.office_model.specs.declared.refusal.BrokenRule.TheVariants.{NoPath, NumbersSpent}
 use Rattle.office_model.specs.Places.{AtEach, AtEach-longer, AtEach-set, AtEach-remove, Differ-longer, Differ-set, Differ-remove}
-use Rattle.office_model.specs.Pool.{Pool, is_pooled, is_content, is_same_content, holds}
+use Rattle.office_model.specs.Pool.{is_pooled, is_content, is_same_content, holds}
 use Rattle.office_model.specs.Office.{Office, Host, Reader, last_sequence, piece_limit, with_readers, IsSound, AreReaders, IsPooledReader}
 use Rattle.office_model.specs.Meaning.{found}
 use Rattle.office_model.specs.Parts.{backup_of, reader_at}
@@ -21,7 +21,7 @@ use Rattle.office_model.specs.events.OpenFile as OpenFile
 use Rattle.office_model.specs.events.ReadPart as ReadPart
 use Rattle.office_model.specs.events.CloseFile as CloseFile
 use Rattle.office_model.specs.laws.Judging.{bound, passed, at_is, found_is}
-use Rattle.office_model.specs.laws.RestoreLaws.{Found, backup_found}
+use Rattle.office_model.specs.laws.RestoreLaws.{backup_found}
 use Rattle.office_model.specs.laws.Lawful.{IsLawful, does, does_readers}
 
 -- ---- readers by themselves
@@ -56,6 +56,7 @@ IsSound-readers office readers sound are pooled = record {
   now = record { sessions = sound.sessions; dumps = sound.dumps; restores = sound.restores; stages = sound.stages; readers = are };
   tied = record {
     hosted = sound.hosted;
+    over = sound.over;
     pooled = record { of_bases = sound.of_bases; of_restores = sound.of_restores; of_readers = pooled };
   };
 }

@@ -1,6 +1,6 @@
 -- The next epoch is sound, and holds no more.
-use Rattle.std.specs.Prelude.{◌≡◌, ◌+◌, true, false, [], Ok, nat_le}
-use Rattle.std.proofs.Common.{refl, sym, ap, subst}
+use Rattle.std.specs.Prelude.{◌≡◌, ◌≤◌, ◌+◌, true, false, [], Ok, nat_le}
+use Rattle.std.proofs.Common.{refl, sym, ap, subst, arith}
 use Rattle.office_model.specs.declared.answer.Answer.TheVariants.{Reopened}
 use Rattle.office_model.specs.declared.refusal.BrokenRule.TheVariants.{NumbersSpent}
 use Rattle.office_model.specs.Office.{Durable, last_sequence, nothing_open, IsSound, IsSoundDurable, raised, reopened}
@@ -12,13 +12,30 @@ use Rattle.office_model.specs.laws.HeldLaws.{held_by, was_pooled}
 use Rattle.office_model.specs.laws.Lawful.{IsLawful, does}
 
 pub IsSoundDurable-raised : (kept : Durable) → IsSoundDurable kept → IsSoundDurable (raised kept)
-IsSoundDurable-raised kept sound = record { hosts = sound.hosts; pool_order = sound.pool_order; of_backups = sound.of_backups; of_partials = sound.of_partials }
+IsSoundDurable-raised kept sound = record {
+  hosts = sound.hosts;
+  pool_order = sound.pool_order;
+  of_backups = sound.of_backups;
+  of_partials = sound.of_partials;
+  ended = record {
+    differ = sound.ended.differ;
+    up_to_now = λ i n r at. let le : r.name.epoch ≤ kept.epoch = sound.ended.up_to_now i n r at in omega arith;
+  };
+}
 
 pub IsSound-reopened : (kept : Durable) → IsSoundDurable kept → IsSound (reopened kept)
 IsSound-reopened kept sound = record {
   kept = IsSoundDurable-raised kept sound;
   now = IsSoundVolatile-nothing (raised kept).epoch;
-  tied = record { hosted = λ i d at. absurd (cc); pooled = pooled_nothing kept.pool };
+  tied = record {
+    hosted = λ i d at. absurd (cc);
+    over = λ i n r at. record {
+      given = λ same. let le : r.name.epoch ≤ kept.epoch = sound.ended.up_to_now i n r at in absurd (omega (arith, same));
+      no_dump = λ j d there. absurd (cc);
+      no_restore = λ j s there. absurd (cc);
+    };
+    pooled = pooled_nothing kept.pool;
+  };
 }
 
 -- of what the disk keeps, a Reopen makes a sound office

@@ -2,7 +2,7 @@
 use Rattle.std.specs.Prelude.{◌≡◌, ℕ, ◌+◌, false, List, [], ◌∷◌, ◌++◌, Some, Ok, nat_le, slice_get, slice_set}
 use Rattle.std.specs.List.{remove}
 use Rattle.std.proofs.Common.{refl, ap, ◌∙◌, subst}
-use Rattle.office_model.specs.declared.session.SessionName.{SessionName}
+use Rattle.receipts.specs.declared.session.SessionName.{SessionName}
 use Rattle.office_model.specs.declared.answer.Answer.TheVariants as A
 use Rattle.office_model.specs.Office.{Office, Host, Backup, Restore, last_sequence, with_restores, numbered, IsSound, IsSoundHost}
 use Rattle.office_model.specs.Parts.{host_at, backup_at, backup_of, restore_at}
@@ -11,7 +11,7 @@ use Rattle.office_model.specs.events.OpenRead as OpenRead
 use Rattle.office_model.specs.events.ReadNext as ReadNext
 use Rattle.office_model.specs.events.CloseRead as CloseRead
 use Rattle.office_model.specs.laws.Judging.{bound, passed, at_is}
-use Rattle.office_model.specs.laws.VolatileLaws.{restore_added, restore_set, restore_removed, pooled_restore_added, pooled_restore_set, pooled_restore_removed}
+use Rattle.office_model.specs.laws.VolatileLaws.{restore_added, restore_set, restore_removed, pooled_restore_added, pooled_restore_set, pooled_restore_removed, over_restore_added, over_restore_set, over_restore_removed}
 use Rattle.office_model.specs.laws.Lawful.{IsLawful, does, does_restores}
 
 -- a backup that was found, with its host
@@ -53,6 +53,7 @@ IsSound-with_restore office name number hosts restores sound slice e =
       now = restore_added office.epoch office.volatile sound.now restore refl (host.backups.numbered.trees at.index a.0 at.is_backup);
       tied = record {
         hosted = sound.hosted;
+        over = λ i n r at. over_restore_added office.epoch office.sequence office.dumps office.restores r (sound.over i n r at) restore refl;
         pooled = pooled_restore_added office.pool office.volatile sound.pooled restore (office.sequence + 1)
             (sound.of_backups at.place at.host at.is_host at.index a.0 at.is_backup);
       };
@@ -76,6 +77,7 @@ IsSound-given office session next sound e =
       now = restore_set office.epoch office.volatile sound.now a.0.index a.0.value new was refl refl;
       tied = record {
         hosted = sound.hosted;
+        over = λ i n r at. over_restore_set office.epoch office.sequence office.dumps office.restores r (sound.over i n r at) a.0.index a.0.value new was refl;
         pooled = pooled_restore_set office.pool office.volatile sound.pooled a.0.index a.0.value new was refl;
       };
     })
@@ -95,6 +97,7 @@ IsSound-without_restore office session restores sound e =
       now = restore_removed office.epoch office.volatile sound.now w.0.index;
       tied = record {
         hosted = sound.hosted;
+        over = λ i n r at. over_restore_removed office.epoch office.sequence office.dumps office.restores r (sound.over i n r at) w.0.index;
         pooled = pooled_restore_removed office.pool office.volatile sound.pooled w.0.index;
       };
     })

@@ -4,11 +4,11 @@ use Rattle.std.specs.List.{remove}
 use Rattle.std.proofs.Common.{refl, sym, subst, arith, length-append}
 use Rattle.std.proofs.lemmas.Bool.Decides.{nat_tests}
 use Rattle.attr_records.specs.declared.trees.PutRule.TheVariants.{FileTooLarge}
-use Rattle.office_model.specs.declared.session.SessionName.{SessionName}
+use Rattle.receipts.specs.declared.session.SessionName.{SessionName}
 use Rattle.office_model.specs.declared.answer.Answer.TheVariants.{Done, Stage as Opened}
 use Rattle.office_model.specs.declared.refusal.BrokenRule.TheVariants.{NumbersSpent, BadPiece, Put as PutRule}
 use Rattle.office_model.specs.Places.{AtEach, AtEach-longer, AtEach-set, AtEach-remove}
-use Rattle.office_model.specs.Office.{Office, Dump, Stage, Names, last_sequence, content_limit, stage_index, with_stages, IsSound, HasDump, AreGivenOut}
+use Rattle.office_model.specs.Office.{Office, Dump, Stage, Names, last_sequence, content_limit, stage_index, with_stages, IsSound, HasDump}
 use Rattle.office_model.specs.Parts.{dump_at, stage_at}
 use Rattle.office_model.specs.UsedNames.{AreSound}
 use Rattle.office_model.specs.events.StageOpen.{new_stage, with_stage, meaning}

@@ -1,11 +1,11 @@
 -- Open stages stay sound where a dump is opened, changed at its place, or dropped with its stages; and where a stage is opened, changed
 -- at its place, or dropped.
-use Rattle.std.specs.Prelude.{◌≡◌, ◌≢◌, ◌<◌, ◌≤◌, ℕ, zero, suc, ◌+◌, Bool, true, false, cond, not, List, [], ◌∷◌, ◌++◌, length, Some, Ok, nat_le, slice_get, slice_set, ◌⊎◌}
+use Rattle.std.specs.Prelude.{◌≡◌, ◌≢◌, ◌<◌, ◌≤◌, ℕ, zero, suc, Bool, true, false, cond, not, List, [], ◌∷◌, ◌++◌, length, Some, slice_get, slice_set, ◌⊎◌}
 use Rattle.std.specs.List.{filter, remove}
-use Rattle.std.proofs.Common.{refl, sym, ap, ◌∙◌, subst, inl, inr, arith}
+use Rattle.std.proofs.Common.{refl, sym, ap, ◌∙◌, inl, inr, arith}
 use Rattle.std.proofs.lemmas.Bool.{true≢false}
-use Rattle.office_model.specs.declared.session.SessionName.{SessionName}
-use Rattle.office_model.specs.Session.{is_same_session}
+use Rattle.receipts.specs.declared.session.SessionName.{SessionName}
+use Rattle.receipts.specs.Session.{is_same_session}
 use Rattle.office_model.specs.Places.{AtEach, AtEach-longer, AtEach-set, AtEach-remove, Differ, Differ-longer, Differ-set, Differ-remove, slice_get-longer, still_there}
 use Rattle.office_model.specs.Office.{Office, IsSound, with_stages, Dump, Stage, HasDump, AreStages, stages_left, content_limit}
 use Rattle.office_model.specs.laws.Lookups.{session_itself}
@@ -128,6 +128,7 @@ IsSound-stages office stages sound are = record {
   now = record { sessions = sound.sessions; dumps = sound.dumps; restores = sound.restores; stages = are; readers = sound.readers };
   tied = record {
     hosted = sound.hosted;
+    over = sound.over;
     pooled = record { of_bases = sound.of_bases; of_restores = sound.of_restores; of_readers = sound.of_readers };
   };
 }

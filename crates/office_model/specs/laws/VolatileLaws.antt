@@ -1,12 +1,13 @@
 -- What is open stays sound where a dump or a restore is opened, changed at its place, or dropped. A further list of what is open has
 -- its law here, once for each of these six changes.
-use Rattle.std.specs.Prelude.{◌≡◌, ℕ, ◌+◌, List, [], ◌∷◌, ◌++◌, length, None, Some, slice_get, slice_set, ◌⊎◌}
+use Rattle.std.specs.Prelude.{◌≡◌, ◌≢◌, ◌<◌, ℕ, ◌+◌, List, [], ◌∷◌, ◌++◌, length, None, Some, slice_get, slice_set, ◌⊎◌}
 use Rattle.std.specs.List.{remove}
 use Rattle.std.proofs.Common.{refl, sym, ap, ◌∙◌, subst, inl, inr, arith}
-use Rattle.office_model.specs.declared.session.SessionName.{SessionName}
+use Rattle.receipts.specs.declared.session.SessionName.{SessionName}
 use Rattle.office_model.specs.Places.{AtEach-longer, AtEach-set, AtEach-remove, Differ-longer, Differ-set, Differ-remove, in_longer, slice_get-remove, place_before}
 use Rattle.office_model.specs.Pool.{Pool}
-use Rattle.office_model.specs.Office.{Dump, Restore, Reader, Stage, Volatile, dump_index_of_host, nothing_open, stages_left, IsTree, IsGiven, IsSoundVolatile, IsPooledTree, IsPooledReader, IsPooledOpen}
+use Rattle.receipts.specs.declared.receipt.Receipt.{Receipt}
+use Rattle.office_model.specs.Office.{Dump, Restore, Reader, Stage, Volatile, AreKept, IsOver, dump_index_of_host, nothing_open, stages_left, IsTree, IsGiven, IsSoundVolatile, IsPooledTree, IsPooledReader, IsPooledOpen}
 use Rattle.office_model.specs.laws.Lookups.{dump_index_of_host-none}
 use Rattle.office_model.specs.laws.DurableLaws.{kept_key}
 use Rattle.office_model.specs.laws.StageLaws.{stages_longer, stages_set, stages_removed}
@@ -29,9 +30,9 @@ module _ (epoch : ℕ) (now : Volatile) (are : IsSoundVolatile epoch now) where
   -- ---- dumps
 
   pub dump_added : (dump : Dump) → dump.name ≡ session_of epoch now.sequence → dump_index_of_host now.dumps dump.host ≡ None
-      → IsTree dump.base → IsTree dump.tree
+      → IsTree dump.base → IsTree dump.tree → AreKept dump.kept
       → IsSoundVolatile epoch (record now { dumps = now.dumps ++ dump ∷ []; sequence = now.sequence + 1 })
-  dump_added dump name_is none base tree = record {
+  dump_added dump name_is none base tree kept = record {
     sessions = record {
       dumps_given = AtEach-longer (λ (d : Dump). IsGiven epoch (now.sequence + 1) d.name) now.dumps dump
           (λ i d at. later epoch now.sequence d.name (are.sessions.dumps_given i d at)) (subst (IsGiven epoch (now.sequence + 1)) (sym name_is) (next_given epoch now.sequence));
@@ -44,6 +45,7 @@ module _ (epoch : ℕ) (now : Volatile) (are : IsSoundVolatile epoch now) where
       one_a_host = Differ-longer (λ (d : Dump). d.host) now.dumps dump are.dumps.one_a_host (λ i d at. dump_index_of_host-none now.dumps dump.host i d none at);
       bases = AtEach-longer (λ (d : Dump). IsTree d.base) now.dumps dump are.dumps.bases base;
       trees = AtEach-longer (λ (d : Dump). IsTree d.tree) now.dumps dump are.dumps.trees tree;
+      tokens = AtEach-longer (λ (d : Dump). AreKept d.kept) now.dumps dump are.dumps.tokens kept;
     };
     restores = are.restores;
     stages = stages_longer now.dumps now.stages are.stages dump;
@@ -56,10 +58,10 @@ module _ (epoch : ℕ) (now : Volatile) (are : IsSoundVolatile epoch now) where
       step i j d r other same (inr f) =
           not_next epoch now.sequence r.name (are.sessions.restores_given j r other) (sym same ∙ ap (λ (x : Dump). x.name) f.1 ∙ name_is)
 
-  -- a dump at its place with another tree
+  -- a dump at its place with another tree or other tokens kept
   pub dump_set : (p : ℕ) (old new : Dump) → slice_get now.dumps p ≡ Some old → new.name ≡ old.name → new.host ≡ old.host
-      → new.base ≡ old.base → IsTree new.tree → IsSoundVolatile epoch (record now { dumps = slice_set now.dumps p new })
-  dump_set p old new was name host base tree = record {
+      → new.base ≡ old.base → IsTree new.tree → AreKept new.kept → IsSoundVolatile epoch (record now { dumps = slice_set now.dumps p new })
+  dump_set p old new was name host base tree kept = record {
     sessions = record {
       dumps_given = AtEach-set (λ (d : Dump). IsGiven epoch now.sequence d.name) now.dumps p new are.sessions.dumps_given (subst (IsGiven epoch now.sequence) (sym name) (are.sessions.dumps_given p old was));
       restores_given = are.sessions.restores_given;
@@ -72,6 +74,7 @@ module _ (epoch : ℕ) (now : Volatile) (are : IsSoundVolatile epoch now) where
       one_a_host = Differ-set (λ (d : Dump). d.host) now.dumps p old new was host are.dumps.one_a_host;
       bases = AtEach-set (λ (d : Dump). IsTree d.base) now.dumps p new are.dumps.bases (subst IsTree (sym base) (are.dumps.bases p old was));
       trees = AtEach-set (λ (d : Dump). IsTree d.tree) now.dumps p new are.dumps.trees tree;
+      tokens = AtEach-set (λ (d : Dump). AreKept d.kept) now.dumps p new are.dumps.tokens kept;
     };
     restores = are.restores;
     stages = stages_set now.dumps now.stages are.stages p old new was name;
@@ -92,6 +95,7 @@ module _ (epoch : ℕ) (now : Volatile) (are : IsSoundVolatile epoch now) where
       one_a_host = Differ-remove (λ (d : Dump). d.host) now.dumps p are.dumps.one_a_host;
       bases = AtEach-remove (λ (d : Dump). IsTree d.base) now.dumps p are.dumps.bases;
       trees = AtEach-remove (λ (d : Dump). IsTree d.tree) now.dumps p are.dumps.trees;
+      tokens = AtEach-remove (λ (d : Dump). AreKept d.kept) now.dumps p are.dumps.tokens;
     };
     restores = are.restores;
     stages = stages_removed now.dumps now.stages are.stages p dump session was name;
@@ -154,6 +158,70 @@ module _ (epoch : ℕ) (now : Volatile) (are : IsSoundVolatile epoch now) where
     stages = are.stages;
     readers = are.readers;
   }
+
+-- ---- what has a receipt isn't open
+
+module _ (epoch sequence : ℕ) (dumps : List Dump) (restores : List Restore) (receipt : Receipt)
+    (was : IsOver epoch sequence dumps restores receipt) where
+  -- the session that comes next has none
+  not_yet : (name : SessionName) → name ≡ session_of epoch sequence → name ≢ receipt.name
+  not_yet name is same =
+      let e : receipt.name ≡ session_of epoch sequence = sym same ∙ is in
+      let less : receipt.name.sequence < sequence = was.given (ap (λ (n : SessionName). n.epoch) e) in
+      let s : receipt.name.sequence ≡ sequence = ap (λ (n : SessionName). n.sequence) e in omega arith
+
+  given_later : receipt.name.epoch ≡ epoch → receipt.name.sequence < sequence + 1
+  given_later e = let less : receipt.name.sequence < sequence = was.given e in omega arith
+
+  pub over_dump_added : (dump : Dump) → dump.name ≡ session_of epoch sequence
+      → IsOver epoch (sequence + 1) (dumps ++ dump ∷ []) restores receipt
+  over_dump_added dump name_is = record {
+    given = given_later;
+    no_dump = AtEach-longer (λ (d : Dump). d.name ≢ receipt.name) dumps dump was.no_dump (not_yet dump.name name_is);
+    no_restore = was.no_restore;
+  }
+
+  pub over_dump_set : (p : ℕ) (old new : Dump) → slice_get dumps p ≡ Some old → new.name ≡ old.name
+      → IsOver epoch sequence (slice_set dumps p new) restores receipt
+  over_dump_set p old new at name = record {
+    given = was.given;
+    no_dump = AtEach-set (λ (d : Dump). d.name ≢ receipt.name) dumps p new was.no_dump (λ same. was.no_dump p old at (sym name ∙ same));
+    no_restore = was.no_restore;
+  }
+
+  pub over_dump_removed : (p : ℕ) → IsOver epoch sequence (remove dumps p) restores receipt
+  over_dump_removed p = record {
+    given = was.given;
+    no_dump = AtEach-remove (λ (d : Dump). d.name ≢ receipt.name) dumps p was.no_dump;
+    no_restore = was.no_restore;
+  }
+
+  pub over_restore_added : (restore : Restore) → restore.name ≡ session_of epoch sequence
+      → IsOver epoch (sequence + 1) dumps (restores ++ restore ∷ []) receipt
+  over_restore_added restore name_is = record {
+    given = given_later;
+    no_dump = was.no_dump;
+    no_restore = AtEach-longer (λ (r : Restore). r.name ≢ receipt.name) restores restore was.no_restore (not_yet restore.name name_is);
+  }
+
+  pub over_restore_set : (p : ℕ) (old new : Restore) → slice_get restores p ≡ Some old → new.name ≡ old.name
+      → IsOver epoch sequence dumps (slice_set restores p new) receipt
+  over_restore_set p old new at name = record {
+    given = was.given;
+    no_dump = was.no_dump;
+    no_restore = AtEach-set (λ (r : Restore). r.name ≢ receipt.name) restores p new was.no_restore (λ same. was.no_restore p old at (sym name ∙ same));
+  }
+
+  pub over_restore_removed : (p : ℕ) → IsOver epoch sequence dumps (remove restores p) receipt
+  over_restore_removed p = record {
+    given = was.given;
+    no_dump = was.no_dump;
+    no_restore = AtEach-remove (λ (r : Restore). r.name ≢ receipt.name) restores p was.no_restore;
+  }
+
+-- no token is kept
+pub AreKept-nil : AreKept []
+AreKept-nil = record { few = omega arith; differ = λ i j a b at. absurd (cc) }
 
 -- ---- what is open is in the pool
 
@@ -229,7 +297,7 @@ IsSoundVolatile-nothing epoch = record {
     restores_differ = λ i j a b at. absurd (cc);
     apart = λ i j d r at. absurd (cc);
   };
-  dumps = record { one_a_host = λ i j a b at. absurd (cc); bases = λ i d at. absurd (cc); trees = λ i d at. absurd (cc) };
+  dumps = record { one_a_host = λ i j a b at. absurd (cc); bases = λ i d at. absurd (cc); trees = λ i d at. absurd (cc); tokens = λ i d at. absurd (cc) };
   restores = λ i r at. absurd (cc);
   stages = record { of_dumps = λ i s at. absurd (cc); numbers_differ = λ i j a b at. absurd (cc); fit = λ i s at. absurd (cc) };
   readers = record { numbers_differ = λ i j a b at. absurd (cc); places = λ i r at. absurd (cc) };
