@@ -18,5 +18,5 @@ mod stages;
 
 pub use cleaning::{cleaned, fated, in_dumps};
 pub use readers::{Reader, drop_reader, in_readers, push_reader, read_part};
-pub use staged::put_staged;
+pub use staged::{drop_stage_of, put_staged};
 pub use stages::{Stage, add_piece, drop_stage, drop_stages, push_stage, stage_content};

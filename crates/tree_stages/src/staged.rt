@@ -4,7 +4,7 @@ ghost use Rattle.attr_records.specs.Trees.{broken_put};
 ghost use Rattle.attr_records.specs.declared.nodes.Item.TheVariants.{File as FileItem};
 ghost use Rattle.office_model.specs.declared.refusal.BrokenRule.TheVariants.{NoSession};
 ghost use Rattle.office_model.specs.Office.{Stage as StageValue, content_limit};
-ghost use Rattle.office_model.specs.events.Put.{with_put, with_staged, staged_item, stage_of, is_over};
+ghost use Rattle.office_model.specs.events.Put.{with_put, with_staged, staged_item, stage_of, without_stage, is_over};
 ghost use Rattle.tree_parts.specs.Steps.{IsPartStep, IsPartRefusal};
 ghost use Rattle.tree_stages.specs.Puts.{or_large};
 
@@ -76,6 +76,16 @@ fn stage_of(stages: &[Stage], session: SessionName, number: u64) -> Option<usize
         return None;
     }
     Some(index)
+}
+
+/// Drops the stage of this number, if it is one of the dump.
+pub fn drop_stage_of(stages: &mut Vec<Stage>, session: SessionName, number: u64)
+    ensures { stages.new.items ≡ without_stage (stage_of stages.old.items session number) stages.old.items }
+{
+    let Some(index) = stage_of(stages, session, number) else {
+        return;
+    };
+    stages.remove(index);
 }
 
 /// The File that a stage's bytes make, or want of memory.

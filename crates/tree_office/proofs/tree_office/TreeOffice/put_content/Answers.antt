@@ -15,7 +15,7 @@ invariant_of-self g c =
     let chain : true ≡ is_chain_full c.self.inside.office.pool c.self.inside.office.dumps (names_by g.N.Namer.digest_of c.self.inside.table) (content_in c.self.inside.office c.args.item.now) =
     sym c.if-full.true ∙ chain_some g.N.Namer.digest_of c.self.inside.office c.self.inside.table c.self.invariant (content_in c.self.inside.office c.args.item.now) c.args.content.now c.name-digest.result _
     (subst (λ (s : Named). content_in s.office c.args.item.now ≡ Some c.args.content.now) (sym c.self.view_is) c.requires) c.name-digest.ensures c.is_full-full.ensures in
-    names_put g.N.Namer.digest_of c.self.inside.office c.self.inside.table c.self.invariant c.args.session c.args.path.now c.args.item.now true c.put.result c.put.new.self c.sound.ensures chain
+    names_put g.N.Namer.digest_of c.self.inside.office c.self.inside.table c.self.invariant c.args.session c.args.path.now c.args.item.now c.args.token true c.put.result c.put.new.self c.sound.ensures chain
     (λ content at unset. absurd (true≢false unset)) c.put.ensures
 
 pub returns-then-full-clause-step : goal.returns-then-full-clause-step
@@ -23,16 +23,16 @@ returns-then-full-clause-step g c =
     let chain : true ≡ is_chain_full c.self.inside.office.pool c.self.inside.office.dumps (names_by g.N.Namer.digest_of c.self.inside.table) (content_in c.self.inside.office c.args.item.now) =
     sym c.if-full.true ∙ chain_some g.N.Namer.digest_of c.self.inside.office c.self.inside.table c.self.invariant (content_in c.self.inside.office c.args.item.now) c.args.content.now c.name-digest.result _
     (subst (λ (s : Named). content_in s.office c.args.item.now ≡ Some c.args.content.now) (sym c.self.view_is) c.requires) c.name-digest.ensures c.is_full-full.ensures in
-    subst (λ (s : Named). IsStep (state_of g.N.Namer.digest_of s) (Put c.args.session c.args.path.now c.args.item.now) c.put.result
+    subst (λ (s : Named). IsStep (state_of g.N.Namer.digest_of s) (Put c.args.session c.args.path.now c.args.item.now c.args.token) c.put.result
     (state_of g.N.Namer.digest_of (record { office = c.put.new.self; table = c.self.inside.table }))) c.self.view_is
-    (step_put g.N.Namer.digest_of c.self.inside.office c.self.inside.table c.self.invariant c.args.session c.args.path.now c.args.item.now true c.put.result c.put.new.self chain c.put.ensures)
+    (step_put g.N.Namer.digest_of c.self.inside.office c.self.inside.table c.self.invariant c.args.session c.args.path.now c.args.item.now c.args.token true c.put.result c.put.new.self chain c.put.ensures)
 
 pub invariant_of-self-then-is_named : goal.invariant_of-self-then-is_named
 invariant_of-self-then-is_named g c =
     let chain : false ≡ is_chain_full c.self.inside.office.pool c.self.inside.office.dumps (names_by g.N.Namer.digest_of c.self.inside.table) (content_in c.self.inside.office c.args.item.now) =
     sym c.if-full.false ∙ chain_some g.N.Namer.digest_of c.self.inside.office c.self.inside.table c.self.invariant (content_in c.self.inside.office c.args.item.now) c.args.content.now c.name-digest.result _
     (subst (λ (s : Named). content_in s.office c.args.item.now ≡ Some c.args.content.now) (sym c.self.view_is) c.requires) c.name-digest.ensures c.is_full-full.ensures in
-    names_put g.N.Namer.digest_of c.self.inside.office c.self.inside.table c.self.invariant c.args.session c.args.path.now c.args.item.now false c.put-then-is_named.result c.put-then-is_named.new.self c.sound.ensures chain
+    names_put g.N.Namer.digest_of c.self.inside.office c.self.inside.table c.self.invariant c.args.session c.args.path.now c.args.item.now c.args.token false c.put-then-is_named.result c.put-then-is_named.new.self c.sound.ensures chain
     (λ content at unset. named_content g.N.Namer.digest_of c.self.inside.office c.self.inside.table c.self.invariant (content_in c.self.inside.office c.args.item.now) c.args.content.now _
     (subst (λ (s : Named). content_in s.office c.args.item.now ≡ Some c.args.content.now) (sym c.self.view_is) c.requires) c.is_named.ensures c.if-is_named.true content at) c.put-then-is_named.ensures
 
@@ -41,9 +41,9 @@ returns-then-is_named-clause-step g c =
     let chain : false ≡ is_chain_full c.self.inside.office.pool c.self.inside.office.dumps (names_by g.N.Namer.digest_of c.self.inside.table) (content_in c.self.inside.office c.args.item.now) =
     sym c.if-full.false ∙ chain_some g.N.Namer.digest_of c.self.inside.office c.self.inside.table c.self.invariant (content_in c.self.inside.office c.args.item.now) c.args.content.now c.name-digest.result _
     (subst (λ (s : Named). content_in s.office c.args.item.now ≡ Some c.args.content.now) (sym c.self.view_is) c.requires) c.name-digest.ensures c.is_full-full.ensures in
-    subst (λ (s : Named). IsStep (state_of g.N.Namer.digest_of s) (Put c.args.session c.args.path.now c.args.item.now) c.put-then-is_named.result
+    subst (λ (s : Named). IsStep (state_of g.N.Namer.digest_of s) (Put c.args.session c.args.path.now c.args.item.now c.args.token) c.put-then-is_named.result
     (state_of g.N.Namer.digest_of (record { office = c.put-then-is_named.new.self; table = c.self.inside.table }))) c.self.view_is
-    (step_put g.N.Namer.digest_of c.self.inside.office c.self.inside.table c.self.invariant c.args.session c.args.path.now c.args.item.now false c.put-then-is_named.result c.put-then-is_named.new.self chain c.put-then-is_named.ensures)
+    (step_put g.N.Namer.digest_of c.self.inside.office c.self.inside.table c.self.invariant c.args.session c.args.path.now c.args.item.now c.args.token false c.put-then-is_named.result c.put-then-is_named.new.self chain c.put-then-is_named.ensures)
 
 pub give-requires : goal.give-requires
 give-requires g c = not_spent g.N.Namer.digest_of c.self.inside.office c.self.inside.table c.self.invariant c.args.content.now c.name-digest.result _ _
@@ -60,7 +60,7 @@ invariant_of-self-in-Ok g c =
     c.name-digest.ensures c.is_named.ensures c.if-is_named.false in
     let held : content_in c.self.inside.office c.args.item.now ≡ Some given.fresh.content = (subst (λ (s : Named). content_in s.office c.args.item.now ≡ Some c.args.content.now) (sym c.self.view_is) c.requires) ∙ ap Some (sym given.is_free.of_content) in
     subst (AreNames g.N.Namer.digest_of c.put-2.new.self) (sym given.is)
-    (names_fresh g.N.Namer.digest_of c.self.inside.office c.self.inside.table c.self.invariant c.args.session c.args.path.now c.args.item.now c.in-Ok.answer c.put-2.new.self given.fresh c.sound.ensures chain held fresh c.in-Ok.ensures)
+    (names_fresh g.N.Namer.digest_of c.self.inside.office c.self.inside.table c.self.invariant c.args.session c.args.path.now c.args.item.now c.args.token c.in-Ok.answer c.put-2.new.self given.fresh c.sound.ensures chain held fresh c.in-Ok.ensures)
 
 pub returns-in-Ok-clause-step : goal.returns-in-Ok-clause-step
 returns-in-Ok-clause-step g c =
@@ -72,11 +72,11 @@ returns-in-Ok-clause-step g c =
     fresh_is g.N.Namer.digest_of c.self.inside.office c.self.inside.table c.self.invariant c.args.content.now c.name-digest.result _ c.give.new.self given
     c.name-digest.ensures c.is_named.ensures c.if-is_named.false in
     let held : content_in c.self.inside.office c.args.item.now ≡ Some given.fresh.content = (subst (λ (s : Named). content_in s.office c.args.item.now ≡ Some c.args.content.now) (sym c.self.view_is) c.requires) ∙ ap Some (sym given.is_free.of_content) in
-    subst (λ (t : Table). IsStep (state_of g.N.Namer.digest_of c.args.self.now) (Put c.args.session c.args.path.now c.args.item.now) (Ok c.in-Ok.answer)
+    subst (λ (t : Table). IsStep (state_of g.N.Namer.digest_of c.args.self.now) (Put c.args.session c.args.path.now c.args.item.now c.args.token) (Ok c.in-Ok.answer)
     (state_of g.N.Namer.digest_of (record { office = c.put-2.new.self; table = t }))) (sym given.is)
-    (subst (λ (s : Named). IsStep (state_of g.N.Namer.digest_of s) (Put c.args.session c.args.path.now c.args.item.now) (Ok c.in-Ok.answer)
+    (subst (λ (s : Named). IsStep (state_of g.N.Namer.digest_of s) (Put c.args.session c.args.path.now c.args.item.now c.args.token) (Ok c.in-Ok.answer)
     (state_of g.N.Namer.digest_of (record { office = c.put-2.new.self; table = with_name c.self.inside.table given.fresh }))) c.self.view_is
-    (step_fresh g.N.Namer.digest_of c.self.inside.office c.self.inside.table c.self.invariant c.args.session c.args.path.now c.args.item.now c.in-Ok.answer c.put-2.new.self given.fresh chain held fresh c.in-Ok.ensures))
+    (step_fresh g.N.Namer.digest_of c.self.inside.office c.self.inside.table c.self.invariant c.args.session c.args.path.now c.args.item.now c.args.token c.in-Ok.answer c.put-2.new.self given.fresh chain held fresh c.in-Ok.ensures))
 
 pub invariant_of-self-in-Err : goal.invariant_of-self-in-Err
 invariant_of-self-in-Err g c =
@@ -91,8 +91,8 @@ returns-in-Err-clause-step g c =
     (subst (λ (s : Named). content_in s.office c.args.item.now ≡ Some c.args.content.now) (sym c.self.view_is) c.requires) c.name-digest.ensures c.is_full-full.ensures in
     let given = c.in_ok-give.ensures.given in
     let back = c.take_back.ensures c.self.inside.table given.fresh given.is in
-    subst (λ (t : Table). IsStep (state_of g.N.Namer.digest_of c.args.self.now) (Put c.args.session c.args.path.now c.args.item.now) (Err c.in-Err.refusal)
+    subst (λ (t : Table). IsStep (state_of g.N.Namer.digest_of c.args.self.now) (Put c.args.session c.args.path.now c.args.item.now c.args.token) (Err c.in-Err.refusal)
     (state_of g.N.Namer.digest_of (record { office = c.put-2.new.self; table = t }))) (sym back)
-    (subst (λ (s : Named). IsStep (state_of g.N.Namer.digest_of s) (Put c.args.session c.args.path.now c.args.item.now) (Err c.in-Err.refusal)
+    (subst (λ (s : Named). IsStep (state_of g.N.Namer.digest_of s) (Put c.args.session c.args.path.now c.args.item.now c.args.token) (Err c.in-Err.refusal)
     (state_of g.N.Namer.digest_of (record { office = c.put-2.new.self; table = c.self.inside.table }))) c.self.view_is
-    (step_put g.N.Namer.digest_of c.self.inside.office c.self.inside.table c.self.invariant c.args.session c.args.path.now c.args.item.now false (Err c.in-Err.refusal) c.put-2.new.self chain c.in-Err.ensures))
+    (step_put g.N.Namer.digest_of c.self.inside.office c.self.inside.table c.self.invariant c.args.session c.args.path.now c.args.item.now c.args.token false (Err c.in-Err.refusal) c.put-2.new.self chain c.in-Err.ensures))
