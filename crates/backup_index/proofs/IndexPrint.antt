@@ -1,21 +1,25 @@
--- The body of an index in the second layout, part by part.
+-- The body of an index in the third layout, part by part.
 use Rattle.std.proofs.Common.{◌≡◌, ℕ, List, ◌++◌, length, refl, ap, ◌∙◌, append_assoc}
-use Rattle.std.specs.Int.{w8, w32, w64}
+use Rattle.std.specs.Int.{w8, w16, w32, w64}
 use Rattle.wire_bytes.specs.Layout.{number_bytes, text_bytes}
 use Rattle.wire_bytes.specs.Breaks.{items_bytes}
 use Rattle.wire_bytes.specs.Grammar.{field, followed_by, seen_as, items_of}
 use Rattle.backup_rules.specs.declared.layouts.RulesLayout.TheVariants as rules_in
 use Rattle.backup_rules.specs.Layout.{rules_grammar, line_bytes}
-use Rattle.backup_index.specs.declared.layouts.IndexLayout.TheVariants.{Second}
-use Rattle.backup_index.specs.Index.{Index, index_magic}
+use Rattle.backup_index.specs.declared.layouts.IndexLayout.TheVariants.{Third}
+use Rattle.backup_index.specs.Index.{Index, index_magic, receipt_bytes}
 use Rattle.backup_index.specs.Stored.{index_grammar}
 
 -- the numbers behind the rules
 abbrev pub numbers_bytes : Index → List ℕ
 numbers_bytes i = number_bytes w32 i.good ++ (number_bytes w32 i.bad ++ (number_bytes w64 i.next ++ number_bytes w64 (length i.lines)))
 
-pub index_print : (i : Index) → (index_grammar).print (Second, i)
-    ≡ index_magic Second ++ (number_bytes w32 i.host ++ (text_bytes w8 i.name ++ ((rules_grammar rules_in.Second).print i.rules ++ (numbers_bytes i ++ items_bytes line_bytes i.lines))))
+-- the receipts behind their number
+abbrev pub receipts_bytes : Index → List ℕ
+receipts_bytes i = number_bytes w16 (length i.receipts) ++ items_bytes receipt_bytes i.receipts
+
+pub index_print : (i : Index) → (index_grammar).print (Third, i)
+    ≡ index_magic Third ++ (number_bytes w32 i.host ++ (text_bytes w8 i.name ++ ((rules_grammar rules_in.Second).print i.rules ++ (receipts_bytes i ++ (numbers_bytes i ++ items_bytes line_bytes i.lines)))))
 unfolding field followed_by seen_as items_of
 index_print i = refl
 
@@ -34,3 +38,8 @@ pub six : (old one two three fourth fifth now a b c d e f : List ℕ) → one �
 six old one two three fourth fifth now a b c d e f p q r s t u =
     u ∙ ap (λ l. l ++ f) (five old one two three fourth fifth a b c d e p q r s t) ∙ append_assoc old (a ++ (b ++ (c ++ (d ++ e)))) f
     ∙ ap (λ l. old ++ l) (append_assoc a (b ++ (c ++ (d ++ e))) f ∙ ap (λ l. a ++ l) (append_assoc b (c ++ (d ++ e)) f ∙ ap (λ l. b ++ l) (append_assoc c (d ++ e) f ∙ ap (λ l. c ++ l) (append_assoc d e f))))
+
+pub seven : (old one two three fourth fifth sixth now a b c d e f g : List ℕ) → one ≡ old ++ a → two ≡ one ++ b → three ≡ two ++ c → fourth ≡ three ++ d → fifth ≡ fourth ++ e → sixth ≡ fifth ++ f → now ≡ sixth ++ g
+    → now ≡ old ++ (a ++ (b ++ (c ++ (d ++ (e ++ (f ++ g))))))
+seven old one two three fourth fifth sixth now a b c d e f g p q r s t u v =
+    six old one two three fourth fifth now a b c d e (f ++ g) p q r s t (v ∙ ap (λ l. l ++ g) u ∙ append_assoc fifth f g)

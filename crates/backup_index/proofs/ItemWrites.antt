@@ -2,7 +2,7 @@
 use Rattle.std.proofs.Common.{◌≡◌, ℕ, ◌+◌, ◌<◌, List, [], ◌∷◌, ◌++◌, length, take, get_or, sym, ap, ◌∙◌, subst}
 use Rattle.std.specs.List.{AllByRecursion}
 use Rattle.std.proofs.lemmas.List.{take_more}
-use Rattle.backup_index.specs.NameLaws.{each_push}
+use Rattle.backup_index.specs.FreshLaws.{each_push}
 
 pub one_fits : {V : Type 0} (P : V → Type 0) (xs : List V) (i : ℕ) (x d : V) → i < length xs → x ≡ get_or xs i d → AllByRecursion P (take i xs) → P x → AllByRecursion P (take (i + 1) xs)
 one_fits P xs i x d within is before here =

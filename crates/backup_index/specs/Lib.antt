@@ -1,10 +1,12 @@
 pub mod Faults
 pub mod Names
+pub mod FreshLaws
 pub mod NameLaws
 pub mod Head
 pub mod Lines
 pub mod LineLaws
 pub mod Index
+pub mod ReceiptLaws
 pub mod IndexLaws
 pub mod Stored
 pub mod Edits

@@ -1,4 +1,4 @@
--- The index of a host as it is stored, in one layout or the other.
+-- The index of a host as it is stored, in one layout or another.
 use Rattle.std.specs.Prelude.{◌++◌}
 use Rattle.wire_bytes.specs.Grammar.{Grammar, seen_as}
 use Rattle.backup_index.specs.declared.layouts.IndexLayout.{IndexLayout}
@@ -11,4 +11,4 @@ index_grammar = seen_as index_parts IsStored parts_of_index index_from sees_inde
 
 -- the index whose parts these are
 abbrev pub index_of_parts : HostParts → Index
-index_of_parts p = index_of p.host p.name.now p.rules.now p.good p.bad p.next (p.lines.now ++ p.more.now)
+index_of_parts p = index_of p.host p.name.now p.rules.now p.good p.bad p.next p.receipts.now (p.lines.now ++ p.more.now)

@@ -21,11 +21,14 @@ pub fn read_layout(reader: &mut Reader) -> Result<IndexLayout, IndexFault>
     ensures { ReadsOrBreaks offset_of (λ layout. layout) layout_grammar reader.old result reader.new }
 {
     let start = reader.offset();
-    match reader.read_magic(b"RHI2") {
-        Ok(()) => Ok(IndexLayout::Second),
-        Err(_) => match reader.read_magic(b"RHI1") {
-            Ok(()) => Ok(IndexLayout::First),
-            Err(_) => Err(IndexFault::BadIndex(start)),
+    match reader.read_magic(b"RHI3") {
+        Ok(()) => Ok(IndexLayout::Third),
+        Err(_) => match reader.read_magic(b"RHI2") {
+            Ok(()) => Ok(IndexLayout::Second),
+            Err(_) => match reader.read_magic(b"RHI1") {
+                Ok(()) => Ok(IndexLayout::First),
+                Err(_) => Err(IndexFault::BadIndex(start)),
+            },
         },
     }
 }

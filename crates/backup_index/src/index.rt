@@ -11,6 +11,7 @@ use crate::lines::{AppendFault, IndexRule, LineList};
 use crate::parts::HostParts;
 use attr_records::HostName;
 use backup_rules::{Line, Rules};
+use receipts::ReceiptList;
 use std::marker::Model;
 
 /// The rule that a line breaks, whose number may be `low` at least and is to be below `next`, if it breaks one.
@@ -74,6 +75,7 @@ pub struct HostIndex {
     good: u32,
     bad: u32,
     next: u64,
+    receipts: ReceiptList,
     lines: LineList,
 }
 
@@ -83,7 +85,7 @@ impl Model for HostIndex {
 
     ghost Value = { Index };
 
-    ghost view = { λ i. index_of i.host i.name i.rules i.good i.bad i.next i.lines };
+    ghost view = { λ i. index_of i.host i.name i.rules i.good i.bad i.next i.receipts i.lines };
 
     ghost invariant = { λ i. IsSound i.next i.lines };
 }
@@ -98,6 +100,7 @@ impl Drop for HostIndex {
             good: _,
             bad: _,
             next: _,
+            receipts: _,
             lines: _,
         } = self;
     }
@@ -112,14 +115,15 @@ impl HostIndex {
         good: u32,
         bad: u32,
         next: u64,
+        receipts: ReceiptList,
         lines: LineList,
     ) -> Result<HostIndex, IndexRule>
-        ensures ok { IfOk result (λ index. index ≡ index_of host name rules good bad next lines) }
+        ensures ok { IfOk result (λ index. index ≡ index_of host name rules good bad next receipts lines) }
         ensures sound { OnOk result (IsSound next lines) }
         ensures broken { IfErr result (λ rule. broken_index next lines ≡ Some rule) }
     {
         match broken_index(next, lines.lines()) {
-            None => Ok(HostIndex::from_sound(host, name, rules, good, bad, next, lines)),
+            None => Ok(HostIndex::from_sound(host, name, rules, good, bad, next, receipts, lines)),
             Some(rule) => Err(rule),
         }
     }
@@ -132,10 +136,11 @@ impl HostIndex {
         good: u32,
         bad: u32,
         next: u64,
+        receipts: ReceiptList,
         lines: LineList,
     ) -> HostIndex
         requires { IsSound next lines }
-        ensures { result ≡ index_of host name rules good bad next lines }
+        ensures { result ≡ index_of host name rules good bad next receipts lines }
     {
         HostIndex {
             host,
@@ -144,6 +149,7 @@ impl HostIndex {
             good,
             bad,
             next,
+            receipts,
             lines,
         }
     }
@@ -202,6 +208,7 @@ impl HostIndex {
             good: self.good,
             bad: self.bad,
             next: self.next,
+            receipts: &self.receipts,
             lines: self.lines.lines(),
             more: &[],
         }
@@ -213,6 +220,13 @@ impl HostIndex {
         ensures sound { IsSound self.now.next self.now.lines }
     {
         &self.lines
+    }
+
+    /// The receipts of commits, the oldest first.
+    pub fn receipts(&self) -> &ReceiptList
+        ensures { result.now ≡ self.now.receipts }
+    {
+        &self.receipts
     }
 
     /// Gives the host other rules.
@@ -244,6 +258,23 @@ impl HostIndex {
                 Ok(())
             }
         }
+    }
+
+    /// Gives it what a commit changes: other lines, another next number and other receipts; refused by the first rule that the
+    /// lines and the number break, and then it is as it was.
+    pub fn set_commit(
+        &mut self,
+        next: u64,
+        receipts: ReceiptList,
+        lines: LineList,
+    ) -> Result<(), IndexRule>
+        ensures ok { OnOk result (self.new ≡ record self.old { next = next; receipts = receipts; lines = lines }) }
+        ensures err { OnErr result (self.new ≡ self.old) }
+        ensures broken { IfErr result (λ rule. broken_index next lines ≡ Some rule) }
+    {
+        self.set_lines(next, lines)?;
+        self.receipts = receipts;
+        Ok(())
     }
 
     /// Puts a line behind the others, with a number that isn't below the next one; the next number is then the one above

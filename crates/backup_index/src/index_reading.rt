@@ -14,6 +14,7 @@ use crate::fields::{read_layout, read_name, read_next_number};
 use crate::index::{HostIndex, broken_line};
 use crate::layouts::IndexLayout;
 use crate::lines::LineList;
+use crate::receipt_reading::read_receipts;
 use backup_rules::{Line, Rules, read_line, read_rules};
 use std::alloc::Global;
 use wire_bytes::Reader;
@@ -102,6 +103,7 @@ fn read_index(alloc: Global, reader: &mut Reader) -> Result<(IndexLayout, HostIn
     let host = reader.read_u32()?;
     let name = read_name(alloc, reader)?;
     let rules = read_host_rules(alloc, reader, layout)?;
+    let receipts = read_receipts(alloc, reader, layout)?;
     let numbers = read_numbers(reader)?;
     let Numbers {
         good,
@@ -112,7 +114,7 @@ fn read_index(alloc: Global, reader: &mut Reader) -> Result<(IndexLayout, HostIn
     let lines = read_lines(alloc, reader, next, numbers.count)?;
     Ok((
         layout,
-        HostIndex::from_sound(host, name, rules, good, bad, next, lines),
+        HostIndex::from_sound(host, name, rules, good, bad, next, receipts, lines),
     ))
 }
 

@@ -7,12 +7,13 @@ ghost use Rattle.wire_bytes.specs.Layout.{number_bytes, IsNumber};
 ghost use Rattle.wire_bytes.specs.Breaks.{items_bytes};
 ghost use Rattle.wire_bytes.specs.Seal.{sealed};
 ghost use Rattle.backup_rules.specs.Layout.{line_bytes, IsLine};
-ghost use Rattle.backup_index.specs.declared.layouts.IndexLayout.TheVariants.{Second};
+ghost use Rattle.backup_index.specs.declared.layouts.IndexLayout.TheVariants.{Third};
 ghost use Rattle.backup_index.specs.Lines.{IsSound};
 ghost use Rattle.backup_index.specs.Index.{IsIndex};
 ghost use Rattle.backup_index.specs.Stored.{index_grammar, index_of_parts};
 
 use crate::parts::HostParts;
+use crate::receipt_writing::put_receipts;
 use backup_rules::{Line, put_line, put_rules};
 use disk_trait::Bytes;
 use std::alloc::{AllocError, Global};
@@ -59,17 +60,18 @@ fn put_numbers(out: &mut Vec<u8>, parts: &HostParts) -> Result<(), AllocError>
     Ok(())
 }
 
-/// The file of an index in the second layout, of parts that break no rule (`broken_index` tells), or want of memory.
+/// The file of an index in the third layout, of parts that break no rule (`broken_index` tells), or want of memory.
 pub fn write_host_index(alloc: Global, parts: &HostParts) -> Result<Bytes, AllocError>
     requires { IsSound parts.now.next (parts.now.lines.now ++ parts.now.more.now) }
-    ensures file { IfOk result (λ bytes. bytes ≡ sealed ((index_grammar).print (Second, index_of_parts parts.now))) }
+    ensures file { IfOk result (λ bytes. bytes ≡ sealed ((index_grammar).print (Third, index_of_parts parts.now))) }
     ensures fits { OnOk result (IsIndex (index_of_parts parts.now)) }
 {
     let mut body = Vec::new(alloc);
-    put_bytes(&mut body, b"RHI2")?;
+    put_bytes(&mut body, b"RHI3")?;
     put_u32(&mut body, parts.host)?;
     put_text8(&mut body, parts.name.as_slice())?;
     put_rules(&mut body, parts.rules)?;
+    put_receipts(&mut body, parts.receipts)?;
     put_numbers(&mut body, parts)?;
     put_pieces(&mut body, parts.lines, parts.more)?;
     Ok(Bytes::from_vec(seal(body)?))

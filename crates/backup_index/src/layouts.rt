@@ -7,6 +7,8 @@ pub enum IndexLayout {
     First,
     /// `RHI2`: rules with all settings.
     Second,
+    /// `RHI3`: receipts, too.
+    Third,
 }
 
 impl IndexLayout {
@@ -19,7 +21,7 @@ impl IndexLayout {
     {
         match self {
             IndexLayout::First => RulesLayout::First,
-            IndexLayout::Second => RulesLayout::Second,
+            IndexLayout::Second | IndexLayout::Third => RulesLayout::Second,
         }
     }
 }

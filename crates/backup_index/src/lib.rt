@@ -14,6 +14,8 @@ mod limits;
 mod lines;
 mod names;
 mod parts;
+mod receipt_reading;
+mod receipt_writing;
 
 pub use backup_rules::{
     KeepCounts, Kind, Line, OutOfRange, Period, Periods, PeriodsFault, RuleChange, Rules, SETTINGS,

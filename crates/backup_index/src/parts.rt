@@ -1,5 +1,6 @@
 use attr_records::HostName;
 use backup_rules::{Line, Rules};
+use receipts::ReceiptList;
 
 /// The parts of a host's index, borrowed. The lines stand in two pieces, so that an index is written with a further
 /// line, or without one, while none is copied.
@@ -15,6 +16,8 @@ pub struct HostParts<'a> {
     pub bad: u32,
     /// The number of the next backup, which is none where it is 2^32.
     pub next: u64,
+    /// The receipts of commits, the oldest first.
+    pub receipts: &'a ReceiptList,
     /// The lines, and those behind them.
     pub lines: &'a [Line],
     pub more: &'a [Line],

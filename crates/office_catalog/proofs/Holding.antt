@@ -1,7 +1,6 @@
 -- What files hold, with one of them changed.
-use Rattle.std.proofs.Common.{◌≡◌, ◌⊎◌, inl, inr, ℕ, ◌<◌, Bool, true, false, List, [], ◌∷◌, length, Option, Some, None, refl, sym, ap, subst, ◌∙◌, arith}
+use Rattle.std.proofs.Common.{◌≡◌, inl, inr, ℕ, true, false, List, Option, Some, refl, sym, ap, subst, ◌∙◌}
 use Rattle.std.specs.Prelude.{slice_get}
-use Rattle.std.proofs.lemmas.Bool.{false≢true}
 use Rattle.disk_trait.specs.declared.ids.FileId.{FileId}
 use Rattle.disk_trait.specs.declared.ids.FileId.TheVariants.{Head, Host, Intent, Gate, Table, Counts, PoolIndex, PoolBucket, Partial, Pool, Stage}
 use Rattle.disk_trait.specs.Names.{is_same_file, same_file, is_same_file-itself}
@@ -10,12 +9,13 @@ use Rattle.intent_journal.specs.ChangesLaws.{either, with_bytes_there, with_byte
 use Rattle.wire_bytes.specs.Seal.{sealed}
 use Rattle.wire_bytes.specs.Grammar.{seen_as}
 use Rattle.backup_index.specs.declared.layouts.IndexLayout.{IndexLayout}
-use Rattle.backup_index.specs.declared.layouts.IndexLayout.TheVariants.{Second}
+use Rattle.backup_index.specs.declared.layouts.IndexLayout.TheVariants.{Third}
 use Rattle.backup_index.specs.Index.{Index, IsIndex, IsStored}
+use Rattle.backup_index.specs.ReceiptLaws.{receipts_fit}
 use Rattle.backup_index.specs.Stored.{index_grammar}
-use Rattle.office_catalog.specs.Known.{Known, names_of, changed_at, head_of, nothing_known, with_change, with_host, with_epoch}
-use Rattle.office_catalog.specs.Held.{HoldsHead, HoldsIndex, HoldsNames, HoldsCatalog}
-use Rattle.office_catalog.proofs.Hosts.{IsItem, item_changed, item_pushed}
+use Rattle.office_catalog.specs.Known.{Known, changed_at}
+use Rattle.office_catalog.specs.Held.{HoldsIndex, HoldsNames, HoldsCatalog}
+use Rattle.office_catalog.proofs.Hosts.{IsItem, item_changed}
 
 -- ---- names of files
 
@@ -98,12 +98,12 @@ holds_as all others known head hosts holds = record {
 }
 
 -- an index that was written
-stored : (index : Index) → IsIndex index → IsStored (Second, index)
+stored : (index : Index) → IsIndex index → IsStored (Third, index)
 unfolding seen_as
-stored index is = record { index = is; rules = is.rules }
+stored index is = record { index = is; rules = is.rules; receipts = receipts_fit index.receipts is.receipts is.each_receipt }
 
-pub written : (index : Index) (bytes : List ℕ) → bytes ≡ sealed ((index_grammar).print (Second, index)) → IsIndex index → HoldsIndex index (Some bytes)
-written index bytes file fits = record { layout = Second; fits = stored index fits; is = ap Some file }
+pub written : (index : Index) (bytes : List ℕ) → bytes ≡ sealed ((index_grammar).print (Third, index)) → IsIndex index → HoldsIndex index (Some bytes)
+written index bytes file fits = record { layout = Third; fits = stored index fits; is = ap Some file }
 
 -- an index that was read
 pub read : (found : IndexLayout × Index) (bytes : List ℕ) → (index_grammar).Fits found → bytes ≡ sealed ((index_grammar).print found) → HoldsIndex found.1 (Some bytes)

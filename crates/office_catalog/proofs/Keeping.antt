@@ -1,6 +1,6 @@
 -- What a catalog keeps in memory, behind each change.
 use Rattle.std.proofs.Common.{◌≡◌, ℕ, zero, suc, ◌+◌, ◌<◌, ◌≤◌, Bool, true, false, not, is_some, List, [], ◌∷◌, ◌++◌, length, map, take, drop, get_or, Option, Some, None, refl, sym, ap, subst, ◌∙◌, arith}
-use Rattle.std.specs.Prelude.{slice_get, slice_set, insert, vec_capacity, vec_len}
+use Rattle.std.specs.Prelude.{slice_get, slice_set, insert, vec_capacity}
 use Rattle.std.specs.Global.{Vec}
 use Rattle.std.specs.Vec.{with_item}
 use Rattle.std.specs.Prelude.{IfSome}
@@ -10,16 +10,15 @@ use Rattle.backup_index.specs.Index.{Index}
 use Rattle.backup_index.specs.Lines.{IsSound, broken_index, none_from_sound}
 use Rattle.backup_index.specs.declared.lines.IndexRule.{IndexRule}
 use Rattle.office_catalog.specs.declared.named.NamedHost.{NamedHost}
-use Rattle.office_catalog.specs.Known.{Known, known_of, names_of, changed_at, with_change, with_host, host_named, IsHost, IsCatalog}
+use Rattle.office_catalog.specs.Known.{Known, known_of, names_of, changed_at, with_change, host_named, IsHost, IsCatalog}
 use Rattle.std.specs.FinMap.Entries.{find}
 use Rattle.office_catalog.specs.Named.{name_cmp, entry_of}
 use Rattle.office_catalog.specs.Kept.{AreByName, IsKept}
-use Rattle.office_catalog.proofs.Hosts.{Keeps, names_changed, names_pushed, changed_set, catalog_changed, catalog_pushed, catalog_none, length_names, length_pushed, item_at}
+use Rattle.office_catalog.proofs.Hosts.{Keeps, names_changed, names_pushed, changed_set, catalog_changed, catalog_pushed, catalog_none, length_names, item_at}
 use Rattle.office_catalog.proofs.Naming.{named_within, none_named, by_no_name, by_one_more}
 use Rattle.ordered_lists.specs.Search.{IsAbsent}
 use Rattle.backup_index.specs.Names.{has_name}
 use Rattle.office_catalog.specs.Changed.{IsNewHost}
-use Rattle.std.specs.FinMap.Entries.{put}
 
 module _ (f : Index → Index) (host : ℕ) where
   pub set_is : (xs : List Index) (old new : Index) → host < length xs → old ≡ get_or xs host old → new ≡ f old → slice_set xs host new ≡ changed_at f host xs

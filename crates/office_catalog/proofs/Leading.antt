@@ -1,19 +1,19 @@
 -- Changes of files that lead from one catalog to another.
-use Rattle.std.proofs.Common.{◌≡◌, ◌⊎◌, inl, inr, ℕ, zero, suc, ◌+◌, ◌<◌, Bool, true, false, List, [], ◌∷◌, ◌++◌, length, map, cond, get_or, Option, Some, None, refl, sym, ap, subst, ◌∙◌, arith}
+use Rattle.std.proofs.Common.{◌≡◌, inl, inr, ℕ, ◌+◌, ◌<◌, Bool, true, false, List, [], ◌∷◌, ◌++◌, length, cond, get_or, Option, Some, refl, sym, ap, subst, ◌∙◌, arith}
 use Rattle.std.specs.Prelude.{slice_get}
 use Rattle.disk_trait.specs.declared.ids.FileId.{FileId}
 use Rattle.disk_trait.specs.declared.ids.FileId.TheVariants.{Head, Host}
 use Rattle.disk_trait.specs.Names.{is_same_file, is_metadata}
 use Rattle.disk_trait.specs.Files.{Files, with_bytes}
 use Rattle.intent_journal.specs.declared.changes.Change.{Change}
-use Rattle.intent_journal.specs.Changes.{applied, names, AreChanges}
-use Rattle.backup_index.specs.declared.head.HeadFile.{HeadFile}
+use Rattle.intent_journal.specs.Changes.{names}
 use Rattle.backup_rules.specs.Values.{RuleSet}
 use Rattle.backup_index.specs.Index.{Index, index_of}
 use Rattle.backup_index.specs.Lines.{IsSound}
 use Rattle.backup_index.specs.Names.{has_name}
-use Rattle.office_catalog.specs.Known.{Known, known_of, names_of, head_of, nothing_known, changed_at, with_change, with_host, with_epoch, given_lines, new_host, IsHost, IsCatalog}
+use Rattle.office_catalog.specs.Known.{Known, known_of, names_of, head_of, with_change, with_host, with_epoch, given_lines, given_commit, new_host, IsHost, IsCatalog}
 use Rattle.backup_rules.specs.declared.lines.Line.{Line}
+use Rattle.receipts.specs.declared.receipt.Receipt.{Receipt}
 use Rattle.office_catalog.specs.Held.{HoldsHead, HoldsIndex, HoldsNames, HoldsCatalog}
 use Rattle.std.specs.Prelude.{IfOk, Result}
 use Rattle.office_catalog.specs.declared.edits.CatalogEdit.{CatalogEdit}
@@ -183,10 +183,13 @@ proposes_host known index made parts named epoch entry first second changes made
 pub same_lines : (index : Index) (next next' : ℕ) (lines lines' : List Line) → next ≡ next' → lines ≡ lines' → given_lines next lines index ≡ given_lines next' lines' index
 same_lines index next next' lines lines' same alike = ap (λ (n : ℕ). given_lines n lines index) same ∙ ap (λ (l : List Line). given_lines next' l index) alike
 
-pub new_is : (made : Index) (slice hosts : List Index) (name : List ℕ) (rules : RuleSet) (lines : List Line) → made ≡ index_of (length slice) name rules 0 0 0 lines → slice ≡ hosts → lines ≡ []
+pub same_commit : (index : Index) (next next' : ℕ) (receipts receipts' : List Receipt) (lines lines' : List Line) → next ≡ next' → receipts ≡ receipts' → lines ≡ lines' → given_commit next receipts lines index ≡ given_commit next' receipts' lines' index
+same_commit index next next' receipts receipts' lines lines' same given alike = λ i. given_commit (same i) (given i) (alike i) index
+
+pub new_is : (made : Index) (slice hosts : List Index) (name : List ℕ) (rules : RuleSet) (receipts : List Receipt) (lines : List Line) → made ≡ index_of (length slice) name rules 0 0 0 receipts lines → slice ≡ hosts → receipts ≡ [] → lines ≡ []
     → made ≡ new_host (length hosts) name rules
-new_is made slice hosts name rules lines is same none =
-    is ∙ ap (λ (l : List Index). index_of (length l) name rules 0 0 0 lines) same ∙ ap (λ (l : List Line). index_of (length hosts) name rules 0 0 0 l) none
+new_is made slice hosts name rules receipts lines is same bare none =
+    is ∙ ap (λ (l : List Index). index_of (length l) name rules 0 0 0 receipts lines) same ∙ (λ i. index_of (length hosts) name rules 0 0 0 (bare i) (none i))
 
 pub new_sound : (host : ℕ) (name : List ℕ) (rules : RuleSet) → IsHost host (new_host host name rules)
 new_sound host name rules = record { number = refl; sound = record { bound = omega arith; in_turn = tt } }

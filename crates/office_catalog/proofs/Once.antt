@@ -1,5 +1,5 @@
 -- Files hold one catalog, and nothing foreign where they hold one.
-use Rattle.std.proofs.Common.{◌≡◌, ◌⊎◌, inl, inr, ℕ, List, [], ◌∷◌, length, Option, Some, None, refl, sym, ap, subst, ◌∙◌, arith}
+use Rattle.std.proofs.Common.{◌≡◌, ◌⊎◌, inl, inr, ℕ, List, length, Option, Some, None, refl, sym, ap, subst, ◌∙◌}
 use Rattle.std.specs.Prelude.{slice_get, option_map}
 use Rattle.std.proofs.lemmas.Option.{none-some, same_Some, slice_get-map}
 use Rattle.disk_trait.specs.declared.ids.FileId.{FileId}
@@ -11,9 +11,9 @@ use Rattle.backup_index.specs.declared.layouts.IndexLayout.{IndexLayout}
 use Rattle.backup_index.specs.Head.{IsHead, head_grammar}
 use Rattle.backup_index.specs.Index.{Index, IsStored}
 use Rattle.backup_index.specs.Stored.{index_grammar}
-use Rattle.office_catalog.specs.Known.{Known, known_of, names_of, head_of, IsHost}
-use Rattle.office_catalog.specs.Held.{head_file, index_file, HoldsHead, HoldsIndex, HoldsNames, HoldsCatalog, IsNoHead, IsNoIndex, IsAnother, IsUncalled, IsForeignHost, IsForeign}
-use Rattle.office_catalog.proofs.Hosts.{same_items, length_names, item_within}
+use Rattle.office_catalog.specs.Known.{Known, known_of, names_of, head_of}
+use Rattle.office_catalog.specs.Held.{head_file, index_file, HoldsHead, HoldsIndex, HoldsNames, HoldsCatalog, IsNoHead, IsUncalled, IsForeignHost, IsForeign}
+use Rattle.office_catalog.proofs.Hosts.{same_items, length_names}
 
 -- what the layouts promise
 pub record AreTold : Type 0 where

@@ -1,7 +1,7 @@
 -- What an opening finds, step by step.
-use Rattle.std.proofs.Common.{◌≡◌, ◌⊎◌, inl, inr, ℕ, zero, suc, ◌+◌, ◌<◌, ◌≤◌, false, List, [], ◌∷◌, ◌++◌, length, take, get_or, Option, Some, None, refl, sym, ap, subst, ◌∙◌, arith}
+use Rattle.std.proofs.Common.{◌≡◌, ◌⊎◌, inl, inr, ℕ, ◌+◌, ◌<◌, ◌≤◌, false, List, [], ◌∷◌, ◌++◌, length, take, get_or, Option, Some, None, refl, sym, ap, subst, ◌∙◌, arith}
 use Rattle.std.specs.Prelude.{slice_get, IfOk, IfErr, Result, Err, Ok}
-use Rattle.std.proofs.lemmas.Option.{none-some, same_Some}
+use Rattle.std.proofs.lemmas.Option.{none-some}
 use Rattle.std.proofs.lemmas.List.{take_all, take_more}
 use Rattle.wire_bytes.specs.Seal.{sealed}
 use Rattle.wire_bytes.specs.Grammar.{seen_as}
@@ -11,17 +11,17 @@ use Rattle.disk_trait.specs.Files.{Files}
 use Rattle.backup_index.specs.declared.head.HeadFile.{HeadFile}
 use Rattle.backup_index.specs.declared.layouts.IndexLayout.{IndexLayout}
 use Rattle.backup_index.specs.Head.{IsHead, head_grammar}
-use Rattle.backup_index.specs.Index.{Index, IsStored}
+use Rattle.backup_index.specs.Index.{Index}
 use Rattle.backup_index.specs.Stored.{index_grammar}
 use Rattle.office_catalog.specs.declared.fault.CatalogFault.{CatalogFault}
 use Rattle.office_catalog.specs.declared.fault.CatalogFault.TheVariants.{Foreign, Disk, Memory}
-use Rattle.office_catalog.specs.Known.{Known, known_of, names_of, head_of, nothing_known, with_host, IsCatalog}
-use Rattle.office_catalog.specs.Held.{head_file, index_file, HoldsHead, HoldsIndex, HoldsCatalog, IsNoHead, IsNoIndex, IsAnother, IsUncalled, IsForeignHost, IsForeign}
-use Rattle.office_catalog.specs.Opening.{SaysNoHead, IsHeadOf, TellsHead, IsCalled, SaysUncalled, IsHostFault, SaysHost, SaysForeign, IsPushed}
+use Rattle.office_catalog.specs.Known.{Known, known_of, names_of, IsCatalog}
+use Rattle.office_catalog.specs.Held.{HoldsHead, HoldsIndex, HoldsCatalog, IsNoHead, IsNoIndex, IsAnother, IsUncalled}
+use Rattle.office_catalog.specs.Opening.{SaysNoHead, IsHeadOf, TellsHead, IsCalled, SaysUncalled, SaysHost, SaysForeign, IsPushed}
 use Rattle.office_catalog.proofs.Hosts.{catalog_none, item_pushed, item_at, length_names, names_pushed}
 use Rattle.office_catalog.proofs.Naming.{length_take, fresh_at}
 use Rattle.backup_index.specs.Names.{AreNames, has_name}
-use Rattle.office_catalog.proofs.Holding.{read, stored_fits, held_as}
+use Rattle.office_catalog.proofs.Holding.{read, stored_fits}
 
 some_none : (n : ℕ) → Some n ≡ None → ⊥
 some_none n e = cc

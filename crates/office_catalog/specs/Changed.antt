@@ -2,7 +2,7 @@
 --     after      what an edit makes of what is known
 --     IsFor      an edit that may be made of it
 --     Leads      changes that lead from files that hold one catalog to files that hold another
-use Rattle.std.specs.Prelude.{⊤, ◌≡◌, ◌<◌, ℕ, false, List, length, map}
+use Rattle.std.specs.Prelude.{⊤, ◌≡◌, ◌<◌, false, List, length, map}
 use Rattle.disk_trait.specs.declared.ids.FileId.{FileId}
 use Rattle.disk_trait.specs.Files.{Files}
 use Rattle.intent_journal.specs.declared.changes.Change.{Change}
@@ -12,9 +12,9 @@ use Rattle.backup_index.specs.Names.{has_name}
 use Rattle.backup_index.specs.Lines.{IsSound}
 use Rattle.office_catalog.specs.declared.named.NamedHost.{NamedHost}
 use Rattle.office_catalog.specs.declared.edits.CatalogEdit.{CatalogEdit}
-use Rattle.office_catalog.specs.declared.edits.CatalogEdit.TheVariants.{AddHost, SetRules, SetContacts, SetLines, SetEpoch}
+use Rattle.office_catalog.specs.declared.edits.CatalogEdit.TheVariants.{AddHost, SetRules, SetContacts, SetLines, SetCommit, SetEpoch}
 use Rattle.office_catalog.specs.declared.edits.CatalogChange.{CatalogChange}
-use Rattle.office_catalog.specs.Known.{Known, IsHost, names_of, with_host, with_change, with_epoch, given_rules, given_contacts, given_lines}
+use Rattle.office_catalog.specs.Known.{Known, IsHost, names_of, with_host, with_change, with_epoch, given_rules, given_contacts, given_lines, given_commit}
 use Rattle.office_catalog.specs.Held.{HoldsCatalog}
 
 abbrev pub edited : CatalogEdit → Known → Known
@@ -22,6 +22,7 @@ edited (AddHost named index) known = with_host known index
 edited (SetRules host rules) known = with_change known host (given_rules rules)
 edited (SetContacts host good bad) known = with_change known host (given_contacts good bad)
 edited (SetLines host next lines) known = with_change known host (given_lines next lines)
+edited (SetCommit host next receipts lines) known = with_change known host (given_commit next receipts lines)
 edited (SetEpoch epoch) known = with_epoch known epoch
 
 -- what is known after the change
@@ -41,6 +42,7 @@ IsEditOf known (AddHost named index) = IsNewHost known named index
 IsEditOf known (SetRules host rules) = host < length known.hosts
 IsEditOf known (SetContacts host good bad) = host < length known.hosts
 IsEditOf known (SetLines host next lines) = (host < length known.hosts) × IsSound next lines
+IsEditOf known (SetCommit host next receipts lines) = (host < length known.hosts) × IsSound next lines
 IsEditOf known (SetEpoch epoch) = ⊤
 
 -- a change that may be made of what is known

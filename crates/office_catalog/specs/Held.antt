@@ -25,7 +25,7 @@ pub record HoldsHead (head : HeadFile) (found : Option (List ℕ)) : Type 0 wher
   pub fits : IsHead head
   pub is : found ≡ Some (head_file head)
 
--- the file says this index, in one layout or the other
+-- the file says this index, in one layout or another
 pub record HoldsIndex (index : Index) (found : Option (List ℕ)) : Type 0 where
   pub layout : IndexLayout
   pub fits : IsStored (layout, index)

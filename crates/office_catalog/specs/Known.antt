@@ -2,9 +2,14 @@
 --     names_of, head_of      the names of the hosts, and the head file that says them
 --     IsCatalog      few hosts with different names, and the index of host h has the number h
 --     host_named, line_numbered      where the host of a name and the line of a number stand
+--     receipt_named      the receipt of the commit of a dump of this name, of any host
 --     with_host, with_change, with_epoch      one host more, one index changed, another epoch
-use Rattle.std.specs.Prelude.{◌≡◌, ◌==◌, ℕ, zero, suc, ◌+◌, Bool, List, [], ◌∷◌, ◌++◌, map, Option, Some, slice_get, bytes_eq}
+use Rattle.std.specs.Prelude.{◌≡◌, ◌==◌, ℕ, zero, suc, ◌+◌, Bool, List, [], ◌∷◌, ◌++◌, map, Option, None, Some, slice_get, bytes_eq}
 use Rattle.std.specs.List.{position_from}
+use Rattle.std.specs.Option.{option_or}
+use Rattle.receipts.specs.declared.receipt.Receipt.{Receipt}
+use Rattle.receipts.specs.declared.session.SessionName.{SessionName}
+use Rattle.receipts.specs.Receipts.{receipt_of, kept_with}
 use Rattle.backup_rules.specs.declared.lines.Line.{Line}
 use Rattle.backup_rules.specs.Values.{RuleSet}
 use Rattle.backup_index.specs.declared.head.HeadFile.{HeadFile}
@@ -49,6 +54,10 @@ host_named names name = position_from (λ other. bytes_eq other name) 0 names
 abbrev pub line_numbered : List Line → ℕ → Option ℕ
 line_numbered lines number = position_from (λ line. line.number == number) 0 lines
 
+abbrev pub receipt_named : List Index → SessionName → Option Receipt
+receipt_named [] name = None
+receipt_named (index ∷ hosts) name = option_or (receipt_of index.receipts name) (receipt_named hosts name)
+
 -- ---- edits
 
 abbrev pub with_host : Known → Index → Known
@@ -68,7 +77,7 @@ with_change known host f = known_of known.epoch (changed_at f host known.hosts)
 
 -- a host of which nothing is known but its number, name and rules
 abbrev pub new_host : ℕ → List ℕ → RuleSet → Index
-new_host host name rules = index_of host name rules 0 0 0 []
+new_host host name rules = index_of host name rules 0 0 0 [] []
 
 abbrev pub given_rules : RuleSet → Index → Index
 given_rules rules index = record index { rules = rules }
@@ -97,9 +106,19 @@ kept_at keep index [] = []
 kept_at keep zero (line ∷ lines) = given_keep keep line ∷ lines
 kept_at keep (suc index) (line ∷ lines) = line ∷ kept_at keep index lines
 
--- a further backup: its line is the last, the former newest is filled so, and the next number is the one above it
-abbrev pub with_line : Line → Bool → Index → Index
-with_line line filled index = given_lines (line.number + 1) (last_filled filled index.lines ++ line ∷ []) index
+abbrev pub given_commit : ℕ → List Receipt → List Line → Index → Index
+given_commit next receipts lines index = record index { next = next; receipts = receipts; lines = lines }
+
+-- with a receipt more, if there is one
+abbrev pub with_given : Option Receipt → List Receipt → List Receipt
+with_given None receipts = receipts
+with_given (Some receipt) receipts = kept_with receipts receipt
+
+-- a further backup: its line is the last, the former newest is filled so, the next number is the one above it, and the commit's
+-- receipt is kept, if it has one
+abbrev pub with_line : Line → Bool → Option Receipt → Index → Index
+with_line line filled receipt index =
+    given_commit (line.number + 1) (with_given receipt index.receipts) (last_filled filled index.lines ++ line ∷ []) index
 
 abbrev pub with_keep : ℕ → Bool → Index → Index
 with_keep line keep index = given_lines index.next (kept_at keep line index.lines) index

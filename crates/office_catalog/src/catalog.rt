@@ -5,13 +5,14 @@ ghost use Rattle.std.specs.Option.{option_copied};
 ghost use Rattle.backup_index.specs.Names.{has_name};
 ghost use Rattle.backup_index.specs.Lines.{IsSound};
 ghost use Rattle.backup_index.specs.Index.{Index};
-ghost use Rattle.office_catalog.specs.Known.{known_of, names_of, host_named, line_numbered, with_host, with_change, with_epoch, given_rules, given_contacts, given_lines, IsCatalog};
+ghost use Rattle.office_catalog.specs.Known.{known_of, names_of, host_named, line_numbered, with_host, with_change, with_epoch, given_rules, given_contacts, given_lines, given_commit, receipt_named, IsCatalog};
 ghost use Rattle.office_catalog.specs.Changed.{IsNewHost};
 
 use crate::edits::{CatalogChange, CatalogEdit};
 use crate::named::{NamedHost, find, place_of};
 use attr_records::HostName;
 use backup_index::{HostIndex, Line, LineList, MAX_HOSTS, Rules};
+use receipts::{Receipt, ReceiptList, SessionName};
 use std::alloc::{AllocError, Global};
 use std::marker::Model;
 
@@ -116,6 +117,19 @@ impl Catalog {
         line_place(self.hosts[host].lines().lines(), number)
     }
 
+    /// The receipt of the commit of the dump of this name, of whatever host.
+    pub fn receipt_named(&self, name: SessionName) -> Option<Receipt>
+        ensures { result ≡ receipt_named self.now.hosts name }
+    {
+        for index in self.hosts() {
+            let receipt = index.receipts().of_dump(name);
+            if receipt.is_some() {
+                return receipt;
+            }
+        }
+        None
+    }
+
     /// Puts a host behind the others; takes no memory.
     pub(crate) fn add(&mut self, named: NamedHost, index: HostIndex)
         requires { IsNewHost self.old named index }
@@ -160,6 +174,18 @@ impl Catalog {
         }
     }
 
+    /// Gives a host what a commit changes: other lines, another next number and other receipts.
+    fn set_commit(&mut self, host: usize, next: u64, receipts: ReceiptList, lines: LineList)
+        requires host { host < length self.old.hosts }
+        requires sound { IsSound next lines }
+        ensures { self.new ≡ with_change self.old host (given_commit next receipts lines) }
+    {
+        match self.hosts[host].set_commit(next, receipts, lines) {
+            Ok(()) => {}
+            Err(_) => unreachable!(),
+        }
+    }
+
     /// Gives the store another epoch.
     fn set_epoch(&mut self, epoch: u64)
         ensures { self.new ≡ with_epoch self.old epoch }
@@ -185,6 +211,12 @@ impl Catalog {
             CatalogEdit::SetRules { host, rules } => self.set_rules(host, rules),
             CatalogEdit::SetContacts { host, good, bad } => self.set_contacts(host, good, bad),
             CatalogEdit::SetLines { host, next, lines } => self.set_lines(host, next, lines),
+            CatalogEdit::SetCommit {
+                host,
+                next,
+                receipts,
+                lines,
+            } => self.set_commit(host, next, receipts, lines),
             CatalogEdit::SetEpoch { epoch } => self.set_epoch(epoch),
         }
     }

@@ -5,6 +5,7 @@ ghost use Rattle.std.specs.Prelude.{◌≡◌, []};
 use crate::named::NamedHost;
 use backup_index::{HostIndex, LineList, Rules};
 use intent_journal::Changes;
+use receipts::ReceiptList;
 use std::alloc::Global;
 use std::mem;
 
@@ -27,6 +28,12 @@ pub(crate) enum CatalogEdit {
     SetLines {
         host: usize,
         next: u64,
+        lines: LineList,
+    },
+    SetCommit {
+        host: usize,
+        next: u64,
+        receipts: ReceiptList,
         lines: LineList,
     },
     SetEpoch {

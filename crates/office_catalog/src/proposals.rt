@@ -8,7 +8,7 @@ ghost use Rattle.backup_index.specs.Names.{AreNames, has_name};
 ghost use Rattle.backup_index.specs.Lines.{IsSound};
 ghost use Rattle.backup_index.specs.Index.{Index};
 ghost use Rattle.backup_index.specs.Stored.{index_of_parts};
-ghost use Rattle.office_catalog.specs.Known.{names_of, with_host, with_change, with_epoch, new_host, given_rules, given_contacts, given_lines, last_filled, kept_at, with_line, with_keep};
+ghost use Rattle.office_catalog.specs.Known.{names_of, with_host, with_change, with_epoch, new_host, given_rules, given_contacts, given_lines, given_commit, with_given, last_filled, kept_at, with_line, with_keep};
 ghost use Rattle.office_catalog.specs.Held.{HoldsHead, HoldsIndex};
 ghost use Rattle.office_catalog.specs.Changed.{Proposes, IsFor};
 
@@ -22,6 +22,7 @@ use backup_index::{
 };
 use disk_trait::FileId;
 use intent_journal::{Change, Changes};
+use receipts::{Receipt, ReceiptList};
 use std::alloc::{AllocError, Global};
 
 /// The change of Head to what a head says.
@@ -87,6 +88,21 @@ fn keep_line(lines: &mut LineList, index: usize, keep: bool)
     lines.set(index, Line { keep, ..line });
 }
 
+/// The receipts with one more, if there is one, which takes the place of the oldest if there are 256.
+fn receipts_with(
+    alloc: Global,
+    receipts: &ReceiptList,
+    receipt: Option<Receipt>,
+) -> Result<ReceiptList, AllocError>
+    ensures { IfOk result (λ new. new ≡ with_given receipt receipts.now) }
+{
+    let mut new = receipts.copy(alloc)?;
+    if let Some(receipt) = receipt {
+        new.keep(receipt)?;
+    }
+    Ok(new)
+}
+
 impl Catalog {
     /// The names of the hosts, in the order of adding.
     fn names(&self, alloc: Global) -> Result<NameList, AllocError>
@@ -113,7 +129,16 @@ impl Catalog {
         ensures fits { IfOk result (IsFor self.now) }
     {
         let number = self.hosts().len() as u32;
-        let index = HostIndex::from_sound(number, name, rules, 0, 0, 0, LineList::new(alloc));
+        let index = HostIndex::from_sound(
+            number,
+            name,
+            rules,
+            0,
+            0,
+            0,
+            ReceiptList::new(alloc),
+            LineList::new(alloc),
+        );
         let mut names = self.names(alloc)?;
         names.add(index.name().copy(alloc)?)?;
         let epoch = self.epoch();
@@ -198,6 +223,42 @@ impl Catalog {
         Ok(CatalogChange { edit, changes })
     }
 
+    /// Gives a host what a commit changes: other lines and another next number, which break no rule, and other receipts; its file
+    /// changes.
+    fn propose_commit(
+        &self,
+        alloc: Global,
+        host: usize,
+        next: u64,
+        receipts: ReceiptList,
+        lines: LineList,
+    ) -> Result<CatalogChange, AllocError>
+        requires host { host < length self.now.hosts }
+        requires sound { IsSound next lines }
+        ensures proposes { IfOk result (Proposes self.now (with_change self.now host (given_commit next receipts lines)) (Host host ∷ [])) }
+        ensures fits { IfOk result (IsFor self.now) }
+    {
+        let parts = self.hosts()[host].parts();
+        let change = host_change(
+            alloc,
+            &HostParts {
+                next,
+                receipts: &receipts,
+                lines: lines.lines(),
+                more: &[],
+                ..parts
+            },
+        )?;
+        let changes = one_change(alloc, change)?;
+        let edit = CatalogEdit::SetCommit {
+            host,
+            next,
+            receipts,
+            lines,
+        };
+        Ok(CatalogChange { edit, changes })
+    }
+
     /// Whether a backup of this number may follow the others of a host: it isn't below the next number.
     pub fn may_follow(&self, host: usize, number: u32) -> bool
         requires { host < length self.now.hosts }
@@ -216,25 +277,29 @@ impl Catalog {
         broken_index(self.hosts()[host].next(), lines.lines()).is_none()
     }
 
-    /// Puts the line of a further backup behind the others of a host, and fills the former newest so: the host's file
-    /// changes. The next number is then the one above the line's, which isn't below the next one (`may_follow` tells).
+    /// Puts the line of a further backup behind the others of a host, fills the former newest so, and keeps the receipt of the
+    /// commit, if it has one: the host's file changes. The next number is then the one above the line's, which isn't below the
+    /// next one (`may_follow` tells).
     pub fn propose_line(
         &self,
         alloc: Global,
         host: usize,
         line: Line,
         filled: bool,
+        receipt: Option<Receipt>,
     ) -> Result<CatalogChange, AllocError>
         requires host { host < length self.now.hosts }
         requires rising { (index : Index) → slice_get self.now.hosts host ≡ Some index → index.next ≤ line.number }
         requires filled { line.filled ≡ true }
-        ensures proposes { IfOk result (Proposes self.now (with_change self.now host (with_line line filled)) (Host host ∷ [])) }
+        ensures proposes { IfOk result (Proposes self.now (with_change self.now host (with_line line filled receipt)) (Host host ∷ [])) }
         ensures fits { IfOk result (IsFor self.now) }
     {
-        let mut lines = self.hosts()[host].lines().copy(alloc)?;
+        let index = &self.hosts()[host];
+        let receipts = receipts_with(alloc, index.receipts(), receipt)?;
+        let mut lines = index.lines().copy(alloc)?;
         fill_last(&mut lines, filled);
         lines.push(line)?;
-        self.propose_next(alloc, host, number_above(line.number), lines)
+        self.propose_commit(alloc, host, number_above(line.number), receipts, lines)
     }
 
     /// Sets the keep flag of a line of a host: its file changes.

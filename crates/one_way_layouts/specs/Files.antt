@@ -1,4 +1,4 @@
--- No two values have one file: heads, indices of hosts in either layout, tables in either layout, partial dumps, files of the pool's index.
+-- No two values have one file: heads, indices of hosts in each layout, tables in either layout, partial dumps, files of the pool's index.
 use Rattle.std.specs.Prelude.{◌≡◌, List, Option, ℕ}
 use Rattle.wire_bytes.specs.Seal.{sealed}
 use Rattle.wire_bytes.specs.Grammar.{seen_as}

@@ -4,6 +4,7 @@ use backup_index::{
     NameList, NameRefusal, Rules, read_head_file, read_host_index, write_head_file,
     write_host_index,
 };
+use receipts::ReceiptList;
 use std::alloc::{AllocError, Global};
 use std::test::Fail;
 use wire_bytes::seal;
@@ -20,6 +21,10 @@ const INDEX: &[u8; 144] =
     b"\x52\x48\x49\x32\x00\x00\x00\x07\x01\x61\x00\x00\x00\x00\x00\x09\x30\x60\x00\x01\x47\x60\x01\x00\x00\x00\x01\x00\x00\x00\x01\x00\x00\x00\xb4\x00\x00\x00\x06\x00\x00\x00\x01\x00\x00\x00\x1e\x00\x00\x00\x07\x00\x00\x00\x03\x01\x01\xa4\x04\x92\x3e\x00\x00\x00\x00\x01\x00\x00\x00\x01\x00\x00\x00\x00\x00\x00\x00\x02\x00\x00\x00\x01\x00\x00\x00\x00\x00\x00\x00\x03\x00\x00\x00\x00\x00\x00\x00\x02\x00\x00\x00\x00\x00\x00\x00\x00\x00\x00\x03\xe8\x00\x00\x00\x00\x00\x00\x04\x24\x01\x00\x00\x00\x00\x00\x02\x00\x00\x00\x00\x00\x00\x07\xd0\x00\x00\x00\x00\x00\x00\x08\x0c\x02\x01\x01";
 
 const INDEX_SEAL: &[u8; 16] = b"\x12\x20\x16\x96\xb2\xbb\xdf\x7b\x80\x71\x28\x2b\xa8\x05\x7b\x1b";
+// The seal of the same in the third layout, which has 3 for the 2 of its magic, and behind the rules, at 74, two bytes more: that
+// there are no receipts. In this layout an index is written.
+const THIRD_SEAL: &[u8; 16] = b"\x2e\x73\x41\xc9\x2d\x5a\x24\x22\x9e\x76\xc7\x3c\xd8\xb5\xb5\x6c";
+
 // Where its fields and items begin.
 const INDEX_STARTS: [usize; 27] = [
     0, 4, 8, 10, 14, 18, 22, 23, 27, 31, 35, 39, 43, 47, 51, 55, 56, 61, 65, 66, 70, 74, 78, 82,
@@ -132,7 +137,7 @@ struct Byte(usize, u8, usize);
 
 const BYTES: [Byte; 13] = [
     Byte(0, b'r', 0),
-    Byte(3, b'3', 0),
+    Byte(3, b'4', 0),
     Byte(9, b'A', 8),
     Byte(10, 1, 10),
     Byte(60, 0, 56),
@@ -178,11 +183,16 @@ fn list_of(alloc: Global, lines: &[Line]) -> Result<LineList, AllocError> {
 fn empty_index(alloc: Global) -> Result<HostIndex, Fail> {
     let name = name_of(alloc, b"a")?;
     let rules = Rules::defaults(alloc)?;
-    Ok(HostIndex::new(7, name, rules, 0, 0, 0, LineList::new(alloc))?)
+    let receipts = ReceiptList::new(alloc);
+    let lines = LineList::new(alloc);
+    Ok(HostIndex::new(7, name, rules, 0, 0, 0, receipts, lines)?)
 }
 
 fn expect_index_bytes(alloc: Global, index: &HostIndex) -> Result<(), Fail> {
-    let expected = joined(alloc, &[INDEX, INDEX_SEAL])?;
+    let body = INDEX.as_slice();
+    let rules = &body[4..74];
+    let lines = &body[74..];
+    let expected = joined(alloc, &[b"RHI3", rules, b"\x00\x00", lines, THIRD_SEAL])?;
     let written = write_host_index(alloc, &index.parts())?;
     expect(written.as_slice() == expected.as_slice(), "other bytes")
 }
@@ -288,7 +298,7 @@ fn edits_that_break_a_rule(rt: HostRuntime) -> Result<(), Fail> {
 }
 
 #[test]
-fn indexes_of_both_layouts_are_read(rt: HostRuntime) -> Result<(), Fail> {
+fn indexes_of_the_first_two_layouts_are_read(rt: HostRuntime) -> Result<(), Fail> {
     let alloc = rt.alloc();
     let second = joined(alloc, &[INDEX, INDEX_SEAL])?;
     expect_index_read(alloc, second.as_slice(), IndexLayout::Second)?;

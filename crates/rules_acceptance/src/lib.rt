@@ -1,5 +1,5 @@
 //! Tests of rules, schedules and settings: keeping, the table of settings, the fill rule, time zones, the settings' file, the
-//! words of a command line, and the sealed files of heads and hosts in both layouts, byte by byte. They use only what the crates
+//! words of a command line, and the sealed files of heads and hosts in each layout, byte by byte. They use only what the crates
 //! show, and stand apart from them, so that each crate is proved once.
 #![tactic(auto)]
 

@@ -7,6 +7,7 @@ use backup_index::{Kind, Line, LineList, Rules};
 use disk_trait::{Bytes, Disk, DiskRoom, FileId, MemoryDisk};
 use intent_journal::Journal;
 use office_catalog::{Catalog, CatalogChange, CatalogFault, open};
+use receipts::{Receipt, SessionName, Token};
 use std::alloc::{AllocError, Global};
 use std::test::Fail;
 
@@ -31,6 +32,15 @@ const SECOND: Line = Line {
     kind: Kind::Incr,
     filled: true,
     keep: false,
+};
+
+const RECEIPT: Receipt = Receipt {
+    token: Token { bytes: [5; 16] },
+    name: SessionName {
+        epoch: 2,
+        sequence: 7,
+    },
+    number: 4,
 };
 
 fn expect(holds: bool, text: &'static str) -> Result<(), Fail> {
@@ -93,13 +103,14 @@ fn raise(
     make(alloc, journal, catalog, change)
 }
 
-// Puts a line behind the others of a host.
+// Puts a line behind the others of a host, and keeps the receipt of its commit.
 fn put(
     alloc: Global,
     journal: &mut Journal<MemoryDisk>,
     catalog: &mut Catalog,
     host: usize,
     line: Line,
+    receipt: Option<Receipt>,
 ) -> Result<(), Fail> {
     if host >= catalog.hosts().len() || !line.filled {
         return Err(Fail::new("no host"));
@@ -107,7 +118,7 @@ fn put(
     if !catalog.may_follow(host, line.number) {
         return Err(Fail::new("the number is given"));
     }
-    let change = catalog.propose_line(alloc, host, line, false)?;
+    let change = catalog.propose_line(alloc, host, line, false, receipt)?;
     make(alloc, journal, catalog, change)
 }
 
@@ -175,7 +186,8 @@ fn meet(
 const HEAD: &[u8; 38] =
     b"RHD1\x00\x00\x00\x00\x00\x00\x00\x03\x00\x00\x00\x02\x01a\x03b-1\xf4\xae\x71\x55\x00\x08\xdf\x4c\xd3\xfa\x89\x15\x1b\x08\xe8\x7a";
 
-// A store in its third epoch with the hosts `a` and `b-1`, of which the second has two backups, the first of them kept.
+// A store in its third epoch with the hosts `a` and `b-1`, of which the second has two backups, the first of them kept, and a
+// receipt of the second.
 fn filled(alloc: Global) -> Result<Journal<MemoryDisk>, Fail>
     ensures { IfOk result (λ journal. journal.halted ≡ false) }
 {
@@ -190,8 +202,8 @@ fn filled(alloc: Global) -> Result<Journal<MemoryDisk>, Fail>
     }
     add(alloc, &mut journal, &mut catalog, b"a")?;
     add(alloc, &mut journal, &mut catalog, b"b-1")?;
-    put(alloc, &mut journal, &mut catalog, 1, FIRST)?;
-    put(alloc, &mut journal, &mut catalog, 1, SECOND)?;
+    put(alloc, &mut journal, &mut catalog, 1, FIRST, None)?;
+    put(alloc, &mut journal, &mut catalog, 1, SECOND, Some(RECEIPT))?;
     keep(alloc, &mut journal, &mut catalog, 1, 0)?;
     meet(alloc, &mut journal, &mut catalog, 0)?;
     journal_of(alloc, journal.close())
@@ -214,6 +226,19 @@ fn expect_host(
     expect(catalog.host_at(&name) == host, "another host")
 }
 
+// The receipt of the commit of a dump is found by the dump's name, and no other.
+fn expect_receipt(catalog: &Catalog) -> Result<(), Fail> {
+    expect(
+        catalog.receipt_named(RECEIPT.name) == Some(RECEIPT),
+        "another receipt",
+    )?;
+    let other = SessionName {
+        epoch: 7,
+        sequence: 2,
+    };
+    expect(catalog.receipt_named(other).is_none(), "a receipt")
+}
+
 // What a catalog says of the two hosts.
 fn expect_filled(alloc: Global, catalog: &Catalog) -> Result<(), Fail> {
     expect(catalog.epoch() == 3, "another epoch")?;
@@ -230,7 +255,11 @@ fn expect_filled(alloc: Global, catalog: &Catalog) -> Result<(), Fail> {
             expect(a.good() == 2 && a.bad() == 5, "other contacts")?;
             expect(a.next() == 0 && b.next() == 5, "other numbers")?;
             let lines = b.lines().lines();
-            expect(lines == [kept, SECOND].as_slice(), "other lines")
+            expect(lines == [kept, SECOND].as_slice(), "other lines")?;
+            expect(
+                b.receipts().with_token(RECEIPT.token) == Some(RECEIPT),
+                "another receipt",
+            )
         }
         _ => Err(Fail::new("no hosts")),
     }
@@ -242,15 +271,17 @@ fn a_catalog_is_opened_again(rt: HostRuntime) -> Result<(), Fail> {
     let mut journal = filled(alloc)?;
     let mut catalog = open(alloc, &mut journal)?;
     expect_filled(alloc, &catalog)?;
+    expect_receipt(&catalog)?;
     let head = bytes_of(alloc, &mut journal, FileId::Head)?;
     expect(head.as_slice() == HEAD.as_slice(), "another head")?;
     clear(alloc, &mut journal, &mut catalog, 1)?;
     let mut journal = journal_of(alloc, journal.close())?;
     let catalog = open(alloc, &mut journal)?;
     match catalog.index(1) {
-        Some(b) => expect(b.lines().is_empty() && b.next() == 5, "lines are left"),
-        None => Err(Fail::new("no host")),
+        Some(b) => expect(b.lines().is_empty() && b.next() == 5, "lines are left")?,
+        None => return Err(Fail::new("no host")),
     }
+    expect_receipt(&catalog)
 }
 
 // A file, and what it gets or that it goes.

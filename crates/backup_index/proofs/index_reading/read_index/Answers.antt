@@ -25,17 +25,24 @@ returns-in_err-rules c =
     (seen_refuses sees_index (then_refuses _ c.in_ok-layout.ensures (then_refuses _ (field_finds c.in_ok-host.ensures.field.reads)
     (then_refuses _ c.in_ok-name.ensures (first_refuses _ c.in_err-rules.ensures)))))
 
+pub returns-in_err-receipts : goal.returns-in_err-receipts
+returns-in_err-receipts c =
+    refused_again _ _ _ c.from_residual-in_err-receipts.ensures.1
+    (seen_refuses sees_index (then_refuses _ c.in_ok-layout.ensures (then_refuses _ (field_finds c.in_ok-host.ensures.field.reads)
+    (then_refuses _ c.in_ok-name.ensures (then_refuses _ c.in_ok-rules.ensures (first_refuses _ c.in_err-receipts.ensures))))))
+
 pub returns-in_err-numbers : goal.returns-in_err-numbers
 returns-in_err-numbers c =
     refused_again _ _ _ c.from_residual-in_err-numbers.ensures.1
     (seen_refuses sees_index (then_refuses _ c.in_ok-layout.ensures (then_refuses _ (field_finds c.in_ok-host.ensures.field.reads)
-    (then_refuses _ c.in_ok-name.ensures (then_refuses _ c.in_ok-rules.ensures (first_refuses _ c.in_err-numbers.ensures))))))
+    (then_refuses _ c.in_ok-name.ensures (then_refuses _ c.in_ok-rules.ensures (then_refuses _ c.in_ok-receipts.ensures (first_refuses _ c.in_err-numbers.ensures)))))))
 
 pub returns-in_err-lines : goal.returns-in_err-lines
 returns-in_err-lines c =
     refused_again _ _ _ c.from_residual-in_err-lines.ensures.1
     (seen_refuses sees_index (then_refuses _ c.in_ok-layout.ensures (then_refuses _ (field_finds c.in_ok-host.ensures.field.reads)
-    (then_refuses _ c.in_ok-name.ensures (then_refuses _ c.in_ok-rules.ensures (then_refuses _ c.in_ok-numbers.ensures c.in_err-lines.ensures))))))
+    (then_refuses _ c.in_ok-name.ensures (then_refuses _ c.in_ok-rules.ensures (then_refuses _ c.in_ok-receipts.ensures
+    (then_refuses _ c.in_ok-numbers.ensures c.in_err-lines.ensures)))))))
 
 pub from_sound-requires : goal.from_sound-requires
 unfolding field followed_by
@@ -45,4 +52,5 @@ pub returns : goal.returns
 returns c =
     found_as (λ i. (c.in_ok-layout.layout, sym c.from_sound.ensures i))
     (seen_finds sees_index (then_finds _ c.in_ok-layout.ensures (then_finds _ (field_finds c.in_ok-host.ensures.field.reads)
-    (then_finds _ c.in_ok-name.ensures (then_finds _ c.in_ok-rules.ensures (then_finds _ c.in_ok-numbers.ensures c.in_ok-lines.ensures))))))
+    (then_finds _ c.in_ok-name.ensures (then_finds _ c.in_ok-rules.ensures (then_finds _ c.in_ok-receipts.ensures
+    (then_finds _ c.in_ok-numbers.ensures c.in_ok-lines.ensures)))))))

@@ -1,4 +1,4 @@
-use Rattle.std.proofs.Common.{rules, [], Some, sym, ◌∙◌}
+use Rattle.std.proofs.Common.{rules, [], sym, ◌∙◌}
 use Rattle.std.proofs.lemmas.Fn.{always_returns_same}
 use Rattle.std.proofs.lemmas.Option.{none-some}
 use Rattle.office_catalog.proofs.named.place_of.Goals as goal

@@ -1,6 +1,5 @@
-use Rattle.std.proofs.Common.{sym, subst, ◌∙◌, arith}
+use Rattle.std.proofs.Common.{sym, subst, ◌∙◌}
 use Rattle.backup_index.specs.Names.{AreNames}
-use Rattle.journal_view.specs.View.{told}
 use Rattle.journal_view.specs.ViewLaws.{Quiet-then}
 use Rattle.office_catalog.proofs.Opens.{fresh_read, fault_read, more_read, all_read}
 use Rattle.office_catalog.proofs.opening.read_hosts.Goals as goal

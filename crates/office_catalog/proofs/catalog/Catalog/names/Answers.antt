@@ -1,5 +1,5 @@
-use Rattle.office_catalog.proofs.Naming.{few_taken, fresh_taken, names_more, names_all}
-use Rattle.std.proofs.Common.{◌∙◌, refl, arith}
+use Rattle.office_catalog.proofs.Naming.{few_taken, fresh_taken, names_more}
+use Rattle.std.proofs.Common.{◌∙◌}
 use Rattle.office_catalog.proofs.catalog.Catalog.names.Goals as goal
 
 pub add-requires-clause-room : goal.add-requires-clause-room

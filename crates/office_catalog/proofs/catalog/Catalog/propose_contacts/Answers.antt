@@ -1,4 +1,4 @@
-use Rattle.std.proofs.Common.{refl, sym}
+use Rattle.std.proofs.Common.{refl}
 use Rattle.office_catalog.specs.Known.{given_contacts}
 use Rattle.office_catalog.proofs.Leading.{found_by, proposes_change, found_there}
 use Rattle.office_catalog.proofs.catalog.Catalog.propose_contacts.Goals as goal

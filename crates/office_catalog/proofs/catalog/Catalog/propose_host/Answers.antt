@@ -1,4 +1,4 @@
-use Rattle.std.proofs.Common.{sym, ap, ◌∙◌, refl, length, List, [], ◌∷◌, ◌++◌, ℕ}
+use Rattle.std.proofs.Common.{ap, ◌∙◌, length, List, [], ◌∷◌, ◌++◌, ℕ}
 use Rattle.intent_journal.specs.declared.changes.Change.{Change}
 use Rattle.backup_index.specs.Index.{Index}
 use Rattle.office_catalog.specs.Known.{new_host, names_of}
@@ -8,7 +8,7 @@ use Rattle.office_catalog.proofs.catalog.Catalog.propose_host.Goals as goal
 pub returns-clause-proposes : goal.returns-clause-proposes
 returns-clause-proposes c =
     let known = c.args.self.now in
-    let made = new_is _ _ _ c.args.name c.args.rules _ c.from_sound-index.ensures c.hosts.ensures.hosts c.new.ensures in
+    let made = new_is _ _ _ c.args.name c.args.rules _ _ c.from_sound-index.ensures c.hosts.ensures.hosts c.new.ensures c.new-2.ensures in
     proposes_host known (new_host (length known.hosts) c.args.name c.args.rules) c.from_sound-index.result _ c.add.new.self c.epoch-epoch.result _ c.in_ok-head.head c.in_ok-host.host c.push.new.self
     made c.requires.room c.requires.fresh (new_sound _ _ _) c.epoch-epoch.ensures
     (c.in_ok-add.ensures.ok ∙ ap (λ (l : List (List ℕ)). l ++ c.in_ok-copy.field-0 ∷ []) c.in_ok-names.ensures

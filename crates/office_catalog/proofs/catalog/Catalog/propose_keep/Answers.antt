@@ -1,5 +1,4 @@
-use Rattle.std.proofs.Common.{sym, ap, subst, ◌∙◌, List, ℕ}
-use Rattle.backup_rules.specs.declared.lines.Line.{Line}
+use Rattle.std.proofs.Common.{sym, ap, subst, ◌∙◌, ℕ}
 use Rattle.backup_index.specs.Lines.{IsSound}
 use Rattle.office_catalog.specs.Known.{given_lines, with_keep, kept_at}
 use Rattle.office_catalog.proofs.LinePlaces.{kept_sound}

@@ -1,4 +1,4 @@
-use Rattle.std.proofs.Common.{refl, sym, ap, subst, ◌∙◌, List}
+use Rattle.std.proofs.Common.{refl, subst, ◌∙◌, List}
 use Rattle.std.proofs.lemmas.List.{append-nil}
 use Rattle.backup_rules.specs.declared.lines.Line.{Line}
 use Rattle.backup_index.specs.Stored.{index_of_parts}
