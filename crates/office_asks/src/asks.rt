@@ -1,13 +1,13 @@
 use attr_records::{Attr, Dir, File, HostName, Item, Link, LinkTarget, PathName};
 use backup_rules::{Kind, Period, Periods, RuleChange, Rules, Setting};
 use disk_trait::Bytes;
-use office_model::{Event, PIECE_LIMIT, PutItem, SessionName, StagedFile};
+use office_model::{Event, PIECE_LIMIT, PutItem, SessionName, StagedFile, Token};
 use std::alloc::Global;
 use std::test::Fail;
 use stream_traits::Moment;
 use wake_schedule::Local;
 
-/// What is asked. Hosts are named, sessions go by their number in the first epoch.
+/// What is asked. Hosts are named, sessions go by their number in the first epoch, and tokens by numbers.
 #[derive(Clone, Copy)]
 pub enum Ask {
     Host(&'static str),
@@ -15,15 +15,19 @@ pub enum Ask {
     Quiet(&'static str),
     Full(&'static str),
     Incr(&'static str),
+    FullWith(&'static str, u16),
     File(u64, &'static str, &'static str),
     Dir(u64, &'static str),
     Link(u64, &'static str),
     Remove(u64, &'static str),
+    FileWith(u64, &'static str, &'static str, u16),
+    RemoveWith(u64, &'static str, u16),
     Stage(u64),
     Piece(u64, &'static str),
     LongPiece(u64),
     StageDrop(u64),
     PutStage(u64, &'static str, u64),
+    PutStageWith(u64, &'static str, u64, u16),
     Open(&'static str, u32, &'static str),
     Part(u64),
     CloseFile(u64),
@@ -75,16 +79,37 @@ fn path(alloc: Global, name: &str) -> Result<PathName, Fail> {
     Ok(PathName::read(alloc, name.as_bytes())?)
 }
 
-fn put(alloc: Global, sequence: u64, name: &str, item: Item) -> Result<Event, Fail> {
+/// The token of this number.
+fn token(number: u16) -> Option<Token> {
+    let mut bytes = [0; 16];
+    bytes[0] = (number % 256) as u8;
+    bytes[1] = (number / 256) as u8;
+    Some(Token { bytes })
+}
+
+fn put(
+    alloc: Global,
+    sequence: u64,
+    name: &str,
+    item: Item,
+    token: Option<Token>,
+) -> Result<Event, Fail> {
     Ok(Event::Put {
         dump: session(sequence),
         path: path(alloc, name)?,
         item: PutItem::Whole(item),
+        token,
     })
 }
 
 /// A put of a stage.
-fn put_stage(alloc: Global, sequence: u64, name: &str, stage: u64) -> Result<Event, Fail> {
+fn put_stage(
+    alloc: Global,
+    sequence: u64,
+    name: &str,
+    stage: u64,
+    token: Option<Token>,
+) -> Result<Event, Fail> {
     Ok(Event::Put {
         dump: session(sequence),
         path: path(alloc, name)?,
@@ -93,6 +118,7 @@ fn put_stage(alloc: Global, sequence: u64, name: &str, stage: u64) -> Result<Eve
             group: 0,
             stage,
         }),
+        token,
     })
 }
 
@@ -137,7 +163,7 @@ fn fill(cycle: u32) -> Result<RuleChange, Fail> {
 fn session_event(alloc: Global, ask: Ask) -> Result<Event, Fail> {
     let now = moment(START);
     match ask {
-        Ask::File(sequence, name, text) => put(alloc, sequence, name, file(alloc, text)?),
+        Ask::File(sequence, name, text) => put(alloc, sequence, name, file(alloc, text)?, None),
         Ask::Dir(sequence, name) => put(
             alloc,
             sequence,
@@ -145,11 +171,13 @@ fn session_event(alloc: Global, ask: Ask) -> Result<Event, Fail> {
             Item::Dir(Dir {
                 attr: Attr::dir_default(),
             }),
+            None,
         ),
-        Ask::Link(sequence, name) => put(alloc, sequence, name, link(alloc)?),
+        Ask::Link(sequence, name) => put(alloc, sequence, name, link(alloc)?, None),
         Ask::Remove(sequence, name) => Ok(Event::Remove {
             dump: session(sequence),
             path: path(alloc, name)?,
+            token: None,
         }),
         Ask::Stage(sequence) => Ok(Event::StageOpen {
             dump: session(sequence),
@@ -163,7 +191,7 @@ fn session_event(alloc: Global, ask: Ask) -> Result<Event, Fail> {
             bytes: long_piece(alloc, PIECE_LIMIT + 1)?,
         }),
         Ask::StageDrop(stage) => Ok(Event::StageDrop { stage }),
-        Ask::PutStage(sequence, name, stage) => put_stage(alloc, sequence, name, stage),
+        Ask::PutStage(sequence, name, stage) => put_stage(alloc, sequence, name, stage, None),
         Ask::Part(reader) => Ok(Event::ReadPart { reader }),
         Ask::CloseFile(reader) => Ok(Event::CloseFile { reader }),
         Ask::Commit(sequence) => Ok(Event::Commit {
@@ -254,6 +282,30 @@ fn backup_event(alloc: Global, ask: Ask) -> Result<Event, Fail> {
     }
 }
 
+/// An event with a token, or one of a backup.
+fn token_event(alloc: Global, ask: Ask) -> Result<Event, Fail> {
+    match ask {
+        Ask::FullWith(name, number) => Ok(Event::OpenDump {
+            host: host(alloc, name)?,
+            kind: Kind::Full,
+            now: moment(START),
+            token: token(number),
+        }),
+        Ask::FileWith(sequence, name, text, number) => {
+            put(alloc, sequence, name, file(alloc, text)?, token(number))
+        }
+        Ask::RemoveWith(sequence, name, number) => Ok(Event::Remove {
+            dump: session(sequence),
+            path: path(alloc, name)?,
+            token: token(number),
+        }),
+        Ask::PutStageWith(sequence, name, stage, number) => {
+            put_stage(alloc, sequence, name, stage, token(number))
+        }
+        _ => backup_event(alloc, ask),
+    }
+}
+
 /// The event that an ask stands for.
 pub fn event_of(alloc: Global, ask: Ask) -> Result<Event, Fail> {
     match ask {
@@ -273,11 +325,13 @@ pub fn event_of(alloc: Global, ask: Ask) -> Result<Event, Fail> {
             host: host(alloc, name)?,
             kind: Kind::Full,
             now: moment(START),
+            token: None,
         }),
         Ask::Incr(name) => Ok(Event::OpenDump {
             host: host(alloc, name)?,
             kind: Kind::Incr,
             now: moment(START),
+            token: None,
         }),
         Ask::Expire(name) => Ok(Event::Expire {
             host: host(alloc, name)?,
@@ -299,6 +353,6 @@ pub fn event_of(alloc: Global, ask: Ask) -> Result<Event, Fail> {
         Ask::Backups(name) => Ok(Event::Backups {
             host: host(alloc, name)?,
         }),
-        _ => backup_event(alloc, ask),
+        _ => token_event(alloc, ask),
     }
 }

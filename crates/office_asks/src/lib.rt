@@ -9,5 +9,5 @@ mod rows;
 mod texts;
 
 pub use asks::{Ask, event_of};
-pub use rows::EXAMPLES;
+pub use rows::{DUMP_EXAMPLES, RETRY_EXAMPLES, TREE_EXAMPLES};
 pub use texts::{expect_step, expect_steps, text_of};

@@ -289,18 +289,117 @@ const EXPIRY: &[(Ask, &str)] = &[
     (Ask::Expire("pc1"), "0"),
 ];
 
-/// Examples, each from an office without hosts on.
-pub const EXAMPLES: &[&[(Ask, &str)]] = &[
+const OPENED_AGAIN: &[(Ask, &str)] = &[
+    (Ask::Host("pc1"), "done"),
+    (Ask::FullWith("pc9", 1), "NoHost"),
+    (Ask::FullWith("pc1", 1), "1-0"),
+    (Ask::FullWith("pc1", 1), "1-0"),
+    (Ask::FullWith("pc1", 2), "SessionOpen"),
+    (Ask::Full("pc1"), "SessionOpen"),
+    (Ask::Commit(0), "0"),
+    (Ask::Commit(0), "0"),
+    (Ask::FullWith("pc1", 1), "already 0"),
+    (Ask::FullWith("pc9", 1), "NoHost"),
+    (Ask::Backups("pc1"), "0 filled next 1 dump false"),
+    (Ask::Host("pc2"), "done"),
+    (Ask::FullWith("pc2", 1), "1-1"),
+    (Ask::Abort(1), "done"),
+    (Ask::Commit(1), "NoSession"),
+    (Ask::FullWith("pc2", 1), "1-2"),
+    (Ask::Commit(2), "0"),
+    (Ask::Delete("pc1", 0), "done"),
+    (Ask::FullWith("pc1", 1), "already 0"),
+    (Ask::Commit(0), "0"),
+    (Ask::Reopen, "epoch 2"),
+    (Ask::FullWith("pc1", 1), "already 0"),
+    (Ask::Commit(0), "0"),
+    (Ask::Full("pc1"), "2-0"),
+    (Ask::CommitIn(2, 0), "1"),
+    (Ask::CommitIn(2, 0), "NoSession"),
+];
+
+const EDITED_AGAIN: &[(Ask, &str)] = &[
+    (Ask::Host("pc1"), "done"),
+    (Ask::Full("pc1"), "1-0"),
+    (Ask::FileWith(9, "a", "hello", 1), "NoSession"),
+    (Ask::FileWith(0, "q/r", "x", 1), "NoParent"),
+    (Ask::FileWith(0, "a", "hello", 1), "done"),
+    (Ask::FileWith(0, "a", "other", 1), "done"),
+    (Ask::FileWith(0, "q/r", "x", 1), "done"),
+    (Ask::RemoveWith(0, "a", 1), "done"),
+    (Ask::RemoveWith(0, "b", 2), "NoPath"),
+    (Ask::File(0, "b", "bye"), "done"),
+    (Ask::RemoveWith(0, "b", 2), "done"),
+    (Ask::File(0, "b", "again"), "done"),
+    (Ask::RemoveWith(0, "b", 2), "done"),
+    (Ask::Host("pc2"), "done"),
+    (Ask::Full("pc2"), "1-1"),
+    (Ask::FileWith(1, "a", "other", 1), "done"),
+    (Ask::Commit(0), "0"),
+    (Ask::Commit(1), "0"),
+    (Ask::Read("pc1", 0, "a"), "hello"),
+    (Ask::Read("pc1", 0, "b"), "again"),
+    (Ask::Read("pc2", 0, "a"), "other"),
+];
+
+const STAGED_AGAIN: &[(Ask, &str)] = &[
+    (Ask::Host("pc1"), "done"),
+    (Ask::Full("pc1"), "1-0"),
+    (Ask::Stage(0), "stage 0"),
+    (Ask::Piece(0, "hello"), "done"),
+    (Ask::PutStageWith(0, "a", 0, 1), "done"),
+    (Ask::Stage(0), "stage 1"),
+    (Ask::PutStageWith(0, "a", 1, 1), "done"),
+    (Ask::StageDrop(1), "NoSession"),
+    (Ask::PutStageWith(0, "a", 1, 1), "done"),
+    (Ask::Host("pc2"), "done"),
+    (Ask::Full("pc2"), "1-1"),
+    (Ask::Stage(1), "stage 2"),
+    (Ask::PutStageWith(0, "a", 2, 1), "done"),
+    (Ask::StageDrop(2), "done"),
+    (Ask::Commit(0), "0"),
+    (Ask::Read("pc1", 0, "a"), "hello"),
+];
+
+const RESUMED_ANEW: &[(Ask, &str)] = &[
+    (Ask::Host("pc1"), "done"),
+    (Ask::FullWith("pc1", 1), "1-0"),
+    (Ask::FileWith(0, "a", "hello", 1), "done"),
+    (Ask::Park(0), "done"),
+    (Ask::Abort(0), "done"),
+    (Ask::Resume("pc1"), "1-1"),
+    (Ask::FullWith("pc1", 1), "SessionOpen"),
+    (Ask::FileWith(1, "a", "other", 1), "done"),
+    (Ask::Commit(1), "0"),
+    (Ask::Commit(1), "NoSession"),
+    (Ask::Read("pc1", 0, "a"), "other"),
+    (Ask::FullWith("pc1", 1), "1-2"),
+];
+
+/// Examples of dumps and of what is read, each from an office without hosts on.
+pub const DUMP_EXAMPLES: &[&[(Ask, &str)]] = &[
     REFUSALS,
     STAGES,
     READERS,
     PARTIALS,
     DROPPED,
     ONE_CONTENT,
+];
+
+/// Examples of trees, and of what is let go.
+pub const TREE_EXAMPLES: &[&[(Ask, &str)]] = &[
     DIRECTORIES,
     KINDS,
     DELETED,
     CLEANING,
     CONTACTS,
     EXPIRY,
+];
+
+/// Examples of requests that are sent again.
+pub const RETRY_EXAMPLES: &[&[(Ask, &str)]] = &[
+    OPENED_AGAIN,
+    EDITED_AGAIN,
+    STAGED_AGAIN,
+    RESUMED_ANEW,
 ];

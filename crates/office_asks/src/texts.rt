@@ -37,6 +37,7 @@ fn frame_text(alloc: Global, frame: &Frame) -> Result<String, Fail> {
 fn answer_text(alloc: Global, answer: Answer) -> Result<String, Fail> {
     match answer {
         Answer::Dump(name) | Answer::Restore(name) => Ok(format!(in alloc; "{name}")?),
+        Answer::Already(number) => Ok(format!(in alloc; "already {number}")?),
         Answer::Committed(number) | Answer::Expired(number) => Ok(format!(in alloc; "{number}")?),
         Answer::Entries(list) => {
             let mut text = String::new(alloc);

@@ -7,8 +7,8 @@ use Rattle.std.specs.Prelude.{◌≡◌, ◌≢◌, ℕ, ◌+◌, ◌<◌, not, 
 use Rattle.std.specs.List.{remove}
 use Rattle.std.proofs.Common.{refl, sym, ap, ◌∙◌, subst, arith, length-append}
 use Rattle.disk_trait.specs.declared.ids.PoolId.{PoolId}
-use Rattle.office_model.specs.declared.session.SessionName.{SessionName}
-use Rattle.office_model.specs.Session.{is_same_session}
+use Rattle.receipts.specs.declared.session.SessionName.{SessionName}
+use Rattle.receipts.specs.Session.{is_same_session}
 use Rattle.office_model.specs.Office.{Volatile, Stage, stages_left}
 use Rattle.office_model.specs.events.StageOpen.{new_stage}
 use Rattle.office_model.specs.events.StagePiece.{with_bytes}

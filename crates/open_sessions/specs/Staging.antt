@@ -3,8 +3,8 @@
 --     IsExtended holds stage bytes old index new      the stage at an index took in these bytes
 use Rattle.std.specs.Prelude.{◌≡◌, ◌+◌, ℕ, List, ◌++◌, not, length, slice_set}
 use Rattle.std.specs.List.{filter}
-use Rattle.office_model.specs.declared.session.SessionName.{SessionName}
-use Rattle.office_model.specs.Session.{is_same_session}
+use Rattle.receipts.specs.declared.session.SessionName.{SessionName}
+use Rattle.receipts.specs.Session.{is_same_session}
 use Rattle.open_sessions.specs.declared.stages.OpenStage.{OpenStage}
 
 module _ {S : Type 0} where

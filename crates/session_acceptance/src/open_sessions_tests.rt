@@ -6,6 +6,7 @@ use backup_rules::Kind;
 use dump_session::{PutFault, RemoveFault, Session};
 use office_model::SessionName;
 use open_sessions::{OpenDump, OpenRestore, Place, Sessions};
+use receipts::TokenSet;
 use shared_tables::SharedTable;
 use std::alloc::{AllocError, Global};
 use std::sync::Arc;
@@ -74,6 +75,8 @@ fn dump_of(alloc: Global, sequence: u64, host: usize) -> Result<OpenDump, AllocE
         base: Arc::new(alloc, Table::new(alloc))?,
         hint: None,
         tree: Session::begin_full(alloc)?,
+        token: None,
+        kept: TokenSet::new(alloc),
     })
 }
 
@@ -134,7 +137,7 @@ fn put(sessions: &mut Sessions<u8>, at: u64, path: PathName) -> Answer {
     let node = Record::Dir(Dir {
         attr: Attr::dir_default(),
     });
-    match sessions.put(index, path, node) {
+    match sessions.put(index, path, node, None) {
         Ok(()) => Answer::Done,
         Err(PutFault::Broken(_)) => Answer::Broken,
         Err(PutFault::Memory) => Answer::Memory,
@@ -145,7 +148,7 @@ fn remove(alloc: Global, sessions: &mut Sessions<u8>, at: u64, path: &PathName) 
     let Some(index) = sessions.dump_at(name_of(at)) else {
         return Answer::NoSession;
     };
-    match sessions.remove(alloc, index, path) {
+    match sessions.remove(alloc, index, path, None) {
         Ok(()) => Answer::Done,
         Err(RemoveFault::NoPath) => Answer::NoPath,
         Err(RemoveFault::Memory) => Answer::Memory,

@@ -63,13 +63,23 @@ fn carry_out(parts: &mut Parts, alloc: Global, event: &Event) -> Result<Answer, 
 {
     match event {
         Event::AddHost { host, rules } => add_host(parts, alloc, host, rules),
-        Event::OpenDump { host, kind, now } => open_dump(parts, alloc, host, *kind, *now),
+        Event::OpenDump {
+            host,
+            kind,
+            now,
+            token,
+        } => open_dump(parts, alloc, host, *kind, *now, *token),
         Event::StageOpen { dump } => stage_open(parts, *dump),
         Event::StagePiece { stage, bytes } => stage_piece(parts, *stage, bytes.as_slice()),
         Event::StageDrop { stage } => stage_drop(parts, *stage),
-        Event::Put { dump, path, item } => match item {
+        Event::Put {
+            dump,
+            path,
+            item,
+            token,
+        } => match item {
             PutItem::Whole(_) => Err(Refusal::Halted),
-            PutItem::Staged(file) => put_staged(parts, alloc, *dump, path, file),
+            PutItem::Staged(file) => put_staged(parts, alloc, *dump, path, file, *token),
         },
         Event::Commit { dump, now } => commit_dump(parts, alloc, *dump, *now),
         Event::OpenFile { host, number, path } => open_file(parts, alloc, host, *number, path),

@@ -1,7 +1,9 @@
 //! A store over a disk in memory, and what it is asked.
 
 use disk_trait::{DiskRoom, MemoryDisk};
-use office_asks::{Ask, EXAMPLES, event_of, expect_step, expect_steps, text_of};
+use office_asks::{
+    Ask, DUMP_EXAMPLES, RETRY_EXAMPLES, TREE_EXAMPLES, event_of, expect_step, expect_steps, text_of,
+};
 use office_model::Port;
 use office_store::{DirectPort, Store};
 use pool_name::Md5Namer;
@@ -97,11 +99,25 @@ fn stages_of_two_dumps_stand_side_by_side(rt: HostRuntime) -> Result<(), Fail> {
     expect_steps(alloc, &mut open_blank(alloc)?, SIDE_BY_SIDE)
 }
 
-#[test]
-fn a_store_answers_as_the_office_in_memory_does(rt: HostRuntime) -> Result<(), Fail> {
-    let alloc = rt.alloc();
-    for steps in EXAMPLES {
+/// Each of the examples, from a store without hosts on.
+fn expect_examples(alloc: Global, examples: &[Steps]) -> Result<(), Fail> {
+    for steps in examples {
         expect_steps(alloc, &mut open_blank(alloc)?, steps)?;
     }
     Ok(())
+}
+
+#[test]
+fn a_store_answers_dumps_as_the_office_in_memory_does(rt: HostRuntime) -> Result<(), Fail> {
+    expect_examples(rt.alloc(), DUMP_EXAMPLES)
+}
+
+#[test]
+fn a_store_answers_of_trees_as_the_office_in_memory_does(rt: HostRuntime) -> Result<(), Fail> {
+    expect_examples(rt.alloc(), TREE_EXAMPLES)
+}
+
+#[test]
+fn a_store_answers_retries_as_the_office_in_memory_does(rt: HostRuntime) -> Result<(), Fail> {
+    expect_examples(rt.alloc(), RETRY_EXAMPLES)
 }

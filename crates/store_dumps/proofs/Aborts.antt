@@ -11,7 +11,7 @@ use Rattle.open_sessions.specs.declared.sessions.Sessions.{Sessions}
 use Rattle.open_sessions.specs.Opened.{OnlyDumps, OnlyStages, claims_of_dump, claims_in}
 use Rattle.open_sessions.specs.Staging.{without_those_of}
 use Rattle.open_sessions.specs.SessionLaws.{claims_in_dumps-remove}
-use Rattle.office_model.specs.declared.session.SessionName.{SessionName}
+use Rattle.receipts.specs.declared.session.SessionName.{SessionName}
 use Rattle.office_model.specs.declared.answer.Answer.TheVariants.{Done}
 use Rattle.office_model.specs.declared.event.Event.TheVariants.{Abort}
 use Rattle.office_model.specs.declared.refusal.BrokenRule.TheVariants.{NoSession}

@@ -1,4 +1,7 @@
 -- What a put leaves of an item with its bytes.
+--     no_dump_put, put_full, put_broken      a rule that it breaks
+--     runs_put_again      it repeats an earlier one
+--     runs_put, runs_put_back, runs_missed      the node was put; the tree took none; the pool gave no name
 use Rattle.std.specs.Prelude.{◌≡◌, ◌<◌, ◌≤◌, ℕ, Bool, true, false, not, ◌&&◌, nat_le, List, length, Option, Some, None, Ok, Err, is_some, slice_get, slice_set, IsErrOf, if◌then◌else◌}
 use Rattle.std.proofs.Common.{refl, sym, ap, ◌∙◌, subst}
 use Rattle.fault_counts.specs.Counts.{Counted}
@@ -32,10 +35,11 @@ use Rattle.office_model.specs.declared.answer.Answer.TheVariants.{Done}
 use Rattle.office_model.specs.declared.event.Event.{Event}
 use Rattle.office_model.specs.declared.event.Event.TheVariants.{Put}
 use Rattle.office_model.specs.declared.event.PutItem.TheVariants.{Whole}
-use Rattle.office_model.specs.declared.refusal.BrokenRule.TheVariants.{NoSession, Put as PutBroken}
-use Rattle.office_model.specs.declared.session.SessionName.{SessionName}
+use Rattle.office_model.specs.declared.refusal.BrokenRule.TheVariants.{NoSession, Put as PutBroken, ChainFull, TokensFull}
+use Rattle.receipts.specs.declared.session.SessionName.{SessionName}
+use Rattle.receipts.specs.declared.session.Token.{Token}
 use Rattle.tree_frames.specs.Frames.{bytes_of as item_bytes}
-use Rattle.office_model.specs.Meaning.{Judged, Carried}
+use Rattle.office_model.specs.Meaning.{Judged, Carried, ◌>>=◌}
 use Rattle.office_model.specs.Office.{Office, Names, with_dumps}
 use Rattle.office_model.specs.Parts.{dump_at}
 use Rattle.office_model.specs.UsedNames.{IsRenamed}
@@ -50,6 +54,10 @@ use Rattle.store_parts.specs.StagingLaws.{with_used}
 use Rattle.store_dumps.specs.Claims.{LetsGo, claims_of_content}
 use Rattle.store_dumps.specs.Putting.{record_for, content_found, TakesIn, refused_put}
 use Rattle.store_dumps.specs.DumpLaws.{place_of, IsFound, dump_found}
+use Rattle.store_dumps.specs.declared.tokens.EditToken.TheVariants.{Fresh, Kept, Full}
+use Rattle.store_dumps.specs.Tokens.{judged_token}
+use Rattle.store_dumps.specs.TokenLaws.{behind, carried_first, carried_kept, carried_full, once_missing, behind_set, fresh_for, still_renamed}
+use Rattle.store_dumps.specs.RunningLaws.{runs_kept}
 use Rattle.store_dumps.specs.NodeLaws.{content_is, with_record}
 use Rattle.store_dumps.specs.StagedLaws.{staged_as}
 use Rattle.store_dumps.specs.PutLaws as PutLaws
@@ -76,16 +84,39 @@ large_later rows path dir large rule e =
     step false false false e = absurd (none_some rule e)
 
 -- there is no such dump
-pub no_dump_put : (session : SessionName) (path : List ℕ) (item : Item) (office : Office) (names : Names)
-    → dump_at office.dumps session ≡ Err NoSession → PutEvent.carried session path (Whole item) office names ≡ Err NoSession
-no_dump_put session path item office names e = rw e refl
+pub no_dump_put : (session : SessionName) (path : List ℕ) (item : Item) (token : Option Token) (office : Office) (names : Names)
+    → dump_at office.dumps session ≡ Err NoSession → PutEvent.carried session path (Whole item) token office names ≡ Err NoSession
+no_dump_put session path item token office names e =
+    once_missing session token office.dumps office (PutEvent.put session path (Whole item) office names) e (rw e refl)
 
 module _ {D N S : Type 0} {d : DiskGhosts D} {n : NamerGhosts N S} where
-  module _ (old : StoreParts D N S d n) (session : SessionName) (path : List ℕ) (item : Item) where
-    -- ---- the rules
+  module _ (old : StoreParts D N S d n) (session : SessionName) (path : List ℕ) (item : Item) (token : Option Token) where
+    -- ---- what the dump's tokens say
 
     module _ (index : ℕ) (dump : OpenDump) (e : Some index ≡ place_of old.sessions.dumps.items session)
         (there : slice_get old.sessions.dumps.items index ≡ Some dump) where
+      -- an earlier put or removal had its token
+      pub runs_put_again : judged_token dump.kept token ≡ Kept → Runs old (Put session path (Whole item) token) (Ok Done) old
+      runs_put_again kept = runs_kept old old (Put session path (Whole item) token) Done refl
+          (λ office names at. record {
+            next = office;
+            judged = carried_kept old session token index dump e there office names at office
+                (PutEvent.put session path (Whole item) office names) kept;
+            running = at;
+          })
+          (λ office names.
+          still_renamed office names (PutEvent.carried session path (Whole item) token office names) (Ok Done) (content_of item)) refl
+
+      -- there is no room for it
+      pub put_full : judged_token dump.kept token ≡ Full → (office : Office) (names : Names) → IsRunning old office names
+          → PutEvent.carried session path (Whole item) token office names ≡ Err TokensFull
+      put_full full office names at =
+          carried_full old session token index dump e there office names at office (PutEvent.put session path (Whole item) office names) full
+
+    -- ---- the rules
+
+    module _ (index : ℕ) (dump : OpenDump) (e : Some index ≡ place_of old.sessions.dumps.items session)
+        (there : slice_get old.sessions.dumps.items index ≡ Some dump) (first : judged_token dump.kept token ≡ Fresh) where
       abbrev RuleIs : Option PutRule → Type 0
       RuleIs rule = IsTree is_dir dump.tree → rule ≡ broken_rule is_dir dump.tree path (is_dir_item item) (is_large item)
 
@@ -105,24 +136,33 @@ module _ {D N S : Type 0} {d : DiskGhosts D} {n : NamerGhosts N S} where
             ∙ sym (is tree_is)
 
         abbrev next : Office
-        next = with_dumps office (dumps_with office index found.value path item)
+        next = with_dumps office (dumps_with office index found.value path item token)
+
+        -- what it makes, with the token kept
+        first_made : (made : Judged Carried) → PutEvent.put session path (Whole item) office names ≡ made
+            → PutEvent.carried session path (Whole item) token office names ≡ (made >>= λ made. Ok (behind index token made))
+        first_made made is = carried_first old session token index dump e there office names at office
+            (PutEvent.put session path (Whole item) office names) first made is
 
         judged_where : (full : Bool) → PutEvent.is_chain_full office.pool office.dumps names (content_of item) ≡ full
-            → PutEvent.carried session path (Whole item) office names ≡ PutEvent.carried_where session path item full office
+            → PutEvent.put session path (Whole item) office names ≡ PutEvent.carried_where session path item full office
         judged_where full is = ap (λ (b : Bool). PutEvent.carried_where session path item b office) is
 
         put_judged : RuleIs None → PutEvent.is_chain_full office.pool office.dumps names (some_bytes (item_bytes item)) ≡ false
-            → PutEvent.carried session path (Whole item) office names ≡ Ok (record { answer = Done; after = next })
+            → PutEvent.carried session path (Whole item) token office names ≡ Ok (record { answer = Done; after = next })
         put_judged rule free =
-            judged_where false (ap (PutEvent.is_chain_full office.pool office.dumps names) (content_is item) ∙ free)
-            ∙ rw (found.is_at, rule_is None rule) refl
+            first_made (Ok (record { answer = Done; after = with_dumps office (slice_set office.dumps index (PutEvent.with_item found.value path item)) }))
+            (judged_where false (ap (PutEvent.is_chain_full office.pool office.dumps names) (content_is item) ∙ free)
+            ∙ rw (found.is_at, rule_is None rule) refl)
+            ∙ ap Ok (behind_set office index token found.value (PutEvent.with_item found.value path item) office.stages Done found.there)
 
         -- a put that breaks no rule
-        put_is : RuleIs None → IsPut session path (Whole item) office names (item_bytes item)
+        put_is : RuleIs None → IsPut session path (Whole item) token office names (item_bytes item)
         put_is rule = record {
           full = λ full.
-              judged_where true (ap (PutEvent.is_chain_full office.pool office.dumps names) (content_is item) ∙ full)
-              ∙ rw (found.is_at, rule_is None rule) refl;
+              first_made (Err ChainFull)
+              (judged_where true (ap (PutEvent.is_chain_full office.pool office.dumps names) (content_is item) ∙ full)
+              ∙ rw (found.is_at, rule_is None rule) refl);
           named = λ used' free named reply.
               subst (λ (j : Judged Carried). IsRenamed (name_change (content_of item)) office names j reply (with_used names used'))
               (sym (put_judged rule free))
@@ -133,8 +173,9 @@ module _ {D N S : Type 0} {d : DiskGhosts D} {n : NamerGhosts N S} where
 
       pub put_broken : (rule : PutRule) → RuleIs (Some rule)
           → (office : Office) (names : Names) → IsRunning old office names
-          → PutEvent.carried session path (Whole item) office names ≡ Err (PutBroken rule)
-      put_broken rule is office names at = rw ((found office names at).is_at, rule_is office names at (Some rule) is) refl
+          → PutEvent.carried session path (Whole item) token office names ≡ Err (PutBroken rule)
+      put_broken rule is office names at = first_made office names at (Err (PutBroken rule))
+          (rw ((found office names at).is_at, rule_is office names at (Some rule) is) refl)
 
       -- ---- the answers, behind the pool's
 
@@ -144,7 +185,7 @@ module _ {D N S : Type 0} {d : DiskGhosts D} {n : NamerGhosts N S} where
           (crash : (all : Files) → d.files old.journal.disk ≡ Some all → IsCertain (slots old) (d.uncertain old.journal.disk)
           → Leaves d.moment d.left_since old.journal.disk journal.disk (ComesTo all (unlisted (slots old)))) where
         abbrev event : Event
-        event = Put session path (Whole item)
+        event = Put session path (Whole item) token
 
         abbrev mid : StoreParts D N S d n
         mid = record old { journal = journal; pool = pool }
@@ -153,7 +194,7 @@ module _ {D N S : Type 0} {d : DiskGhosts D} {n : NamerGhosts N S} where
             (takes : TakesIn n.digest_of (slots old) (slots mid) (d.files old.journal.disk) (d.files journal.disk) content
             (item_bytes item)) where
           taken : (office : Office) (names : Names) (at : IsRunning old office names)
-              → IsTaken old session path (Whole item) journal pool form stays certain crash content office names at item
+              → IsTaken old session path (Whole item) token journal pool form stays certain crash content office names at item
           taken office names at = record {
             put = put_is office names at rule;
             shape = shape;
@@ -167,11 +208,11 @@ module _ {D N S : Type 0} {d : DiskGhosts D} {n : NamerGhosts N S} where
               → (((id : PoolId) → claims_of_content (content_found (node_at dump.tree path)) id ≤ claims_of (slots mid id))
               → LetsGo (λ id. claims_of_content (content_found (node_at dump.tree path)) id) (slots mid) (slots new))
               → new.pool.in_one_file ≡ pool.in_one_file
-              → new.sessions.dumps.items ≡ slice_set old.sessions.dumps.items index (with_record dump path (record_for item content))
+              → new.sessions.dumps.items ≡ slice_set old.sessions.dumps.items index (with_record dump path (record_for item content) token)
               → OnlyDumps old.sessions new.sessions
               → Counted (d.fault_count old.journal.disk) (d.fault_count journal.disk) failed → (failed → ⊥) → Runs old event (Ok Done) new
           runs_put new same catalog counts partials views halted go kept dumps only counted fine =
-              PutLaws.runs_put old session path (Whole item) journal pool form stays certain crash content new same catalog counts partials views halted
+              PutLaws.runs_put old session path (Whole item) token journal pool form stays certain crash content new same catalog counts partials views halted
               kept counted fine index dump e there go
               (λ office names at.
               let t = taken office names at in
@@ -180,10 +221,10 @@ module _ {D N S : Type 0} {d : DiskGhosts D} {n : NamerGhosts N S} where
                 taken = t;
                 now = (next office names at).volatile;
                 judged = put_judged office names at rule t.staged.free;
-                sessions = PutLaws.sessions_edited old session path (Whole item) journal pool form stays certain crash content office names at
-                    item t index dump e there new.sessions dumps only;
-                claims = PutLaws.claims_edited old session path (Whole item) journal pool form stays certain crash content office names at
-                    item t index dump e there new.sessions dumps only;
+                sessions = PutLaws.sessions_edited old session path (Whole item) token journal pool form stays certain crash content office names at
+                    item t index dump e there new.sessions dumps only (fresh_for dump.kept token first);
+                claims = PutLaws.claims_edited old session path (Whole item) token journal pool form stays certain crash content office names at
+                    item t index dump e there new.sessions dumps only (fresh_for dump.kept token first);
               })
 
           -- it was not, and the claim is let go
@@ -198,7 +239,7 @@ module _ {D N S : Type 0} {d : DiskGhosts D} {n : NamerGhosts N S} where
               → Counted (d.fault_count old.journal.disk) (d.fault_count journal.disk) failed → (failed → ⊥)
               → Runs old event (Err (refused_put fault)) new
           runs_put_back new fault says same catalog counts partials views halted go kept alike counted fine =
-              PutLaws.runs_put_back old session path (Whole item) journal pool form stays certain crash content new same catalog counts partials views
+              PutLaws.runs_put_back old session path (Whole item) token journal pool form stays certain crash content new same catalog counts partials views
               halted kept counted fine fault
               (λ office names at broken is.
               let tree = tree_is office names at in
@@ -213,7 +254,7 @@ module _ {D N S : Type 0} {d : DiskGhosts D} {n : NamerGhosts N S} where
             → Counted (d.fault_count old.journal.disk) (d.fault_count journal.disk) (IsErrOf {T = Option PoolId} (Err fault) P.Disk)
             → Runs old event (Err (refusal_of_pool fault)) mid
         runs_missed fault some misses undamaged known counted =
-            PutLaws.runs_missed old session path (Whole item) journal pool form stays certain crash fault undamaged
+            PutLaws.runs_missed old session path (Whole item) token journal pool form stays certain crash fault undamaged
             (λ office names at. record {
               bytes = item_bytes item;
               put = put_is office names at rule;

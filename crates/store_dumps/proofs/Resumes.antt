@@ -32,7 +32,7 @@ use Rattle.office_model.specs.declared.refusal.BrokenRule.{BrokenRule}
 use Rattle.office_model.specs.declared.refusal.BrokenRule.TheVariants.{NoHost, NoPartial}
 use Rattle.office_model.specs.declared.refusal.Refusal.{Refusal}
 use Rattle.office_model.specs.declared.refusal.Refusal.TheVariants as R
-use Rattle.office_model.specs.declared.session.SessionName.{SessionName}
+use Rattle.receipts.specs.declared.session.SessionName.{SessionName}
 use Rattle.office_model.specs.Meaning.{Reply, ◌>>◌}
 use Rattle.office_model.specs.Office.{Office, Host, Partial, Names}
 use Rattle.office_model.specs.Parts.{host_at}
@@ -165,11 +165,11 @@ module _ {D N S : Type 0} {d : DiskGhosts D} {n : NamerGhosts N S} where
 
       judged_partial : (rule : Option BrokenRule) → RuleIs rule → (office : Office) (names : Names) (at : IsRunning old office names)
           (partial : Partial) → (named office names at).host.partial ≡ Some partial
-          → ResumeModel.carried name office ≡ (rule >> Ok (opened office place partial.kind partial.start partial.tree))
+          → ResumeModel.carried name office ≡ (rule >> Ok (opened office place partial.kind partial.start None partial.tree))
       judged_partial rule is office names at partial there_is =
           rw ((named office names at).judged, there_is)
-          (judged_dump office place partial.kind partial.start (named office names at).host.next partial.tree)
-          ∙ ap (λ (r : Option BrokenRule). r >> Ok (opened office place partial.kind partial.start partial.tree))
+          (judged_dump office place partial.kind partial.start None (named office names at).host.next partial.tree)
+          ∙ ap (λ (r : Option BrokenRule). r >> Ok (opened office place partial.kind partial.start None partial.tree))
           (rule_same old place index there office names at (named office names at).host (named office names at).is_host ∙ sym is)
 
       pub refused_resume : (head : PartialHead) → Some head ≡ head_at old.partials place → (rule : BrokenRule) → RuleIs (Some rule)
@@ -181,7 +181,7 @@ module _ {D N S : Type 0} {d : DiskGhosts D} {n : NamerGhosts N S} where
       -- ---- the dump is open
 
       may_open : RuleIs None → (file : PartialFile) → ResumesWith old place file → (office : Office) (names : Names)
-          (at : IsRunning old office names) → MayOpen old (Resume name) place file.kind file.start file.rows office names at
+          (at : IsRunning old office names) → MayOpen old (Resume name) place file.kind file.start None file.rows office names at
       may_open is file begins office names at =
           let of = begins office names at (named office names at).host (named office names at).is_host in
           record {
@@ -191,9 +191,9 @@ module _ {D N S : Type 0} {d : DiskGhosts D} {n : NamerGhosts N S} where
           }
 
       runs_opened : RuleIs None → (new : StoreParts D N S d n) (session : SessionName) (file : PartialFile) → ResumesWith old place file
-          → HasOpened old place file.kind file.start file.rows session new → Runs old (Resume name) (Ok (DumpAnswer session)) new
+          → HasOpened old place file.kind file.start None file.rows session new → Runs old (Resume name) (Ok (DumpAnswer session)) new
       runs_opened is new session file begins has =
-          runs_begun old (Resume name) place file.kind file.start file.rows new session (may_open is file begins) (λ office names answer. refl)
+          runs_begun old (Resume name) place file.kind file.start None file.rows new session (may_open is file begins) (λ office names answer. refl)
           refl has
 
   -- the partial is read before
@@ -202,7 +202,7 @@ module _ {D N S : Type 0} {d : DiskGhosts D} {n : NamerGhosts N S} where
       → (place : ℕ) (index : Index) (found : Some place ≡ host_named (names_of old.catalog.hosts) name)
       (there : slice_get old.catalog.hosts place ≡ Some index) → RuleIs old name place found index there None
       → (new : StoreParts D N S d n) (session : SessionName) (file : PartialFile) → ResumesWith mid place file
-      → HasOpened mid place file.kind file.start file.rows session new → Runs old (Resume name) (Ok (DumpAnswer session)) new
+      → HasOpened mid place file.kind file.start None file.rows session new → Runs old (Resume name) (Ok (DumpAnswer session)) new
   runs_resumed old mid name reads counted fine place index found there is new session file begins has =
       runs_read_then old mid new (Resume name) (Ok (DumpAnswer session)) reads counted fine
       (runs_opened mid name place

@@ -10,8 +10,8 @@ use Rattle.pool_name.specs.declared.namer.Namer.{Ghosts as NamerGhosts}
 use Rattle.open_sessions.specs.declared.sessions.OpenDump.{OpenDump}
 use Rattle.open_sessions.specs.Opened.{IsDump}
 use Rattle.open_sessions.specs.SessionLaws.{dump_index-sessions}
-use Rattle.office_model.specs.Session.{is_same_session}
-use Rattle.office_model.specs.declared.session.SessionName.{SessionName}
+use Rattle.receipts.specs.Session.{is_same_session}
+use Rattle.receipts.specs.declared.session.SessionName.{SessionName}
 use Rattle.office_model.specs.declared.refusal.BrokenRule.TheVariants.{NoSession}
 use Rattle.office_model.specs.Office.{Office, Dump, Names, dump_index}
 use Rattle.office_model.specs.Parts.{dump_at}

@@ -1,11 +1,13 @@
 pub mod Claims
 pub mod ClaimLaws
 pub mod Base
+pub mod Tokens
 pub mod Opening
 pub mod Resuming
 pub mod Comparing
 pub mod Putting
 pub mod DumpLaws
+pub mod TokenLaws
 pub mod RunningLaws
 pub mod CountingLaws
 pub mod SeenLaws

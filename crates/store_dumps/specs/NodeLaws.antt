@@ -25,7 +25,9 @@ use Rattle.stored_trees.specs.ResolvedLaws.{with_node-resolved}
 use Rattle.stored_trees.specs.ValueLaws.{AllValues-put}
 use Rattle.stored_trees.specs.Occurrences.{occurrences}
 use Rattle.open_sessions.specs.declared.sessions.OpenDump.{OpenDump}
-use Rattle.open_sessions.specs.Opened.{AreRowsOf, IsDump}
+use Rattle.receipts.specs.declared.session.Token.{Token}
+use Rattle.open_sessions.specs.Opened.{AreRowsOf, IsDump, edited, keeping_behind, IsFreshFor}
+use Rattle.open_sessions.specs.EditLaws.{IsDump-keeping}
 use Rattle.open_sessions.specs.SessionLaws.{node_occurrences, found_occurrences}
 use Rattle.tree_frames.specs.Frames.{bytes_of as item_bytes}
 use Rattle.office_model.specs.Office.{Dump}
@@ -105,24 +107,28 @@ rows_with given contents rows path node clean told of = record {
   told = AllValues-put (IsTold given contents) path_cmp path node rows told of.told;
 }
 
--- a dump with a node
-abbrev pub with_record : OpenDump → List ℕ → Record → OpenDump
-with_record dump path node = record dump { tree = with_node dump.tree path node }
+-- a dump with a node, which keeps the token, if there is one
+abbrev pub with_record : OpenDump → List ℕ → Record → Option Token → OpenDump
+with_record dump path node token = edited dump (with_node dump.tree path node) token
 
 pub dump_with : (given : PoolId → Type 0) (contents : PoolId → List ℕ) (value : Dump) (dump : OpenDump) (path : List ℕ) (item : Item)
-    (content : Option PoolId) → bytes_of contents content ≡ item_bytes item
-    → IsToldContent given contents (length (item_bytes item)) content → IsDump given contents value dump
-    → IsDump given contents (PutEvent.with_item value path item) (with_record dump path (record_for item content))
-dump_with given contents value dump path item content shown told is = record {
-  name = is.name;
-  host = is.host;
-  kind = is.kind;
-  start = is.start;
-  base = is.base;
-  base_rows = is.base_rows;
-  tree =
-      (λ i. with_node (is.tree i) path (item_shown contents item content shown i))
-      ∙ sym (with_node-resolved contents dump.tree path (record_for item content));
-  tree_rows = rows_with given contents dump.tree path (record_for item content) (record_clean item content)
-      (record_told given contents item content told) is.tree_rows;
-}
+    (token : Option Token) (content : Option PoolId) → bytes_of contents content ≡ item_bytes item
+    → IsToldContent given contents (length (item_bytes item)) content → IsFreshFor dump.kept token → IsDump given contents value dump
+    → IsDump given contents (keeping_behind token (PutEvent.with_item value path item)) (with_record dump path (record_for item content) token)
+dump_with given contents value dump path item token content shown told fresh is =
+    IsDump-keeping given contents (PutEvent.with_item value path item)
+    (record dump { tree = with_node dump.tree path (record_for item content) }) (record {
+      name = is.name;
+      host = is.host;
+      kind = is.kind;
+      start = is.start;
+      base = is.base;
+      base_rows = is.base_rows;
+      tree =
+          (λ i. with_node (is.tree i) path (item_shown contents item content shown i))
+          ∙ sym (with_node-resolved contents dump.tree path (record_for item content));
+      tree_rows = rows_with given contents dump.tree path (record_for item content) (record_clean item content)
+          (record_told given contents item content told) is.tree_rows;
+      token = is.token;
+      kept = is.kept;
+    }) token fresh

@@ -1,6 +1,6 @@
 -- What a put leaves, of an item with its bytes or of a stage, behind what the pool answered.
---     dumps_with office index value path node      the dumps with a node in one of them
---     IsPut session path item office names node      what the model says of the put of a node that breaks no rule of trees
+--     dumps_with office index value path node token      the dumps with a node in one of them, which keeps the token
+--     IsPut session path item token office names bytes      what the model says of the put of a node that breaks no rule of trees
 --     IsTaken, runs_put, runs_put_back      the node's bytes got a name, and it was put, or the name was let go again
 --     sessions_edited, claims_edited      the sessions with the node, and their claims
 --     IsMissed, runs_missed      the bytes got no name
@@ -30,7 +30,7 @@ use Rattle.dump_session.specs.declared.session.PutFault.{PutFault}
 use Rattle.dump_session.specs.declared.session.PutFault.TheVariants as PF
 use Rattle.open_sessions.specs.declared.sessions.OpenDump.{OpenDump}
 use Rattle.open_sessions.specs.declared.sessions.Sessions.{Sessions}
-use Rattle.open_sessions.specs.Opened.{AreSessions, claims_in, OnlyDumps, AreAlike}
+use Rattle.open_sessions.specs.Opened.{keeping_behind, IsFreshFor, AreSessions, claims_in, OnlyDumps, AreAlike}
 use Rattle.open_sessions.specs.CallLaws.{AreSessions-dump_edited, claims_in-dump_edited}
 use Rattle.open_sessions.specs.SessionLaws.{AreSessions-alike, claims_in-alike, claims_in_dumps-remove, occurrences-with_node}
 use Rattle.office_model.specs.declared.answer.Answer.TheVariants.{Done}
@@ -40,7 +40,8 @@ use Rattle.office_model.specs.declared.event.PutItem.{PutItem}
 use Rattle.office_model.specs.declared.refusal.BrokenRule.TheVariants.{ChainFull}
 use Rattle.office_model.specs.declared.refusal.Refusal.{Refusal}
 use Rattle.office_model.specs.declared.refusal.Refusal.TheVariants as R
-use Rattle.office_model.specs.declared.session.SessionName.{SessionName}
+use Rattle.receipts.specs.declared.session.SessionName.{SessionName}
+use Rattle.receipts.specs.declared.session.Token.{Token}
 use Rattle.tree_frames.specs.Frames.{bytes_of as item_bytes}
 use Rattle.office_model.specs.Meaning.{Carried, Judged, Reply, Stages}
 use Rattle.office_model.specs.Office.{Office, Volatile, Dump, Names}
@@ -77,8 +78,8 @@ early : (judged : Judged Carried) → MayFault Stages judged
 early (Ok carried) = tt
 early (Err rule) = refl
 
-abbrev pub dumps_with : Office → ℕ → Dump → List ℕ → Item → List Dump
-dumps_with office index value path node = slice_set office.dumps index (PutEvent.with_item value path node)
+abbrev pub dumps_with : Office → ℕ → Dump → List ℕ → Item → Option Token → List Dump
+dumps_with office index value path node token = slice_set office.dumps index (keeping_behind token (PutEvent.with_item value path node))
 
 module _ {D N S : Type 0} {d : DiskGhosts D} {n : NamerGhosts N S} where
   pub runs_same : (old new : StoreParts D N S d n) (event : Event) (refusal refusal' : Refusal) → refusal ≡ refusal'
@@ -86,21 +87,23 @@ module _ {D N S : Type 0} {d : DiskGhosts D} {n : NamerGhosts N S} where
   runs_same old new event refusal refusal' same runs = subst (λ (r : Refusal). Runs old event (Err r) new) (sym same) runs
 
 -- where its chain is full, and the names that it may leave if not
-pub record IsPut (session : SessionName) (path : List ℕ) (item : PutItem) (office : Office) (names : Names) (bytes : List ℕ) : Type 0 where
+pub record IsPut (session : SessionName) (path : List ℕ) (item : PutItem) (token : Option Token) (office : Office) (names : Names)
+    (bytes : List ℕ) : Type 0 where
   pub full : PutEvent.is_chain_full office.pool office.dumps names (some_bytes bytes) ≡ true
-      → PutEvent.carried session path item office names ≡ Err ChainFull
+      → PutEvent.carried session path item token office names ≡ Err ChainFull
   pub named : (used' : List PoolId) → PutEvent.is_chain_full office.pool office.dumps names (some_bytes bytes) ≡ false
       → AreNamedAs office names bytes used'
-      → (reply : Reply) → AreNamesAfter office names (meaning_of (Put session path item)) reply (with_used names used')
+      → (reply : Reply) → AreNamesAfter office names (meaning_of (Put session path item token)) reply (with_used names used')
 
 module _ {D N S : Type 0} {d : DiskGhosts D} {n : NamerGhosts N S} where
-  module _ (old : StoreParts D N S d n) (session : SessionName) (path : List ℕ) (item : PutItem) (journal : Journal D d) (pool : Pool N S n)
+  module _ (old : StoreParts D N S d n) (session : SessionName) (path : List ℕ) (item : PutItem) (token : Option Token)
+      (journal : Journal D d) (pool : Pool N S n)
       (form : pool.in_one_file ≡ old.pool.in_one_file) (stays : journal.halted ≡ old.journal.halted)
       (certain : IsCertain (slots old) (uncertain old.journal) → IsCertain (slots old) (uncertain journal))
       (crash : (all : Files) → d.files old.journal.disk ≡ Some all → IsCertain (slots old) (d.uncertain old.journal.disk)
       → Leaves d.moment d.left_since old.journal.disk journal.disk (ComesTo all (unlisted (slots old)))) where
     abbrev event : Event
-    event = Put session path item
+    event = Put session path item token
 
     -- the pool has answered
     abbrev pub mid : StoreParts D N S d n
@@ -127,7 +130,7 @@ module _ {D N S : Type 0} {d : DiskGhosts D} {n : NamerGhosts N S} where
     module _ (content : Option PoolId) where
       -- the node's bytes are kept under the name
       pub record IsTaken (office : Office) (names : Names) (at : IsRunning old office names) (node : Item) : Type 0 where
-        pub put : IsPut session path item office names (item_bytes node)
+        pub put : IsPut session path item token office names (item_bytes node)
         pub shape : IsContentOf (length (item_bytes node)) content
         pub staged : StagedAs old mid office names at content (item_bytes node)
 
@@ -154,15 +157,15 @@ module _ {D N S : Type 0} {d : DiskGhosts D} {n : NamerGhosts N S} where
 
           -- with the node in the dump
           module _ (new : Sessions S)
-              (dumps : new.dumps.items ≡ slice_set old.sessions.dumps.items index (with_record dump path (record_for node content)))
-              (only : OnlyDumps old.sessions new) where
+              (dumps : new.dumps.items ≡ slice_set old.sessions.dumps.items index (with_record dump path (record_for node content) token))
+              (only : OnlyDumps old.sessions new) (fresh : IsFreshFor dump.kept token) where
             pub sessions_edited : AreSessions n.holds (given (slots mid)) contents (staging_of taken.staged.has.all' names')
-                (record office.volatile { dumps = dumps_with office index found.value path node }) new
+                (record office.volatile { dumps = dumps_with office index found.value path node token }) new
             sessions_edited =
                 AreSessions-dump_edited old.sessions new only.beside n.holds (given (slots mid)) contents
-                (staging_of taken.staged.has.all' names') office.volatile sessions_mid index (PutEvent.with_item found.value path node)
-                (with_record dump path (record_for node content))
-                (dump_with (given (slots mid)) contents found.value dump path node content taken.staged.is taken.staged.told
+                (staging_of taken.staged.has.all' names') office.volatile sessions_mid index (keeping_behind token (PutEvent.with_item found.value path node))
+                (with_record dump path (record_for node content) token)
+                (dump_with (given (slots mid)) contents found.value dump path node token content taken.staged.is taken.staged.told fresh
                 (sessions_mid.dumps.each index found.value dump found.there there)) dumps only.sequence
 
             pub claims_edited : (id : PoolId) → claims_in new id + claims_of_content (content_found (node_at dump.tree path)) id
@@ -170,7 +173,7 @@ module _ {D N S : Type 0} {d : DiskGhosts D} {n : NamerGhosts N S} where
             claims_edited id =
                 omega (
                   arith,
-                  claims_in-dump_edited old.sessions new only.beside id index dump (with_record dump path (record_for node content)) there dumps,
+                  claims_in-dump_edited old.sessions new only.beside id index dump (with_record dump path (record_for node content) token) there dumps,
                   occurrences-with_node id dump.tree path (record_for node content) found.is.tree_rows.whole.in_order,
                   found_claims id (node_at dump.tree path),
                   record_claims id node content taken.shape,
@@ -192,7 +195,7 @@ module _ {D N S : Type 0} {d : DiskGhosts D} {n : NamerGhosts N S} where
         pub node : Item
         pub taken : IsTaken office names at node
         pub now : Volatile
-        pub judged : PutEvent.carried session path item office names ≡ Ok (record { answer = Done; after = record office { volatile = now } })
+        pub judged : PutEvent.carried session path item token office names ≡ Ok (record { answer = Done; after = record office { volatile = now } })
         pub sessions : AreSessions n.holds (given (slots mid)) (contents_of taken.staged.has.all')
             (staging_of taken.staged.has.all' (with_used names taken.staged.has.used')) now new.sessions
         pub claims : (id : PoolId) → claims_in new.sessions id + claims_of_content before id
@@ -275,7 +278,7 @@ module _ {D N S : Type 0} {d : DiskGhosts D} {n : NamerGhosts N S} where
 
     pub record IsMissed (fault : PoolFault) (office : Office) (names : Names) : Type 0 where
       pub bytes : List ℕ
-      pub put : IsPut session path item office names bytes
+      pub put : IsPut session path item token office names bytes
       pub some : 0 < length bytes
       pub misses : Misses n.digest_of (slots old) (slots mid) (d.files old.journal.disk) (d.files journal.disk) bytes fault
       pub known : IsNotForeign fault

@@ -3,7 +3,7 @@
 --     ResumesWith parts place file      so it is of this host, in each office that the parts are at work with
 --     TellsPartial told place file      the host's file holds it
 --     ResumesDump old name reply new      an answer opened a dump of what the host's file holds; a damaged file is that one
-use Rattle.std.specs.Prelude.{⊤, ◌≡◌, ℕ, List, Option, Some, Ok, Err, slice_get}
+use Rattle.std.specs.Prelude.{⊤, ◌≡◌, ℕ, List, Option, Some, None, Ok, Err, slice_get}
 use Rattle.disk_trait.specs.declared.ids.PoolId.{PoolId}
 use Rattle.disk_trait.specs.declared.ids.FileId.{FileId}
 use Rattle.disk_trait.specs.declared.ids.FileId.TheVariants.{Partial as PartialOf}
@@ -17,7 +17,7 @@ use Rattle.stored_trees.specs.Resolved.{resolved}
 use Rattle.open_sessions.specs.Opened.{AreRowsOf}
 use Rattle.office_model.specs.declared.answer.Answer.TheVariants.{Dump as DumpAnswer}
 use Rattle.office_model.specs.declared.refusal.Refusal.TheVariants as R
-use Rattle.office_model.specs.declared.session.SessionName.{SessionName}
+use Rattle.receipts.specs.declared.session.SessionName.{SessionName}
 use Rattle.office_model.specs.Meaning.{Reply}
 use Rattle.office_model.specs.Office.{Office, Host, Partial, Names}
 use Rattle.office_files.specs.Pooled.{contents_of}
@@ -42,12 +42,12 @@ module _ {D N S : Type 0} {d : DiskGhosts D} {n : NamerGhosts N S} where
       (office : Office) (names : Names) (at : IsRunning parts office names) (host : Host) → slice_get office.hosts place ≡ Some host
       → IsPartialOf (given (slots parts)) (contents_of at.all) host.partial file
 
-  -- a dump of the kind and the start that the host's file has, whose base and tree are its rows
+  -- a dump of the kind and the start that the host's file has, whose base and tree are its rows; it has no token
   pub record ResumesTold (old : StoreParts D N S d n) (name : List ℕ) (session : SessionName) (new : StoreParts D N S d n) : Type 0 where
     pub host : IsHostPlaced old.catalog name
     pub file : PartialFile
     pub tells : TellsPartial (told old.journal) host.place file
-    pub opened : IsOpened old.sessions old.catalog.epoch host.place file.kind file.start file.rows session new.sessions
+    pub opened : IsOpened old.sessions old.catalog.epoch host.place file.kind file.start None file.rows session new.sessions
 
   -- the host's file is absent or holds no partial of it, and was found so
   pub record HasPartialDamaged (old : StoreParts D N S d n) (name : List ℕ) (file : FileId) (found : Option (List ℕ)) : Type 0 where

@@ -15,6 +15,9 @@
 //! | [`claim_id`], [`release`] | one claim is taken, and let go |
 //! | [`content_of`], [`refused_put`] | for a put of a stage: the content of what is at a path, and what a fault of a tree is |
 //!
+//! An opening, a put and a removal with a token are carried out once: `specs/Tokens` says which repeat an earlier one, as memory tells,
+//! and [`judge_edit`] what the tokens that a dump keeps say of an edit, before any file is looked at.
+//!
 //! `specs/PutLaws` says what a put leaves, whatever holds the bytes; `specs/StagedLaws` what the pool's answer to them is to the office.
 #![tactic(auto)]
 
@@ -26,6 +29,7 @@ mod opening;
 mod putting;
 mod removing;
 mod resuming;
+mod tokens;
 
 pub use aborting::abort;
 pub use claims::{claim_id, claim_rows, release, release_rows};
@@ -33,3 +37,4 @@ pub use opening::open_dump;
 pub use putting::{content_of, put, refused_put};
 pub use removing::remove;
 pub use resuming::resume;
+pub use tokens::{EditToken, judge_edit};

@@ -11,6 +11,7 @@ ghost use Rattle.open_sessions.specs.Opened.{AreAlike};
 
 use crate::base::{Begun, base_of, has_base};
 use crate::claims::{claim_dump, reserve_dump};
+use crate::tokens::repeated;
 use attr_records::HostName;
 use attr_tables::Table;
 use backup_index::HostIndex;
@@ -20,6 +21,7 @@ use dump_session::Session;
 use office_model::{Answer, BrokenRule, Refusal, SessionName};
 use open_sessions::{OpenDump, Sessions};
 use pool_name::Namer;
+use receipts::{Token, TokenSet};
 use shared_tables::SharedTable;
 use std::alloc::{AllocError, Global};
 use std::sync::Arc;
@@ -64,17 +66,18 @@ fn broken_rule<S: Drop>(
     further_rule(sessions, host, index)
 }
 
-/// A dump whose tree is still its base.
+/// A dump whose tree is still its base, opened with this token or with none.
 fn fresh_dump(
     alloc: Global,
     name: SessionName,
     host: usize,
     kind: Kind,
     start: u64,
+    token: Option<Token>,
     base: Arc<Table>,
     hint: Option<SharedTable>,
 ) -> Result<OpenDump, AllocError>
-    ensures { IfOk result (λ dump. IsFresh name host kind start (arc_value base) dump) }
+    ensures { IfOk result (λ dump. IsFresh name host kind start token (arc_value base) dump) }
 {
     let tree = Session::begin_incr(alloc, base.clone()?);
     Ok(OpenDump {
@@ -85,6 +88,8 @@ fn fresh_dump(
         base,
         hint,
         tree,
+        token,
+        kept: TokenSet::new(alloc),
     })
 }
 
@@ -96,18 +101,19 @@ fn open_session<S: Drop>(
     host: usize,
     kind: Kind,
     start: u64,
+    token: Option<Token>,
     base: Arc<Table>,
     hint: Option<SharedTable>,
 ) -> Result<SessionName, AllocError>
     requires { sessions.old.sequence < 2 ^ 64 - 1 }
-    ensures ok { IfOk result (λ name. IsOpened sessions.old epoch host kind start (arc_value base) name sessions.new) }
+    ensures ok { IfOk result (λ name. IsOpened sessions.old epoch host kind start token (arc_value base) name sessions.new) }
     ensures err { OnErr result (AreAlike sessions.old sessions.new) }
 {
     let name = SessionName {
         epoch,
         sequence: sessions.sequence,
     };
-    let dump = fresh_dump(alloc, name, host, kind, start, base, hint)?;
+    let dump = fresh_dump(alloc, name, host, kind, start, token, base, hint)?;
     sessions.open_dump(dump)?;
     Ok(name)
 }
@@ -120,10 +126,11 @@ pub(crate) fn open_with<D: Disk, N: Namer>(
     host: usize,
     kind: Kind,
     start: u64,
+    token: Option<Token>,
     begun: Begun,
 ) -> Result<SessionName, AllocError>
     requires { parts.old.sessions.sequence < 2 ^ 64 - 1 }
-    ensures ok { IfOk result (λ name. HasOpened parts.old host kind start begun.rows name parts.new) }
+    ensures ok { IfOk result (λ name. HasOpened parts.old host kind start token begun.rows name parts.new) }
     ensures err { OnErr result (HasKept parts.old parts.new) }
 {
     let Begun { rows, hint } = begun;
@@ -138,6 +145,7 @@ pub(crate) fn open_with<D: Disk, N: Namer>(
         host,
         kind,
         start,
+        token,
         shared,
         hint,
     )?;
@@ -149,20 +157,29 @@ pub(crate) fn open_with<D: Disk, N: Namer>(
 /// whose contents it claims. After a refusal nothing has changed; `Damaged` names the table of that backup, with what was
 /// found of it. A full one reads that table, too, to compare with; it is opened without it if it is damaged, or if there is
 /// no memory for it.
+///
+/// With a token it is carried out once: with that of a receipt of the host it is Already done, and with that of the host's open dump
+/// that dump is the answer. Nothing changes then, and no file is read.
 pub fn open_dump<D: Disk, N: Namer>(
     parts: &mut StoreParts<D, N>,
     alloc: Global,
     host: &HostName,
     kind: Kind,
     now: Moment,
+    token: Option<Token>,
 ) -> Result<Answer, Refusal>
     requires ready { parts.old.halted ≡ false }
     requires journal_ready { parts.old.journal.halted ≡ false }
-    ensures runs { Runs parts.old (OpenDumpEvent host.now kind now) result parts.new }
-    ensures base { OpensDump parts.old host.now kind now result parts.new }
+    ensures runs { Runs parts.old (OpenDumpEvent host.now kind now token) result parts.new }
+    ensures base { OpensDump parts.old host.now kind now token result parts.new }
 {
     let at = parts.host(host)?;
-    match broken_rule(&parts.sessions, at, &parts.catalog.hosts()[at], kind) {
+    let index = &parts.catalog.hosts()[at];
+    match repeated(&parts.sessions, at, index, token) {
+        Some(answer) => return Ok(answer),
+        None => {}
+    }
+    match broken_rule(&parts.sessions, at, index, kind) {
         Some(rule) => return Err(Refusal::Broken(rule)),
         None => {}
     }
@@ -170,7 +187,7 @@ pub fn open_dump<D: Disk, N: Namer>(
         Ok(begun) => begun,
         Err(refusal) => return Err(refusal),
     };
-    match open_with(parts, alloc, at, kind, now.seconds(), begun) {
+    match open_with(parts, alloc, at, kind, now.seconds(), token, begun) {
         Ok(name) => Ok(Answer::Dump(name)),
         Err(_) => Err(Refusal::Memory),
     }

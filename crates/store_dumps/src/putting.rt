@@ -22,11 +22,12 @@ ghost use Rattle.office_model.specs.declared.event.PutItem.TheVariants.{Whole};
 ghost use Rattle.tree_frames.specs.Frames.{bytes_of};
 ghost use Rattle.office_model.specs.History.{IsUndamaged};
 ghost use Rattle.store_parts.specs.Runs.{Runs};
-ghost use Rattle.open_sessions.specs.Opened.{OnlyDumps, AreAlike};
+ghost use Rattle.open_sessions.specs.Opened.{OnlyDumps, AreAlike, edited, IsFreshFor};
 ghost use Rattle.store_dumps.specs.Putting.{record_for, content_found, TakesIn, refused_put};
 
 use crate::claims::release;
 use crate::comparing::{claim_again, held_by, likely_content};
+use crate::tokens::{EditToken, judge_edit};
 use attr_records::{Item, PathName, PutRule};
 use attr_tables::{Record, StoredFile};
 use disk_trait::{Disk, PoolId};
@@ -36,6 +37,7 @@ use office_model::{Answer, BrokenRule, Refusal, SessionName};
 use open_sessions::Sessions;
 use pool_name::Namer;
 use pool_store::{Pool, PoolFault};
+use receipts::Token;
 use std::alloc::{AllocError, Global};
 use store_parts::{StoreParts, refusal_of_pool};
 
@@ -156,8 +158,8 @@ pub fn content_of(found: Option<&Record>) -> Option<PoolId>
     }
 }
 
-/// Puts an item into the tree of a dump, its bytes under this name; or says that memory is wanting or the first rule that this
-/// breaks, and the same is open as before.
+/// Puts an item into the tree of a dump, its bytes under this name, and the dump keeps the token, if there is one; or says that
+/// memory is wanting or the first rule that this breaks, and the same is open as before.
 fn put_item<S: Drop>(
     sessions: &mut Sessions<S>,
     alloc: Global,
@@ -165,11 +167,13 @@ fn put_item<S: Drop>(
     path: &PathName,
     item: &Item,
     content: Option<PoolId>,
+    token: Option<Token>,
 ) -> Result<(), PutFault>
     requires within { at < length sessions.old.dumps.items }
+    requires fresh { (dump : OpenDump) → slice_get sessions.old.dumps.items at ≡ Some dump → IsFreshFor dump.kept token }
     requires content { IsContentOf (length (bytes_of item.now)) content }
     ensures put { OnOk result ((dump : OpenDump) → slice_get sessions.old.dumps.items at ≡ Some dump
-        → sessions.new.dumps.items ≡ slice_set sessions.old.dumps.items at (record dump { tree = with_node dump.tree path.now (record_for item.now content) })) }
+        → sessions.new.dumps.items ≡ slice_set sessions.old.dumps.items at (edited dump (with_node dump.tree path.now (record_for item.now content)) token)) }
     ensures only { OnOk result (OnlyDumps sessions.old sessions.new) }
     ensures err { OnErr result (AreAlike sessions.old sessions.new) }
     ensures rule { IfErr result (λ fault. (rule : PutRule) (dump : OpenDump) → fault ≡ PutFault.Broken rule
@@ -178,26 +182,36 @@ fn put_item<S: Drop>(
 {
     let path = path.copy(alloc)?;
     let node = record_of(alloc, item, content)?;
-    sessions.put(at, path, node)
+    sessions.put(at, path, node, token)
 }
 
 /// Puts a node into the tree of an open dump, in the place of what was there, whose claim is let go. The bytes of a file get
 /// the name of the file in the pool that holds them, or are staged under a new one. After a refusal nothing has changed but
 /// that a file may have been staged, which is then to be swept.
+///
+/// With a token it is carried out once: with one that the dump keeps it is Done, before any file is looked at, and nothing changes;
+/// after Ok the dump keeps it.
 pub fn put<D: Disk, N: Namer>(
     parts: &mut StoreParts<D, N>,
     alloc: Global,
     session: SessionName,
     path: &PathName,
     item: &Item,
+    token: Option<Token>,
 ) -> Result<Answer, Refusal>
     requires ready { parts.old.halted ≡ false }
     requires journal_ready { parts.old.journal.halted ≡ false }
-    ensures runs { Runs parts.old (Put session path.now (Whole item.now)) result parts.new }
+    ensures runs { Runs parts.old (Put session path.now (Whole item.now) token) result parts.new }
     ensures undamaged { IsUndamaged result }
 {
     let at = parts.dump(session)?;
-    match broken_rule(&parts.sessions.dumps[at].tree, path, item) {
+    let dump = parts.sessions.dump(at);
+    match judge_edit(&dump.kept, token) {
+        EditToken::Fresh => {}
+        EditToken::Kept => return Ok(Answer::Done),
+        EditToken::Full => return Err(Refusal::Broken(BrokenRule::TokensFull)),
+    }
+    match broken_rule(&dump.tree, path, item) {
         Some(rule) => return Err(Refusal::Broken(BrokenRule::Put(rule))),
         None => {}
     }
@@ -208,7 +222,7 @@ pub fn put<D: Disk, N: Namer>(
         Err(fault) => return Err(refusal_of_pool(fault)),
     };
     let before = content_of(parts.sessions.find(at, path));
-    match put_item(&mut parts.sessions, alloc, at, path, item, content) {
+    match put_item(&mut parts.sessions, alloc, at, path, item, content, token) {
         Ok(()) => {
             release(&mut parts.pool, before);
             Ok(Answer::Done)

@@ -49,8 +49,8 @@ fn read_known<D: Disk, N: Namer>(
 }
 
 /// Opens a dump of a host's partial: of the kind that it was begun as and from when it was begun, with its tree, whose contents
-/// it claims. The partial stays. After a refusal nothing has changed; `Damaged` names the file of the partial, with what was
-/// found of it.
+/// it claims. The partial stays, and the dump has no token. After a refusal nothing has changed; `Damaged` names the file of the
+/// partial, with what was found of it.
 pub fn resume<D: Disk, N: Namer>(
     parts: &mut StoreParts<D, N>,
     alloc: Global,
@@ -75,7 +75,7 @@ pub fn resume<D: Disk, N: Namer>(
         Err(refusal) => return Err(refusal),
     };
     let begun = Begun { rows, hint: None };
-    match open_with(parts, alloc, at, kind, start, begun) {
+    match open_with(parts, alloc, at, kind, start, None, begun) {
         Ok(name) => Ok(Answer::Dump(name)),
         Err(_) => Err(Refusal::Memory),
     }

@@ -93,6 +93,7 @@ module _ {D N S : Type 0} {d : DiskGhosts D} (n : NamerGhosts N S) (old : Journa
       office = recovers.office;
       is_one = recovers.is_one;
       room = subst (λ (e : ℕ). e < last_sequence) (read ∙ epoch_is) room;
+      sound = recovers.stored.stands.sound;
       names = recovers.names;
       held = held recovers.office recovers.names recovers.held;
       fresh = λ id. subst IsFresh (sym (same id)) (recovers.fresh id);

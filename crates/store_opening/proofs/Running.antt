@@ -65,10 +65,6 @@ fresh_claims (Some Doomed) fresh = refl
 kept_none : (kept : Option KeptView) (hosts : List Host) (shown : List StoredHost) → kept ≡ None → IsKeptView kept hosts shown
 kept_none kept hosts shown e = subst (λ (k : Option KeptView). IsKeptView k hosts shown) (sym e) tt
 
--- the epoch is no part of what is sound
-not_raised : (kept : Durable) → IsSoundDurable (raised kept) → IsSoundDurable kept
-not_raised kept sound = record { hosts = sound.hosts; pool_order = sound.pool_order; of_backups = sound.of_backups; of_partials = sound.of_partials }
-
 abbrev numbered_from : ℕ → ℕ → Names → Names
 numbered_from next_stage next_reader names = record names { next_stage = next_stage; next_reader = next_reader }
 
@@ -104,8 +100,9 @@ module _ {D N S : Type 0} {d : DiskGhosts D} {n : NamerGhosts N S} where
   -- a store of these parts is at work
   fresh_running : (parts : StoreParts D N S d n) (found : Found N S n) (office : Durable) (names : Names)
       → IsOfFound parts found names.next_stage names.next_reader → AreFresh (slots parts)
-      → IsHeld parts.journal parts.pool parts.catalog parts.counts parts.partials (raised office) names → IsRunning parts (reopened office) names
-  fresh_running parts found office names is fresh held = record {
+      → IsSoundDurable office → IsHeld parts.journal parts.pool parts.catalog parts.counts parts.partials (raised office) names
+      → IsRunning parts (reopened office) names
+  fresh_running parts found office names is fresh sound held = record {
     working = record {
       ready = is.ready;
       stored = held.stored;
@@ -115,7 +112,7 @@ module _ {D N S : Type 0} {d : DiskGhosts D} {n : NamerGhosts N S} where
           parts.sessions is.none is.first is.numbers;
       view = kept_none parts.views.kept office.hosts held.stored.shown is.no_view;
       sound = record {
-        office = IsSound-reopened office (not_raised office held.stored.stands.sound);
+        office = IsSound-reopened office sound;
         names = record {
           distinct = held.stored.used.distinct;
           given = record { stages = λ i s at. absurd cc; readers = λ i r at. absurd cc };
@@ -131,7 +128,7 @@ module _ {D N S : Type 0} {d : DiskGhosts D} {n : NamerGhosts N S} where
       → IsRunning parts (reopened rose.office) (numbered_from next_stage next_reader rose.names)
   found_running parts journal found a b next_stage next_reader rose is same =
       fresh_running parts found rose.office (numbered_from next_stage next_reader rose.names) is
-      (subst (λ (p : Pool N S n). AreFresh (slots_of p.names)) (sym is.pool_is) rose.fresh)
+      (subst (λ (p : Pool N S n). AreFresh (slots_of p.names)) (sym is.pool_is) rose.fresh) rose.sound
       (held_from parts.journal parts.pool parts.catalog parts.counts parts.partials (raised rose.office) rose.names next_stage next_reader held)
     where
       held : IsHeld parts.journal parts.pool parts.catalog parts.counts parts.partials (raised rose.office) rose.names

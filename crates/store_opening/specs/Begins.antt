@@ -8,7 +8,7 @@ use Rattle.pool_name.specs.declared.namer.Namer.{Ghosts as NamerGhosts}
 use Rattle.intent_journal.specs.declared.journal.Journal.{Journal}
 use Rattle.pool_changes.specs.Kept.{slots_of}
 use Rattle.pool_store.specs.Opening.{AreFresh}
-use Rattle.office_model.specs.Office.{Durable, Names, raised, last_sequence}
+use Rattle.office_model.specs.Office.{Durable, Names, IsSoundDurable, raised, last_sequence}
 use Rattle.office_model.specs.Step.{IsPicked}
 use Rattle.store_parts.specs.Held.{IsEither, MayBe}
 use Rattle.store_opening.specs.declared.found.Found.{Found}
@@ -44,6 +44,7 @@ module _ {D N S : Type 0} {d : DiskGhosts D} {n : NamerGhosts N S} where
     pub office : Durable
     pub is_one : IsPicked a b office
     pub room : office.epoch < last_sequence
+    pub sound : IsSoundDurable office
     pub names : Names
     pub held : IsHeld new found.pool found.catalog found.counts found.partials (raised office) names
     pub open held use *

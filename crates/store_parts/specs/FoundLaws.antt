@@ -12,8 +12,8 @@ use Rattle.open_sessions.specs.declared.readers.OpenReader.{OpenReader}
 use Rattle.open_sessions.specs.Opened.{IsStage, IsReader}
 use Rattle.open_sessions.specs.SessionLaws.{dump_index-sessions, stage_index-sessions, reader_index-sessions}
 use Rattle.office_model.specs.declared.refusal.BrokenRule.TheVariants.{NoSession}
-use Rattle.office_model.specs.declared.session.SessionName.{SessionName}
-use Rattle.office_model.specs.Session.{is_same_session}
+use Rattle.receipts.specs.declared.session.SessionName.{SessionName}
+use Rattle.receipts.specs.Session.{is_same_session}
 use Rattle.office_model.specs.Office.{Office, Dump, Stage, Reader, Names, dump_index, stage_index, reader_index}
 use Rattle.office_model.specs.Parts.{dump_at, stage_at, reader_at}
 use Rattle.office_model.specs.Places.{position-found}

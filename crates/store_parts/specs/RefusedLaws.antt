@@ -16,8 +16,8 @@ use Rattle.office_model.specs.declared.refusal.BrokenRule.{BrokenRule}
 use Rattle.office_model.specs.declared.refusal.BrokenRule.TheVariants.{NoHost, NoSession}
 use Rattle.office_model.specs.declared.refusal.Refusal.{Refusal}
 use Rattle.office_model.specs.declared.refusal.Refusal.TheVariants.{Broken, DiskFault, Memory}
-use Rattle.office_model.specs.declared.session.SessionName.{SessionName}
-use Rattle.office_model.specs.Session.{is_same_session}
+use Rattle.receipts.specs.declared.session.SessionName.{SessionName}
+use Rattle.receipts.specs.Session.{is_same_session}
 use Rattle.office_model.specs.Office.{Office, Names, dump_index, restore_index, stage_index, reader_index}
 use Rattle.office_model.specs.Parts.{host_at, dump_at, restore_at, stage_at, reader_at}
 use Rattle.office_model.specs.Meaning.{Reply, ReadsAndCommits}

@@ -28,7 +28,7 @@ use Rattle.office_model.specs.declared.answer.Answer.TheVariants.{Done, Stage as
 use Rattle.office_model.specs.declared.event.Event.TheVariants.{StageOpen, StagePiece, StageDrop}
 use Rattle.office_model.specs.declared.refusal.BrokenRule.TheVariants.{NumbersSpent, BadPiece, Put as PutRule}
 use Rattle.office_model.specs.declared.refusal.Refusal.TheVariants.{Broken, DiskFault, Memory}
-use Rattle.office_model.specs.declared.session.SessionName.{SessionName}
+use Rattle.receipts.specs.declared.session.SessionName.{SessionName}
 use Rattle.office_model.specs.Office.{Office, Dump, Stage, Names, last_sequence, content_limit, with_stages}
 use Rattle.office_model.specs.Parts.{At, dump_at, stage_at}
 use Rattle.office_model.specs.Meaning.{Carried, Judged, ◌>>=◌, ◌>>◌, breaks}

@@ -13,7 +13,7 @@ use pool_name::Namer;
 
 impl<D: Disk, N: Namer> StoreParts<D, N> {
     ghost use Rattle.office_catalog.specs.Known.{host_named, names_of, line_numbered};
-    ghost use Rattle.office_model.specs.Session.{is_same_session};
+    ghost use Rattle.receipts.specs.Session.{is_same_session};
 
     /// The number of the host of a name. It refuses a name that no host has.
     pub fn host(&self, name: &HostName) -> Result<usize, BrokenRule>

@@ -14,7 +14,7 @@ use Rattle.open_sessions.specs.declared.sessions.OpenRestore.{OpenRestore}
 use Rattle.open_sessions.specs.Opened.{claims_in, OnlyRestores}
 use Rattle.open_sessions.specs.SessionLaws.{claims_in_restores-remove, AreSessions-claimed}
 use Rattle.open_sessions.specs.CallLaws.{AreSessions-restore_taken, claims_in-restore_taken}
-use Rattle.office_model.specs.declared.session.SessionName.{SessionName}
+use Rattle.receipts.specs.declared.session.SessionName.{SessionName}
 use Rattle.office_model.specs.declared.answer.Answer.TheVariants.{Done}
 use Rattle.office_model.specs.declared.event.Event.TheVariants.{CloseRead}
 use Rattle.office_model.specs.declared.refusal.BrokenRule.TheVariants.{NoSession}

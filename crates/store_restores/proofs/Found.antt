@@ -6,7 +6,7 @@ use Rattle.pool_name.specs.declared.namer.Namer.{Ghosts as NamerGhosts}
 use Rattle.open_sessions.specs.declared.sessions.OpenRestore.{OpenRestore}
 use Rattle.open_sessions.specs.Opened.{IsRestore}
 use Rattle.open_sessions.specs.SessionLaws.{restore_index-sessions}
-use Rattle.office_model.specs.declared.session.SessionName.{SessionName}
+use Rattle.receipts.specs.declared.session.SessionName.{SessionName}
 use Rattle.office_model.specs.declared.refusal.BrokenRule.TheVariants.{NoSession}
 use Rattle.office_model.specs.Office.{Office, Restore, Names, restore_index}
 use Rattle.office_model.specs.Parts.{restore_at}

@@ -8,9 +8,9 @@ use Rattle.disk_trait.specs.declared.disk.Disk.{Ghosts as DiskGhosts}
 use Rattle.pool_name.specs.declared.namer.Namer.{Ghosts as NamerGhosts}
 use Rattle.open_sessions.specs.declared.sessions.OpenRestore.{OpenRestore}
 use Rattle.office_model.specs.declared.refusal.Refusal.TheVariants as R
-use Rattle.office_model.specs.declared.session.SessionName.{SessionName}
+use Rattle.receipts.specs.declared.session.SessionName.{SessionName}
 use Rattle.office_model.specs.Meaning.{Reply}
-use Rattle.office_model.specs.Session.{is_same_session}
+use Rattle.receipts.specs.Session.{is_same_session}
 use Rattle.store_parts.specs.declared.parts.StoreParts.{StoreParts}
 
 -- the index of the restore of this name

@@ -13,7 +13,7 @@ use Rattle.stored_trees.specs.Occurrences.{occurrences}
 use Rattle.pool_changes.specs.Slots.{is_given}
 use Rattle.pool_changes.specs.Kept.{IsSame}
 use Rattle.office_model.specs.declared.answer.Answer.TheVariants.{Restore}
-use Rattle.office_model.specs.declared.session.SessionName.{SessionName}
+use Rattle.receipts.specs.declared.session.SessionName.{SessionName}
 use Rattle.office_model.specs.Meaning.{Reply}
 use Rattle.open_sessions.specs.declared.sessions.OpenRestore.{OpenRestore}
 use Rattle.open_sessions.specs.declared.sessions.Place.TheVariants.{Entry}

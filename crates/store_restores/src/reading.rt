@@ -2,7 +2,7 @@
 
 ghost use Rattle.std.specs.Prelude.{◌≡◌, ◌<◌, ◌-◌, ◌^◌, ℕ, false, Some, length, slice_get};
 ghost use Rattle.office_model.specs.declared.event.Event.TheVariants.{ReadNext};
-ghost use Rattle.office_model.specs.declared.session.SessionName.{SessionName as SessionNameValue};
+ghost use Rattle.receipts.specs.declared.session.SessionName.{SessionName as SessionNameValue};
 ghost use Rattle.open_sessions.specs.declared.sessions.Next.TheVariants.{Piece as NextPiece};
 ghost use Rattle.open_sessions.specs.declared.sessions.OpenRestore.{OpenRestore};
 ghost use Rattle.open_sessions.specs.Places.{next_in};

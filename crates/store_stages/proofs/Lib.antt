@@ -1,3 +1,4 @@
 pub mod Opens
 pub mod StageFiles
 pub mod Puts
+pub mod Repeats

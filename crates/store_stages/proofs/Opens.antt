@@ -2,7 +2,7 @@
 use Rattle.std.specs.Prelude.{◌≡◌, ℕ, List, Err}
 use Rattle.std.proofs.Common.{refl}
 use Rattle.office_model.specs.declared.refusal.BrokenRule.TheVariants.{NoSession}
-use Rattle.office_model.specs.declared.session.SessionName.{SessionName}
+use Rattle.receipts.specs.declared.session.SessionName.{SessionName}
 use Rattle.office_model.specs.Office.{Office, Names}
 use Rattle.office_model.specs.Parts.{dump_at, stage_at}
 use Rattle.office_model.specs.events.StageOpen as OpenEvent

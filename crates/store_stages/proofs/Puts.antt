@@ -2,7 +2,7 @@
 --     no_stage_put, no_dump_put, put_broken      a rule that it breaks
 --     runs_staged      the node was put, and the stage ended
 --     runs_staged_back, runs_staged_missed      the tree took no node, and the pool gave no name
-use Rattle.std.specs.Prelude.{◌≡◌, ◌<◌, ◌≤◌, ◌+◌, ℕ, nat_lt, Bool, true, false, List, length, Option, Some, None, Ok, Err, slice_get, slice_set, IsErrOf, ◌==◌}
+use Rattle.std.specs.Prelude.{◌≡◌, ◌<◌, ◌≤◌, ◌+◌, ℕ, nat_lt, Bool, true, false, not, List, length, Option, Some, None, Ok, Err, slice_get, slice_set, IsErrOf, ◌==◌}
 use Rattle.std.specs.List.{remove}
 use Rattle.std.proofs.Common.{refl, sym, ap, ◌∙◌, subst, arith}
 use Rattle.std.proofs.lemmas.Bool.Decides.{nat_tests}
@@ -42,11 +42,13 @@ use Rattle.office_model.specs.declared.event.Event.{Event}
 use Rattle.office_model.specs.declared.event.Event.TheVariants.{Put}
 use Rattle.office_model.specs.declared.event.PutItem.TheVariants.{Staged}
 use Rattle.office_model.specs.declared.event.StagedFile.{StagedFile}
-use Rattle.office_model.specs.declared.refusal.BrokenRule.TheVariants.{NoSession, Put as PutBroken}
-use Rattle.office_model.specs.declared.session.SessionName.{SessionName}
-use Rattle.office_model.specs.Session.{is_same_session}
-use Rattle.office_model.specs.Meaning.{Judged, Carried, Reply}
-use Rattle.office_model.specs.Office.{Office, Stage, Names, dump_index, stage_index, stage_content, content_limit, with_dumps}
+use Rattle.office_model.specs.declared.refusal.BrokenRule.TheVariants.{NoSession, Put as PutBroken, ChainFull, TokensFull}
+use Rattle.receipts.specs.declared.session.SessionName.{SessionName}
+use Rattle.receipts.specs.declared.session.Token.{Token}
+use Rattle.receipts.specs.Session.{is_same_session}
+use Rattle.office_model.specs.Meaning.{Judged, Carried, Reply, ◌>>=◌, ◌>>◌, breaks, found as find}
+use Rattle.office_model.specs.Parts.{At, at as stage_in, dump_at}
+use Rattle.office_model.specs.Office.{Office, Dump, Stage, Names, dump_index, stage_index, stage_content, content_limit, with_dumps}
 use Rattle.office_model.specs.Office as O
 use Rattle.office_model.specs.Places.{position-found}
 use Rattle.office_model.specs.UsedNames.{IsRenamed, IsNamedIf, OnlyUsed}
@@ -65,6 +67,9 @@ use Rattle.store_parts.specs.StagingLaws.{with_used}
 use Rattle.store_dumps.specs.Claims.{LetsGo, claims_of_content}
 use Rattle.store_dumps.specs.Putting.{record_for, content_found, TakesIn, refused_put}
 use Rattle.store_dumps.specs.DumpLaws.{IsFound, dump_found}
+use Rattle.store_dumps.specs.declared.tokens.EditToken.TheVariants.{Fresh, Full}
+use Rattle.store_dumps.specs.Tokens.{judged_token}
+use Rattle.store_dumps.specs.TokenLaws.{behind, carried_first, carried_full, once_missing, behind_set, fresh_for}
 use Rattle.store_dumps.specs.NodeLaws.{with_record}
 use Rattle.store_dumps.specs.StagedLaws.{staged_as}
 use Rattle.store_dumps.specs.PutLaws as PutLaws
@@ -86,8 +91,70 @@ named_if : (office : Office) (names : Names) (judged : Judged Carried) (reply : 
 named_if office names judged reply None used' same = (refl, ap (λ (n : Names). n.used) same)
 named_if office names judged reply (Some content) used' named = named
 
+-- no dump has the name
+module _ (session : SessionName) (path : List ℕ) (file : StagedFile) (token : Option Token) (office : Office) (names : Names)
+    (none : dump_at office.dumps session ≡ Err NoSession) where
+  abbrev full : Bool
+  full = PutEvent.is_chain_full office.pool office.dumps names (stage_content office.stages file.stage)
+
+  abbrev own : At Stage → Judged (At Stage)
+  own stage = breaks NoSession (not (is_same_session stage.value.dump session)) >> Ok stage
+
+  abbrev staged_by : At Stage → Judged PutEvent.Putting
+  staged_by stage = PutEvent.with_put PutEvent.is_over session path (staged_item file stage.value.bytes) full office.dumps
+      >>= λ dumps. Ok (record { dumps = dumps; stages = remove office.stages stage.index })
+
+  abbrev done_by : PutEvent.Putting → Judged Carried
+  done_by made = Ok (record { answer = Done; after = O.with_stages (with_dumps office made.dumps) made.stages })
+
+  -- by the stage that was found
+  abbrev put_at : Judged (At Stage) → Judged Carried
+  put_at stage = ((stage >>= own) >>= staged_by) >>= done_by
+
+  by_same : (index : ℕ) (stage : Stage) (same : Bool) → is_same_session stage.dump session ≡ same
+      → put_at (Ok (record { index = index; value = stage })) ≡ Err NoSession
+  by_same index stage true is = rw (is, none) refl
+  by_same index stage false is = rw is refl
+
+  abbrev stage_as : ℕ → Stage → Judged (At Stage)
+  stage_as index value = Ok (record { index = index; value = value })
+
+  by_value : (index : ℕ) (value : Option Stage)
+      → put_at (find NoSession value >>= stage_as index) ≡ Err NoSession
+  by_value index None = refl
+  by_value index (Some stage) = by_same index stage (is_same_session stage.dump session) refl
+
+  by_place : (place : Option ℕ) → put_at (stage_in NoSession office.stages place) ≡ Err NoSession
+  by_place None = refl
+  by_place (Some index) = by_value index (slice_get office.stages index)
+
+  pub no_dump_put : PutEvent.carried session path (Staged file) token office names ≡ Err NoSession
+  no_dump_put =
+      once_missing session token office.dumps (PutEvent.repeated session (Staged file) office)
+      (PutEvent.put session path (Staged file) office names) none (by_place (stage_index office.stages file.stage))
+
 module _ {D N S : Type 0} {d : DiskGhosts D} {n : NamerGhosts N S} where
-  module _ (old : StoreParts D N S d n) (session : SessionName) (path : List ℕ) (file : StagedFile) where
+  module _ (old : StoreParts D N S d n) (session : SessionName) (path : List ℕ) (file : StagedFile) (token : Option Token) where
+    abbrev put_of : Office → Names → Judged Carried
+    put_of office names = PutEvent.put session path (Staged file) office names
+
+    -- ---- what the dump's tokens say
+
+    module _ (index : ℕ) (dump : OpenDump) (e : Some index ≡ dump_place old session)
+        (there : slice_get old.sessions.dumps.items index ≡ Some dump) where
+      -- what it makes, with the token kept
+      first_made : judged_token dump.kept token ≡ Fresh → (office : Office) (names : Names) → IsRunning old office names
+          → (made : Judged Carried) → put_of office names ≡ made
+          → PutEvent.carried session path (Staged file) token office names ≡ (made >>= λ made. Ok (behind index token made))
+      first_made first office names at made is = carried_first old session token index dump e there office names at
+          (PutEvent.repeated session (Staged file) office) (put_of office names) first made is
+
+      -- there is no room for it
+      pub put_full : judged_token dump.kept token ≡ Full → (office : Office) (names : Names) → IsRunning old office names
+          → PutEvent.carried session path (Staged file) token office names ≡ Err TokensFull
+      put_full full office names at = carried_full old session token index dump e there office names at
+          (PutEvent.repeated session (Staged file) office) (put_of office names) full
+
     -- the open stage in memory at the place that was found
     held_there : (office : Office) (names : Names) (at : IsRunning old office names) (p : ℕ) → Some p ≡ stage_place old file.stage
         → (held : OpenStage S) × (slice_get old.sessions.stages.items.items p ≡ Some held)
@@ -99,14 +166,14 @@ module _ {D N S : Type 0} {d : DiskGhosts D} {n : NamerGhosts N S} where
         other_at office.stages old.sessions.stages.items.items p value.0 at.sessions.stages.counted value.1
 
     -- no stage of the dump has the number
-    pub no_stage_put : ((index : ℕ) (held : OpenStage S) → Some index ≡ stage_place old file.stage
+    no_stage : ((index : ℕ) (held : OpenStage S) → Some index ≡ stage_place old file.stage
         → slice_get old.sessions.stages.items.items index ≡ Some held → is_same_session held.dump session ≡ false)
         → (office : Office) (names : Names) → IsRunning old office names
-        → PutEvent.carried session path (Staged file) office names ≡ Err NoSession
-    no_stage_put none office names at = step (stage_index office.stages file.stage) refl
+        → put_of office names ≡ Err NoSession
+    no_stage none office names at = step (stage_index office.stages file.stage) refl
       where
         step : (place : Option ℕ) → stage_index office.stages file.stage ≡ place
-            → PutEvent.carried session path (Staged file) office names ≡ Err NoSession
+            → put_of office names ≡ Err NoSession
         step None e = rw e refl
         step (Some index) e =
             let there : Some index ≡ stage_place old file.stage =
@@ -118,20 +185,18 @@ module _ {D N S : Type 0} {d : DiskGhosts D} {n : NamerGhosts N S} where
             ap (λ (s : SessionName). is_same_session s session) (sym f.is.dump) ∙ none index held.0 there held.1 in
             rw (f.is_at, other) refl
 
-    -- no dump has the name
-    pub no_dump_put : (p : ℕ) → Some p ≡ stage_place old file.stage
-        → ((held : OpenStage S) → slice_get old.sessions.stages.items.items p ≡ Some held → is_same_session held.dump session ≡ true)
-        → None ≡ dump_place old session → (office : Office) (names : Names) → IsRunning old office names
-        → PutEvent.carried session path (Staged file) office names ≡ Err NoSession
-    no_dump_put p e_stage of_dump none office names at =
-        let held = held_there office names at p e_stage in
-        let f = stage_found old office names at file.stage p held.0 e_stage held.1 in
-        let same : is_same_session f.value.dump session ≡ true =
-        ap (λ (s : SessionName). is_same_session s session) (sym f.is.dump) ∙ of_dump held.0 held.1 in
-        let is : dump_index office.dumps session ≡ None =
-        dump_index-sessions (given (slots old)) (contents_of at.all) office.dumps old.sessions.dumps.items at.sessions.dumps session
-        ∙ sym none in
-        rw (f.is_at, same, is) refl
+    pub no_stage_put : (index : ℕ) → Some index ≡ dump_place old session
+        → ((dump : OpenDump) → slice_get old.sessions.dumps.items index ≡ Some dump → judged_token dump.kept token ≡ Fresh)
+        → ((index : ℕ) (held : OpenStage S) → Some index ≡ stage_place old file.stage
+        → slice_get old.sessions.stages.items.items index ≡ Some held → is_same_session held.dump session ≡ false)
+        → (office : Office) (names : Names) → IsRunning old office names
+        → PutEvent.carried session path (Staged file) token office names ≡ Err NoSession
+    no_stage_put index e first none office names at =
+        let there : dump_index office.dumps session ≡ Some index =
+        dump_index-sessions (given (slots old)) (contents_of at.all) office.dumps old.sessions.dumps.items at.sessions.dumps session ∙ sym e in
+        let value = position-found (λ (dump : Dump). is_same_session dump.name session) office.dumps index there in
+        let dump = other_at office.dumps old.sessions.dumps.items index value.0 at.sessions.dumps.counted value.1 in
+        first_made index dump.0 e dump.1 (first dump.0 dump.1) office names at (Err NoSession) (no_stage none office names at)
 
     module _ (p : ℕ) (held : OpenStage S) (e_stage : Some p ≡ stage_place old file.stage)
         (stage_there : slice_get old.sessions.stages.items.items p ≡ Some held) (of_dump : is_same_session held.dump session ≡ true) where
@@ -145,15 +210,15 @@ module _ {D N S : Type 0} {d : DiskGhosts D} {n : NamerGhosts N S} where
         same_dump : is_same_session stage.value.dump session ≡ true
         same_dump = ap (λ (s : SessionName). is_same_session s session) (sym stage.is.dump) ∙ of_dump
 
-        judged_where : (full : Bool) → PutEvent.is_chain_full office.pool office.dumps names (some_bytes stage.value.bytes) ≡ full
-            → PutEvent.carried session path (Staged file) office names ≡ PutEvent.staged_where session path file full office
-        judged_where full is =
+        judged_where : (is_full : Bool) → PutEvent.is_chain_full office.pool office.dumps names (some_bytes stage.value.bytes) ≡ is_full
+            → put_of office names ≡ PutEvent.staged_where session path file is_full office
+        judged_where is_full is =
             ap (λ (b : Bool). PutEvent.staged_where session path file b office)
             (ap (PutEvent.is_chain_full office.pool office.dumps names)
             (stage_content_is office.stages file.stage p stage.value stage.place stage.there) ∙ is)
 
       module _ (index : ℕ) (dump : OpenDump) (e : Some index ≡ dump_place old session)
-          (there : slice_get old.sessions.dumps.items index ≡ Some dump) where
+          (there : slice_get old.sessions.dumps.items index ≡ Some dump) (first : judged_token dump.kept token ≡ Fresh) where
         abbrev RuleIs : Option PutRule → Type 0
         RuleIs rule = IsTree is_dir dump.tree → broken_rule is_dir dump.tree path false false ≡ rule
 
@@ -180,20 +245,29 @@ module _ {D N S : Type 0} {d : DiskGhosts D} {n : NamerGhosts N S} where
               ∙ ap (λ (large : Bool). broken_rule is_dir dump.tree path false large) fits ∙ is tree_is
 
           abbrev next : Office
-          next = O.with_stages (with_dumps office (dumps_with office index found.value path (node office names at))) (remove office.stages p)
+          next = O.with_stages (with_dumps office (dumps_with office index found.value path (node office names at) token)) (remove office.stages p)
 
           put_judged : RuleIs None → PutEvent.is_chain_full office.pool office.dumps names (some_bytes (stage office names at).value.bytes) ≡ false
-              → PutEvent.carried session path (Staged file) office names ≡ Ok (record { answer = Done; after = next })
+              → PutEvent.carried session path (Staged file) token office names ≡ Ok (record { answer = Done; after = next })
           put_judged rule free =
-              judged_where office names at false free
-              ∙ rw ((stage office names at).is_at, same_dump office names at, found.is_at, rule_is None rule) refl
+              first_made index dump e there first office names at (Ok (record {
+                answer = Done;
+                after = O.with_stages
+                    (with_dumps office (slice_set office.dumps index (PutEvent.with_item found.value path (node office names at))))
+                    (remove office.stages p);
+              }))
+              (judged_where office names at false free
+              ∙ rw ((stage office names at).is_at, same_dump office names at, found.is_at, rule_is None rule) refl)
+              ∙ ap Ok (behind_set office index token found.value (PutEvent.with_item found.value path (node office names at))
+              (remove office.stages p) Done found.there)
 
           -- a put that breaks no rule
-          put_is : RuleIs None → IsPut session path (Staged file) office names (stage office names at).value.bytes
+          put_is : RuleIs None → IsPut session path (Staged file) token office names (stage office names at).value.bytes
           put_is rule = record {
             full = λ full.
-                judged_where office names at true full
-                ∙ rw ((stage office names at).is_at, same_dump office names at, found.is_at, rule_is None rule) refl;
+                first_made index dump e there first office names at (Err ChainFull)
+                (judged_where office names at true full
+                ∙ rw ((stage office names at).is_at, same_dump office names at, found.is_at, rule_is None rule) refl);
             named = λ used' free named reply.
                 let c : Carried = record { answer = Done; after = next } in
                 subst (λ (j : Judged Carried). OnlyUsed names (with_used names used')
@@ -206,9 +280,9 @@ module _ {D N S : Type 0} {d : DiskGhosts D} {n : NamerGhosts N S} where
           }
 
         broken_at : (rule : PutRule) → RuleIs (Some rule) → (office : Office) (names : Names) → IsRunning old office names
-            → PutEvent.carried session path (Staged file) office names ≡ Err (PutBroken rule)
-        broken_at rule is office names at =
-            rw ((stage office names at).is_at, same_dump office names at, (found office names at).is_at, rule_is office names at (Some rule) is) refl
+            → PutEvent.carried session path (Staged file) token office names ≡ Err (PutBroken rule)
+        broken_at rule is office names at = first_made index dump e there first office names at (Err (PutBroken rule))
+            (rw ((stage office names at).is_at, same_dump office names at, (found office names at).is_at, rule_is office names at (Some rule) is) refl)
 
         -- ---- the answers, behind the pool's
 
@@ -218,7 +292,7 @@ module _ {D N S : Type 0} {d : DiskGhosts D} {n : NamerGhosts N S} where
             (crash : (all : Files) → d.files old.journal.disk ≡ Some all → IsCertain (slots old) (d.uncertain old.journal.disk)
             → Leaves d.moment d.left_since old.journal.disk journal.disk (ComesTo all (unlisted (slots old)))) where
           abbrev event : Event
-          event = Put session path (Staged file)
+          event = Put session path (Staged file) token
 
           abbrev mid : StoreParts D N S d n
           mid = record old { journal = journal; pool = pool }
@@ -234,7 +308,7 @@ module _ {D N S : Type 0} {d : DiskGhosts D} {n : NamerGhosts N S} where
             row = FileRecord (record { attr = file.attr; group = file.group; size = held.size; content = content })
 
             taken : (office : Office) (names : Names) (at : IsRunning old office names)
-                → IsTaken old session path (Staged file) journal pool form stays certain crash content office names at (node office names at)
+                → IsTaken old session path (Staged file) token journal pool form stays certain crash content office names at (node office names at)
             taken office names at =
                 let f = stage office names at in
                 let shape_is : IsContentOf (length f.value.bytes) content = subst (λ (k : ℕ). IsContentOf k content) f.is.size shape in
@@ -256,18 +330,18 @@ module _ {D N S : Type 0} {d : DiskGhosts D} {n : NamerGhosts N S} where
                 → (((id : PoolId) → claims_of_content (content_found (node_at dump.tree path)) id ≤ claims_of (slots mid id))
                 → LetsGo (λ id. claims_of_content (content_found (node_at dump.tree path)) id) (slots mid) (slots new))
                 → new.pool.in_one_file ≡ pool.in_one_file
-                → edited.dumps.items ≡ slice_set old.sessions.dumps.items index (with_record dump path row)
+                → edited.dumps.items ≡ slice_set old.sessions.dumps.items index (with_record dump path row token)
                 → OnlyDumps old.sessions edited → OnlyStages edited new.sessions
                 → new.sessions.stages.items.items ≡ remove edited.stages.items.items p → new.sessions.stages.next ≡ edited.stages.next
                 → Counted (d.fault_count old.journal.disk) (d.fault_count journal.disk) failed → (failed → ⊥) → Runs old event (Ok Done) new
             runs_staged new edited same catalog counts partials views halted go kept dumps only ends items next_stage counted fine =
-                PutLaws.runs_put old session path (Staged file) journal pool form stays certain crash content new same catalog counts partials views halted
+                PutLaws.runs_put old session path (Staged file) token journal pool form stays certain crash content new same catalog counts partials views halted
                 kept counted fine index dump e there go
                 (λ office names at.
                 let t = taken office names at in
                 let dumps_are : edited.dumps.items ≡ slice_set old.sessions.dumps.items index
-                (with_record dump path (record_for (node office names at) content)) =
-                dumps ∙ ap (λ (r : Record). slice_set old.sessions.dumps.items index (with_record dump path r)) (row_is office names at) in
+                (with_record dump path (record_for (node office names at) content) token) =
+                dumps ∙ ap (λ (r : Record). slice_set old.sessions.dumps.items index (with_record dump path r token)) (row_is office names at) in
                 record {
                   node = node office names at;
                   taken = t;
@@ -275,14 +349,14 @@ module _ {D N S : Type 0} {d : DiskGhosts D} {n : NamerGhosts N S} where
                   judged = put_judged office names at rule t.staged.free;
                   sessions = AreSessions-stage_taken edited new.sessions ends n.holds (given (slots mid)) (contents_of t.staged.has.all')
                       (staging_of t.staged.has.all' (with_used names t.staged.has.used'))
-                      (record office.volatile { dumps = dumps_with office index (found office names at).value path (node office names at) })
-                      (PutLaws.sessions_edited old session path (Staged file) journal pool form stays certain crash content office names at
-                      (node office names at) t index dump e there edited dumps_are only) p items next_stage;
+                      (record office.volatile { dumps = dumps_with office index (found office names at).value path (node office names at) token })
+                      (PutLaws.sessions_edited old session path (Staged file) token journal pool form stays certain crash content office names at
+                      (node office names at) t index dump e there edited dumps_are only (fresh_for dump.kept token first)) p items next_stage;
                   claims = λ id.
                       ap (λ (k : ℕ). k + claims_of_content (content_found (node_at dump.tree path)) id)
                       (claims_in-stages edited new.sessions ends id)
-                      ∙ PutLaws.claims_edited old session path (Staged file) journal pool form stays certain crash content office names at
-                      (node office names at) t index dump e there edited dumps_are only id;
+                      ∙ PutLaws.claims_edited old session path (Staged file) token journal pool form stays certain crash content office names at
+                      (node office names at) t index dump e there edited dumps_are only (fresh_for dump.kept token first) id;
                 })
 
             -- it was not, and the claim is let go
@@ -297,7 +371,7 @@ module _ {D N S : Type 0} {d : DiskGhosts D} {n : NamerGhosts N S} where
                 → Counted (d.fault_count old.journal.disk) (d.fault_count journal.disk) failed → (failed → ⊥)
                 → Runs old event (Err (refused_put fault)) new
             runs_staged_back new fault says same catalog counts partials views halted go kept alike counted fine =
-                PutLaws.runs_put_back old session path (Staged file) journal pool form stays certain crash content new same catalog counts partials views
+                PutLaws.runs_put_back old session path (Staged file) token journal pool form stays certain crash content new same catalog counts partials views
                 halted kept counted fine fault
                 (λ office names at broken is.
                 let tree = tree_is office names at in none_some broken (sym (rule tree) ∙ says broken is tree))
@@ -311,7 +385,7 @@ module _ {D N S : Type 0} {d : DiskGhosts D} {n : NamerGhosts N S} where
               → Counted (d.fault_count old.journal.disk) (d.fault_count journal.disk) (IsErrOf {T = Option PoolId} (Err fault) P.Disk)
               → Runs old event (Err (refusal_of_pool fault)) mid
           runs_staged_missed fault some misses lost undamaged counted =
-              PutLaws.runs_missed old session path (Staged file) journal pool form stays certain crash fault undamaged
+              PutLaws.runs_missed old session path (Staged file) token journal pool form stays certain crash fault undamaged
               (λ office names at.
               let f = stage office names at in
               record {
@@ -325,9 +399,9 @@ module _ {D N S : Type 0} {d : DiskGhosts D} {n : NamerGhosts N S} where
     pub put_broken : (p : ℕ) (e_stage : Some p ≡ stage_place old file.stage)
         → ((held : OpenStage S) → slice_get old.sessions.stages.items.items p ≡ Some held → is_same_session held.dump session ≡ true)
         → (index : ℕ) (dump : OpenDump) → Some index ≡ dump_place old session → slice_get old.sessions.dumps.items index ≡ Some dump
-        → (rule : PutRule) → (IsTree is_dir dump.tree → broken_rule is_dir dump.tree path false false ≡ Some rule)
+        → judged_token dump.kept token ≡ Fresh → (rule : PutRule) → (IsTree is_dir dump.tree → broken_rule is_dir dump.tree path false false ≡ Some rule)
         → (office : Office) (names : Names) → IsRunning old office names
-        → PutEvent.carried session path (Staged file) office names ≡ Err (PutBroken rule)
-    put_broken p e_stage of_dump index dump e there rule is office names at =
+        → PutEvent.carried session path (Staged file) token office names ≡ Err (PutBroken rule)
+    put_broken p e_stage of_dump index dump e there first rule is office names at =
         let held = held_there office names at p e_stage in
-        broken_at p held.0 e_stage held.1 (of_dump held.0 held.1) index dump e there rule is office names at
+        broken_at p held.0 e_stage held.1 (of_dump held.0 held.1) index dump e there first rule is office names at

@@ -6,7 +6,7 @@
 //! | [`stage_open`] | opens a stage of an open dump |
 //! | [`stage_piece`] | puts the next bytes into a stage |
 //! | [`stage_drop`] | drops a stage |
-//! | [`put_staged`] | puts the bytes of a stage at a path of its dump, and ends it |
+//! | [`put_staged`] | puts the bytes of a stage at a path of its dump, and ends it; with a token, once |
 //!
 //! A stage ends with an answer to its put, with its drop, with its dump, and with a fault of the disk in a piece. Its file stays
 //! until a sweep: the first piece of a stage makes its file anew, so what an earlier opening of the store left there never shows.

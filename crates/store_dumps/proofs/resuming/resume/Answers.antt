@@ -1,4 +1,4 @@
-use Rattle.std.proofs.Common.{refl}
+use Rattle.std.proofs.Common.{refl, None}
 use Rattle.office_model.specs.declared.refusal.BrokenRule.TheVariants.{NoPartial}
 use Rattle.store_parts.specs.RefusalLaws.{runs_broken_by}
 use Rattle.store_parts.specs.RefusedLaws.{runs_broken, runs_no_host}
@@ -54,7 +54,7 @@ returns-in-Ok-open_with-clause-base g c =
         file = c.in-Ok.file;
         tells = c.in-Ok.ensures.tells;
         opened = opened_since c.args.parts.now c.read_known.new.parts c.in-Ok.ensures.reads c.in_ok-at.at c.in-Ok.file.kind
-            c.in-Ok.file.start c.in-Ok.file.rows c.in-Ok-open_with.name c.open_with.new.parts.sessions
+            c.in-Ok.file.start None c.in-Ok.file.rows c.in-Ok-open_with.name c.open_with.new.parts.sessions
             c.in-Ok-open_with.ensures.ok.sessions;
       },
     )

@@ -1,7 +1,7 @@
 use Rattle.std.specs.Prelude.{not}
 use Rattle.std.proofs.Common.{rules}
 use Rattle.std.proofs.lemmas.Fn.{filter_same}
-use Rattle.office_model.specs.Session.{is_same_session}
+use Rattle.receipts.specs.Session.{is_same_session}
 use Rattle.open_sessions.specs.declared.stages.OpenStage.{OpenStage}
 use Rattle.open_sessions.proofs.Turns.{filtered_in_turn}
 use Rattle.open_sessions.proofs.stages.Stages.end_those_of.Goals as goal
