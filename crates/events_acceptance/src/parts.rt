@@ -172,7 +172,7 @@ fn put(
         filled: true,
         keep: false,
     };
-    let change = catalog.propose_line(alloc, 0, line, false)?;
+    let change = catalog.propose_line(alloc, 0, line, false, None)?;
     make(alloc, journal, catalog, change)
 }
 

@@ -171,7 +171,7 @@ fn begin(alloc: Global, parts: &mut Parts, kind: Kind) -> Result<Result<Answer, 
         return Err(Fail::new("the store is halted"));
     }
     let host = HostName::read(alloc, b"a")?;
-    Ok(open_dump(parts, alloc, &host, kind, Moment::first()))
+    Ok(open_dump(parts, alloc, &host, kind, Moment::first(), None))
 }
 
 fn carry_out(
@@ -195,11 +195,11 @@ fn carry_out(
                 group: 0,
                 bytes: Bytes::from_slice(alloc, text.as_bytes())?,
             });
-            Ok(put(parts, alloc, session, &path, &item))
+            Ok(put(parts, alloc, session, &path, &item, None))
         }
         Ask::Remove(path) => {
             let path = PathName::read(alloc, path.as_bytes())?;
-            Ok(remove(parts, alloc, session, &path))
+            Ok(remove(parts, alloc, session, &path, None))
         }
         Ask::Commit => Ok(commit_dump(parts, alloc, session, Moment::first())),
     }

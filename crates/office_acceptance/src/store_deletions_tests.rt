@@ -157,12 +157,19 @@ fn commit(
     bytes: &[u8],
 ) -> Result<Result<Answer, Refusal>, Fail> {
     expect_ready(parts)?;
-    let dump = match open_dump(parts, alloc, host, Kind::Full, moment()) {
+    let dump = match open_dump(parts, alloc, host, Kind::Full, moment(), None) {
         Ok(Answer::Dump(dump)) => dump,
         _ => return Err(Fail::new("no dump")),
     };
     expect_ready(parts)?;
-    match put(parts, alloc, dump, &path(alloc)?, &file(alloc, bytes)?) {
+    match put(
+        parts,
+        alloc,
+        dump,
+        &path(alloc)?,
+        &file(alloc, bytes)?,
+        None,
+    ) {
         Ok(Answer::Done) => {}
         _ => return Err(Fail::new("not put")),
     }

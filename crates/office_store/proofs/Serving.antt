@@ -55,7 +55,7 @@ put_stays a b names (Staged file) = ((refl, refl, refl), refl)
 stays_halted : (a b : Durable) (names : Names) (event : Event) → is_reopen event ≡ false
     → IsStep (Halted a b names) event (Err HaltedReply) (Halted a b names)
 stays_halted a b names Reopen other = absurd (false≢true (sym other))
-stays_halted a b names (Put session path item) other = put_stays a b names item
+stays_halted a b names (Put session path item token) other = put_stays a b names item
 stays_halted a b names event other = ((refl, refl, refl), refl)
 
 module _ {D N S : Type 0} {d : DiskGhosts D} {n : NamerGhosts N S} where

@@ -20,7 +20,7 @@ use Rattle.office_model.specs.declared.event.Event.TheVariants as E
 use Rattle.office_model.specs.declared.event.PutItem.{PutItem}
 use Rattle.office_model.specs.declared.event.PutItem.TheVariants.{Whole, Staged}
 use Rattle.office_model.specs.declared.refusal.Refusal.TheVariants as R
-use Rattle.office_model.specs.declared.session.SessionName.{SessionName}
+use Rattle.receipts.specs.declared.session.SessionName.{SessionName}
 use Rattle.office_model.specs.Meaning.{Reply}
 use Rattle.office_model.specs.History.{IsUndamaged}
 use Rattle.open_sessions.specs.declared.readers.OpenReader.{OpenReader}
@@ -96,9 +96,9 @@ module _ {D N S : Type 0} {d : DiskGhosts D} {n : NamerGhosts N S} where
   SaysOfFiles old (E.OpenFile host number path) reply new = IsReadReply (ReadsTree old host number) (HasDamagedTable old host number)
       (λ rows answer. OpensFile n.holds old.sessions path rows answer new.sessions) reply
   SaysOfFiles old (E.ReadPart number) reply new = PartSays old number reply new
-  SaysOfFiles old (E.Put session path item) reply new = PutSays old item reply
+  SaysOfFiles old (E.Put session path item token) reply new = PutSays old item reply
   SaysOfFiles old E.Sweep reply new = SweepSays old reply new
-  SaysOfFiles old (E.OpenDump host kind now) reply new = OpensDump old host kind now reply new
+  SaysOfFiles old (E.OpenDump host kind now token) reply new = OpensDump old host kind now token reply new
   SaysOfFiles old (E.Resume host) reply new = ResumesDump old host reply new
   SaysOfFiles old (E.Commit session now) reply new = HeedsTables old session reply new
   SaysOfFiles old (E.Park session) reply new = HeedsPartial old (IsKnownFor old session) reply new

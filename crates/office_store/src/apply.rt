@@ -45,12 +45,22 @@ fn carry_out<D: Disk, N: Namer>(
     match event {
         Event::AddHost { host, rules } => add_host(parts, alloc, host, rules),
         Event::SetRules { host, change } => set_rules(parts, alloc, host, change),
-        Event::OpenDump { host, kind, now } => open_dump(parts, alloc, host, *kind, *now),
-        Event::Put { dump, path, item } => match item {
-            PutItem::Whole(item) => put(parts, alloc, *dump, path, item),
-            PutItem::Staged(file) => put_staged(parts, alloc, *dump, path, file),
+        Event::OpenDump {
+            host,
+            kind,
+            now,
+            token,
+        } => open_dump(parts, alloc, host, *kind, *now, *token),
+        Event::Put {
+            dump,
+            path,
+            item,
+            token,
+        } => match item {
+            PutItem::Whole(item) => put(parts, alloc, *dump, path, item, *token),
+            PutItem::Staged(file) => put_staged(parts, alloc, *dump, path, file, *token),
         },
-        Event::Remove { dump, path } => remove(parts, alloc, *dump, path),
+        Event::Remove { dump, path, token } => remove(parts, alloc, *dump, path, *token),
         Event::StageOpen { dump } => stage_open(parts, *dump),
         Event::StagePiece { stage, bytes } => stage_piece(parts, *stage, bytes.as_slice()),
         Event::StageDrop { stage } => stage_drop(parts, *stage),

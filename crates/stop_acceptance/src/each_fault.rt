@@ -74,7 +74,7 @@ fn when_at_work(alloc: Global, rows: &[Row], place: usize) -> Result<Vec<u8>, Fa
     Ok(output)
 }
 
-/// What is asked behind a fault: the store is opened again, and the nine questions.
+/// What is asked behind a fault: the store is opened again, and the questions.
 fn asked_again(alloc: Global) -> Result<Vec<u8>, AllocError> {
     let mut input = Vec::new(alloc);
     put_request(&mut input, alloc, "POST /reopen", "")?;

@@ -9,14 +9,17 @@ use store_talks::talks::{
 };
 use tree_office::TreeOffice;
 
-/// A full dump with one file.
+const TOKEN_OPENING: &str =
+    "POST /hosts/pc1/dumps?kind=full&token=00112233445566778899aabbccddeeff";
+
+const TOKEN_PUT: &str =
+    "PUT /dumps/1-0/entry?path=a.txt&kind=file&token=ffeeddccbbaa99887766554433221100";
+
+/// A full dump with one file: its opening and its put bear tokens, and the put is made twice.
 const FULL: &[Row] = &[
-    Row(
-        "POST /hosts/pc1/dumps?kind=full",
-        "",
-        Says::Json(MADE, "{\"dump\":\"1-0\"}"),
-    ),
-    Row("PUT /dumps/1-0/entry?path=a.txt&kind=file", "hello", DONE),
+    Row(TOKEN_OPENING, "", Says::Json(MADE, "{\"dump\":\"1-0\"}")),
+    Row(TOKEN_PUT, "hello", DONE),
+    Row(TOKEN_PUT, "hello", DONE),
     Row(
         "POST /dumps/1-0/commit",
         "",
@@ -112,8 +115,9 @@ pub fn rows_of(alloc: Global, events: usize) -> Result<Vec<Row>, Fail> {
     Ok(rows)
 }
 
-/// The questions: hosts, backups, the partial, lists, files, numbers, the counts of contacts, a cleaning, a sweep, and a further dump
-/// with what it keeps. The dump's name goes by how often the store was opened, so it is asked for by three names.
+/// The questions: hosts, backups, the partial, lists, files, numbers, the counts of contacts, a cleaning, a sweep, a further dump with
+/// what it keeps, and the first dump's opening once more, which its receipt answers. The further dump's name goes by how often the store
+/// was opened, so it is asked for by three names; where one is that of the first dump, its receipt answers the commit.
 const QUESTIONS: &[(&str, &str)] = &[
     ("GET /hosts", ""),
     ("GET /hosts/pc1/backups", ""),
@@ -138,6 +142,7 @@ const QUESTIONS: &[(&str, &str)] = &[
     ("GET /hosts/pc1/backups/1/file?path=b", ""),
     ("GET /hosts/pc1/backups/2/file?path=b", ""),
     ("GET /hosts/pc1/backups/3/file?path=b", ""),
+    (TOKEN_OPENING, ""),
     ("GET /stats", ""),
 ];
 
@@ -157,7 +162,7 @@ pub struct State {
     pub epoch: usize,
 }
 
-/// What it answers to the nine questions in a state.
+/// What it answers to the questions in a state.
 #[derive(Drop)]
 pub struct Said {
     pub state: State,

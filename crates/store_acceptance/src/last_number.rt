@@ -5,6 +5,7 @@ use backup_index::{HostIndex, LineList, write_host_index};
 use backup_rules::Rules;
 use disk_trait::{Bytes, Disk, FileId};
 use pool_name::Md5Namer;
+use receipts::ReceiptList;
 use std::alloc::Global;
 use std::test::Fail;
 use store_talks::talks::{DONE, HOST, MADE, NOW, OK, Row, Says, blank_disk, expect_talk};
@@ -13,7 +14,9 @@ use store_talks::talks::{DONE, HOST, MADE, NOW, OK, Row, Says, blank_disk, expec
 fn spent_index(alloc: Global) -> Result<Bytes, Fail> {
     let name = HostName::read(alloc, b"pc1")?;
     let rules = Rules::defaults(alloc)?;
-    match HostIndex::new(0, name, rules, 0, 0, 4_294_967_295, LineList::new(alloc)) {
+    let receipts = ReceiptList::new(alloc);
+    let lines = LineList::new(alloc);
+    match HostIndex::new(0, name, rules, 0, 0, 4_294_967_295, receipts, lines) {
         Ok(index) => Ok(write_host_index(alloc, &index.parts())?),
         Err(_) => Err(Fail::new("no index")),
     }

@@ -1,6 +1,6 @@
 //! What a store keeps, shown by examples of the whole program, and nothing else: contents of one digest, trees over several backups
-//! with the exact bytes of their tables, the last number of a host, stops and faults around a commit's decision, nights, what goes by
-//! the clock, dumps at the edge of what is usual, and files that were altered. Each test is a talk over `pipe`: requests, line by line,
+//! with the exact bytes of their tables, the last number of a host, stops and faults around a commit's decision, requests that are tried
+//! again with their tokens, nights, what goes by the clock, dumps at the edge of what is usual, and files that were altered. Each test is a talk over `pipe`: requests, line by line,
 //! and the answers to them.
 #![tactic(auto)]
 
@@ -14,6 +14,8 @@ mod hours;
 mod last_number;
 #[cfg(test)]
 mod nights;
+#[cfg(test)]
+mod retries;
 #[cfg(test)]
 mod stops;
 #[cfg(test)]

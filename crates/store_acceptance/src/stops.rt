@@ -32,14 +32,14 @@ const COMMITTED: &[Row] = &[
 
 const FAILED: &[Row] = &[HOST, FULL, PUT, Row("POST /dumps/1-0/commit", "", FAULT)];
 
-const FAULT: Says = Says::Json("500 Internal Server Error", "{\"refused\":\"DiskFault\"}");
+pub const FAULT: Says = Says::Json("500 Internal Server Error", "{\"refused\":\"DiskFault\"}");
 
-const LIST: &str = "GET /hosts/pc1/backups";
+pub const LIST: &str = "GET /hosts/pc1/backups";
 
 /// The backups before and after the commit.
-const NONE: Says = Says::Json(OK, "{\"backups\":[],\"dump\":null,\"next\":0}");
+pub const NONE: Says = Says::Json(OK, "{\"backups\":[],\"dump\":null,\"next\":0}");
 
-const ONE: Says = Says::Json(
+pub const ONE: Says = Says::Json(
     OK,
     "{\"backups\":[{\"end\":1700000000,\"filled\":true,\"keep\":false,\"kind\":\"full\",\"number\":0,\"start\":1700000000}],\"dump\":null,\"next\":1}",
 );
@@ -95,11 +95,11 @@ fn a_stopped_commit_leaves_one_of_two_listings(rt: HostRuntime) -> Result<(), Fa
     expect(open == 1, "not one moment at which Gate decides")
 }
 
-/// Whether the call is the sync that fails behind the write of Gate in the commit.
-fn is_gate_sync(rt: &impl Machine, call: u64) -> Result<bool, Fail> {
+/// Whether the call is the sync that fails behind the write of Gate in the commit, so that all is answered as here.
+fn is_gate_sync(rt: &impl Machine, call: u64, rows: &[Row]) -> Result<bool, Fail> {
     let alloc = rt.alloc();
-    let done = talk(rt, blank_disk(alloc, &[call])?, Md5Namer, NOW, FAILED)?;
-    let failed = is_answered(alloc, &done, FAILED)?;
+    let done = talk(rt, blank_disk(alloc, &[call])?, Md5Namer, NOW, rows)?;
+    let failed = is_answered(alloc, &done, rows)?;
     let mut disk = done.disk;
     match disk.read(alloc, FileId::Gate) {
         Ok(Some(gate)) => Ok(failed && gate.as_slice() == b"O".as_slice()),
@@ -108,22 +108,22 @@ fn is_gate_sync(rt: &impl Machine, call: u64) -> Result<bool, Fail> {
 }
 
 /// The number of that call: the first one whose failure leaves Gate open.
-fn gate_sync(rt: &impl Machine) -> Result<u64, Fail> {
+pub fn gate_sync(rt: &impl Machine, rows: &[Row]) -> Result<u64, Fail> {
     for call in 0..600u64 {
-        if is_gate_sync(rt, call)? {
+        if is_gate_sync(rt, call, rows)? {
             return Ok(call);
         }
     }
     Err(Fail::new("no call leaves Gate open"))
 }
 
-const HALTED: Row = Row(
+pub const HALTED: Row = Row(
     "GET /stats",
     "",
     Says::Json("503 Service Unavailable", "{\"refused\":\"Halted\"}"),
 );
 
-const REOPEN: Row = Row("POST /reopen", "", Says::Json(OK, "{\"epoch\":2}"));
+pub const REOPEN: Row = Row("POST /reopen", "", Says::Json(OK, "{\"epoch\":2}"));
 
 const GONE: Row = Row(
     "POST /dumps/1-0/commit",
@@ -159,7 +159,7 @@ const HALTED_TALKS: [&[Row]; 2] = [
 fn a_fault_behind_the_write_of_gate_leaves_one_of_two_listings(
     rt: HostRuntime,
 ) -> Result<(), Fail> {
-    let call = gate_sync(&rt)?;
+    let call = gate_sync(&rt, FAILED)?;
     let (place, disk) = place_answered(
         &rt,
         blank_disk(rt.alloc(), &[call])?,
@@ -174,7 +174,7 @@ fn a_fault_behind_the_write_of_gate_leaves_one_of_two_listings(
 /// listings is left, from then on the one that it found.
 #[test]
 fn a_stopped_opening_leaves_what_it_found(rt: HostRuntime) -> Result<(), Fail> {
-    let call = gate_sync(&rt)?;
+    let call = gate_sync(&rt, FAILED)?;
     let halted = talk(&rt, blank_disk(rt.alloc(), &[call])?, Md5Namer, NOW, FAILED)?.disk;
     let start = halted.moment();
     let (place, opened) = place_answered(&rt, halted, Md5Namer, &LISTS)?;

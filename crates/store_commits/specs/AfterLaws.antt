@@ -54,6 +54,7 @@ use Rattle.store_commits.specs.declared.plan.Plan.{Plan}
 use Rattle.store_commits.specs.AcceptLaws.{with_added}
 use Rattle.store_commits.specs.Ids.{ids_in, given_ids, all_given}
 use Rattle.store_commits.specs.Former.{dropped_of, IsFolded}
+use Rattle.store_commits.specs.Judged.{receipt_by}
 use Rattle.store_commits.specs.Parked.{AreParked}
 use Rattle.store_commits.specs.ParkedLaws.{head_there, parked_stored, parked_few, none_parked}
 use Rattle.store_commits.specs.CountsLaws.{AreLeft, left_of}
@@ -114,6 +115,9 @@ module _ {D N S : Type 0} {d : DiskGhosts D} {n : NamerGhosts N S} where
       keep = false;
     })
 
+    receipt_is : planned.lines.receipt ≡ receipt_by m.dump.token m.dump.name m.host.next
+    receipt_is = planned.judged.receipt ∙ (λ j. receipt_by (m.is.token j) (m.is.name j) (index_is j).next)
+
     dropped_is : planned.lines.dropped ≡ dropped_of m.host.rules (lines_of m.host.backups)
     dropped_is = planned.judged.dropped ∙ ap (λ (i : HostIndex). dropped_of i.rules i.lines) index_is
 
@@ -169,8 +173,10 @@ module _ {D N S : Type 0} {d : DiskGhosts D} {n : NamerGhosts N S} where
 
     index_built : IsHostFile (index_of_host number new) bytes
     index_built = subst (λ (i : HostIndex). IsHostFile i bytes)
-        ((λ j. with_line (line_is j) (not (is_some (dropped_is j))) (index_is j)) ∙ index_committed m.host m.dump now number)
-        (index_after at.all parts.catalog session.host (with_line planned.lines.line (not (is_some planned.lines.dropped))) planned.judged.index
+        ((λ j. with_line (line_is j) (not (is_some (dropped_is j))) (receipt_is j) (index_is j))
+        ∙ index_committed m.host m.dump now number m.unspent)
+        (index_after at.all parts.catalog session.host
+        (with_line planned.lines.line (not (is_some planned.lines.dropped)) planned.lines.receipt) planned.judged.index
         planned.built.listed bytes holds planned.judged.here planned.built.lists (index_listed parts session now plan planned).1)
 
     built : IsBuiltOf (told parts.journal) number m.host m.dump now rows planned.parked planned.folding had.0 planned.counts bytes planned.built.files

@@ -60,7 +60,7 @@ module _ {D N S : Type 0} {d : DiskGhosts D} {n : NamerGhosts N S} where
   pub built_of : (parts : StoreParts D N S d n) (host : ℕ) (lines : Lines) (parked : Option Rows) (folding : Option Folding)
       (counts : Items) (rows : Rows) (filled : Bool) (catalog : CatalogChange) (index new : IndexChange) (taken listed changes : List Change) (files : HostFiles)
       → is_some lines.dropped ≡ not filled
-      → Proposes parts.catalog (with_change parts.catalog host (with_line lines.line filled)) (HostFile host ∷ []) catalog
+      → Proposes parts.catalog (with_change parts.catalog host (with_line lines.line filled lines.receipt)) (HostFile host ∷ []) catalog
       → IsFor parts.catalog catalog → IsOf index (given_in (slots parts) rows) [] [] []
       → LeadsIndex parts.pool.in_one_file (index_of (slots parts)) (index_of (relisted_after index (slots parts))) index.changes
       → IsTaken index new taken → listed ≡ catalog.changes → IsTable Second rows × (files.table ≡ table_file Second rows)
@@ -95,8 +95,8 @@ module _ {D N S : Type 0} {d : DiskGhosts D} {n : NamerGhosts N S} where
       }
     where
       new_known : Known
-      new_known = with_change parts.catalog host (with_line lines.line (not (is_some lines.dropped)))
+      new_known = with_change parts.catalog host (with_line lines.line (not (is_some lines.dropped)) lines.receipt)
 
       proposed : Proposes parts.catalog new_known (HostFile host ∷ []) catalog
-      proposed = subst (λ (b : Bool). Proposes parts.catalog (with_change parts.catalog host (with_line lines.line b)) (HostFile host ∷ []) catalog)
+      proposed = subst (λ (b : Bool). Proposes parts.catalog (with_change parts.catalog host (with_line lines.line b lines.receipt)) (HostFile host ∷ []) catalog)
           (turned (is_some lines.dropped) filled is_filled) proposes

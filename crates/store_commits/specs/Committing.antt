@@ -1,6 +1,6 @@
 -- What a commit of an open dump is to the model, and the files that stand for the office after it.
 --     office_after      the office after the commit
---     IsMeant, meant      the dump of the model that an open dump at a place is, and its host
+--     IsMeant, meant      the dump of the model that an open dump at a place is, and its host, which has no receipt of its token
 --     IsStoredAfter      files that stand for an office after changes, by what parts at work hold
 use Rattle.std.specs.Prelude.{◌≡◌, ℕ, ◌<◌, false, List, Some, slice_get, slice_set}
 use Rattle.std.specs.List.{remove}
@@ -17,8 +17,8 @@ use Rattle.ref_counts.specs.Numbers.{Items}
 use Rattle.ref_counts.specs.Stored.{StoredHost}
 use Rattle.open_sessions.specs.declared.sessions.OpenDump.{OpenDump}
 use Rattle.open_sessions.specs.Opened.{IsDump}
-use Rattle.office_model.specs.declared.session.SessionName.{SessionName}
-use Rattle.office_model.specs.Office.{Office, Host, Dump, Names, number_limit, with_dumps, with_hosts, with_pool, with_stages, stages_left}
+use Rattle.receipts.specs.declared.session.SessionName.{SessionName}
+use Rattle.office_model.specs.Office.{Office, Host, Dump, Names, IsUnspent, number_limit, with_dumps, with_hosts, with_pool, with_stages, stages_left}
 use Rattle.office_model.specs.Pool.{with_tree}
 use Rattle.office_model.specs.events.Commit.{with_commit}
 use Rattle.office_files.specs.Pairs.{other_at}
@@ -49,6 +49,7 @@ module _ {D N S : Type 0} {d : DiskGhosts D} {n : NamerGhosts N S} where
     pub host : Host
     pub here : slice_get office.hosts dump.host ≡ Some host
     pub number : host.next < number_limit
+    pub unspent : IsUnspent host.receipts dump.token
 
   pub meant : (parts : StoreParts D N S d n) (place : ℕ) (session : OpenDump) (office : Office) (names : Names)
       (at : IsRunning parts office names) → slice_get parts.sessions.dumps.items place ≡ Some session
@@ -63,6 +64,7 @@ module _ {D N S : Type 0} {d : DiskGhosts D} {n : NamerGhosts N S} where
         host = hosted.host;
         here = hosted.is_host;
         number = hosted.has_number;
+        unspent = hosted.unspent;
       }
 
   -- After the changes the files stand for the office, by the pool's index with these names in it, and what is kept is still a

@@ -1,8 +1,10 @@
 -- A plan that was made, or refused, is no step yet.
 --     planned_read      of parts that were planned with, and are as before but for the journal, the plan is one of theirs
---     runs_no_session, runs_not_planned      refusals before anything is written
-use Rattle.std.specs.Prelude.{◌≡◌, ℕ, zero, suc, ◌<◌, List, [], ◌∷◌, length, Option, Some, None, Err, IsErrOf, slice_get}
-use Rattle.std.proofs.Common.{refl, sym, ◌∙◌, subst, arith}
+--     runs_again      a dump that isn't open has the answer of its receipt
+--     runs_not_planned      a refusal before anything is written
+use Rattle.std.specs.Prelude.{◌≡◌, ℕ, zero, suc, ◌<◌, List, [], ◌∷◌, length, Option, Some, None, Ok, Err, is_some, IsErrOf, slice_get, if◌then◌else◌}
+use Rattle.std.specs.Option.{option_map}
+use Rattle.std.proofs.Common.{refl, sym, ap, ◌∙◌, subst, arith}
 use Rattle.fault_counts.specs.Counts.{Counted}
 use Rattle.disk_trait.specs.declared.disk.Disk.{Ghosts as DiskGhosts}
 use Rattle.disk_trait.specs.Files.{Files}
@@ -14,19 +16,28 @@ use Rattle.ref_counts.specs.Numbers.{Items}
 use Rattle.host_partials.specs.Held.{head_at}
 use Rattle.open_sessions.specs.declared.sessions.OpenDump.{OpenDump}
 use Rattle.open_sessions.specs.SessionLaws.{dump_index-sessions}
-use Rattle.office_model.specs.declared.session.SessionName.{SessionName}
+use Rattle.receipts.specs.declared.receipt.Receipt.{Receipt}
+use Rattle.receipts.specs.declared.session.SessionName.{SessionName}
+use Rattle.office_catalog.specs.Known.{Known, receipt_named}
+use Rattle.office_model.specs.declared.answer.Answer.TheVariants.{Committed}
 use Rattle.office_model.specs.declared.event.Event.TheVariants.{Commit}
 use Rattle.office_model.specs.declared.refusal.BrokenRule.TheVariants.{NoSession}
 use Rattle.office_model.specs.declared.refusal.Refusal.{Refusal}
-use Rattle.office_model.specs.declared.refusal.Refusal.TheVariants.{Broken, DiskFault}
+use Rattle.office_model.specs.declared.refusal.Refusal.TheVariants.{DiskFault}
+use Rattle.office_model.specs.Meaning.{Reply}
 use Rattle.office_model.specs.Office.{Office, Names, dump_index}
+use Rattle.office_model.specs.Parts.{dump_at}
+use Rattle.office_model.specs.Repeats.{again, receipt_named as named}
+use Rattle.office_model.specs.Step.{Running, IsStep}
+use Rattle.office_model.specs.events.Commit as CommitEvent
 use Rattle.office_files.specs.Pooled.{contents_of}
+use Rattle.office_known.specs.CatalogLaws.{receipt_known}
 use Rattle.store_parts.specs.declared.parts.StoreParts.{StoreParts}
 use Rattle.store_parts.specs.Held.{given}
 use Rattle.store_parts.specs.States.{slots, IsRunning}
 use Rattle.store_parts.specs.Runs.{Runs}
-use Rattle.store_parts.specs.RunLaws.{reads_behind}
-use Rattle.store_parts.specs.RefusedLaws.{runs_no_dump, runs_not_planned as runs_plan_refused}
+use Rattle.store_parts.specs.RunLaws.{counted_still, reads_behind, reads_still, runs_reads}
+use Rattle.store_parts.specs.RefusedLaws.{runs_broken, runs_not_planned as runs_plan_refused}
 use Rattle.store_commits.specs.declared.former.Folding.{Folding}
 use Rattle.store_commits.specs.declared.judge.Lines.{Lines}
 use Rattle.store_commits.specs.declared.plan.Plan.{Plan}
@@ -34,7 +45,7 @@ use Rattle.store_commits.specs.Former.{IsFolded}
 use Rattle.store_commits.specs.Parked.{AreParked}
 use Rattle.store_commits.specs.Planned.{IsBuilt, IsPlanned, IsPlanFault}
 use Rattle.store_commits.specs.ReadyLaws.{running_ready}
-use Rattle.store_commits.specs.Tables.{place_of}
+use Rattle.store_commits.specs.Tables.{place_of, again_of}
 
 pub there_within : {A : Type 0} (xs : List A) (i : ℕ) → i < length xs → (x : A) × (slice_get xs i ≡ Some x)
 there_within [] i within = absurd (omega (arith, within))
@@ -47,9 +58,37 @@ module _ {D N S : Type 0} {d : DiskGhosts D} {n : NamerGhosts N S} where
   place_is old name place e office names at =
       dump_index-sessions (given (slots old)) (contents_of at.all) office.dumps old.sessions.dumps.items at.sessions.dumps name ∙ sym e
 
-  pub runs_no_session : (old : StoreParts D N S d n) (name : SessionName) (now : ℕ) → None ≡ place_of old.sessions.dumps.items name
-      → Runs old (Commit name now) (Err (Broken NoSession)) old
-  runs_no_session old name now e = runs_no_dump old (Commit name now) name e (λ office names none. rw none refl)
+  -- no dump of the name is open
+  module _ (old : StoreParts D N S d n) (name : SessionName) (now : ℕ) (none : None ≡ place_of old.sessions.dumps.items name) where
+    -- what the event is to an office that the parts hold
+    carried_again : (office : Office) (names : Names) → IsRunning old office names → (found : Option Receipt)
+        → receipt_named old.catalog.hosts name ≡ found
+        → CommitEvent.carried name now office ≡ again office (option_map (λ (receipt : Receipt). Committed receipt.number) found) (Err NoSession)
+    carried_again office names at found is =
+        let none_open : dump_index office.dumps name ≡ None = place_is old name None none office names at in
+        let no_dump : dump_at office.dumps name ≡ Err NoSession = rw none_open refl in
+        let ended : CommitEvent.ended name now office ≡ Err NoSession = rw no_dump refl in
+        let repeated : CommitEvent.repeated name office.hosts office.dumps ≡ option_map (λ (receipt : Receipt). Committed receipt.number) found =
+        ap (λ (place : Option ℕ). if is_some place then None else option_map (λ (receipt : Receipt). Committed receipt.number)
+        (named office.hosts name)) none_open
+        ∙ ap (option_map (λ (receipt : Receipt). Committed receipt.number))
+        (sym (receipt_known office.hosts name) ∙ ap (λ (k : Known). receipt_named k.hosts name) (sym at.catalog_is) ∙ is) in
+        λ i. again office (repeated i) (ended i)
+
+    again_as : (found : Option Receipt) → receipt_named old.catalog.hosts name ≡ found → Runs old (Commit name now) (again_of found) old
+    again_as None is = runs_broken old (Commit name now) NoSession (λ office names at. carried_again office names at None is)
+    again_as (Some receipt) is =
+        runs_reads old old (Commit name now) (Ok (Committed receipt.number)) (reads_still old)
+        (λ office names at. step office names (carried_again office names at (Some receipt) is)) (λ office names at. tt) refl
+        (counted_still (d.fault_count old.journal.disk) (Ok (Committed receipt.number) ≡ Err DiskFault) (λ e. absurd cc))
+      where
+        step : (office : Office) (names : Names) → CommitEvent.carried name now office ≡ Ok (record { answer = Committed receipt.number; after = office })
+            → IsStep (Running office names) (Commit name now) (Ok (Committed receipt.number)) (Running office names)
+        step office names is = (is, refl)
+
+    pub runs_again : (reply : Reply) → reply ≡ again_of (receipt_named old.catalog.hosts name) → Runs old (Commit name now) reply old
+    runs_again reply is =
+        subst (λ (r : Reply). Runs old (Commit name now) r old) (sym is) (again_as (receipt_named old.catalog.hosts name) refl)
 
   built_read : (old : StoreParts D N S d n) (journal : Journal D d) (host : ℕ) (lines : Lines) (parked : Option Rows) (folding : Option Folding)
       (counts : Items) (rows : Rows) (plan : Plan) → IsBuilt old host lines parked folding counts rows plan

@@ -1,8 +1,7 @@
 -- What a commit answers for the table and the partial that it calls for.
---     heeds_no_session, heeds_not_planned, heeds_not_written, heeds_committed      at each of its answers
+--     heeds_again, heeds_not_planned, heeds_not_written, heeds_committed      at each of its answers
 use Rattle.std.specs.Prelude.{◌≡◌, ℕ, ◌<◌, List, Option, Some, None, Ok, Err, IsErrOf, length, slice_get}
-use Rattle.std.specs.Result.{IsErrAnd}
-use Rattle.std.proofs.Common.{sym, ◌∙◌, subst, inl, inr}
+use Rattle.std.proofs.Common.{refl, sym, ap, ◌∙◌, subst, inl, inr}
 use Rattle.disk_trait.specs.declared.ids.FileId.{FileId}
 use Rattle.disk_trait.specs.declared.disk.Disk.{Ghosts as DiskGhosts}
 use Rattle.pool_name.specs.declared.namer.Namer.{Ghosts as NamerGhosts}
@@ -10,16 +9,15 @@ use Rattle.intent_journal.specs.declared.changes.Change.{Change}
 use Rattle.journal_view.specs.View.{told, Quiet}
 use Rattle.open_sessions.specs.declared.sessions.OpenDump.{OpenDump}
 use Rattle.office_model.specs.declared.answer.Answer.{Answer}
-use Rattle.office_model.specs.declared.session.SessionName.{SessionName}
-use Rattle.office_model.specs.declared.refusal.BrokenRule.{BrokenRule}
-use Rattle.office_model.specs.declared.refusal.BrokenRule.TheVariants.{NoSession}
+use Rattle.receipts.specs.declared.receipt.Receipt.{Receipt}
+use Rattle.receipts.specs.declared.session.SessionName.{SessionName}
+use Rattle.office_catalog.specs.Known.{receipt_named}
 use Rattle.office_model.specs.declared.refusal.Refusal.{Refusal}
 use Rattle.office_model.specs.declared.refusal.Refusal.TheVariants as R
 use Rattle.office_model.specs.Meaning.{Reply}
 use Rattle.store_parts.specs.declared.parts.StoreParts.{StoreParts}
 use Rattle.store_parts.specs.Writes.{IsWriteFault, Writes}
-use Rattle.store_parts.specs.RefusalLaws.{broken_by}
-use Rattle.store_commits.specs.Tables.{AreThere, IsLost, IsHeededBy, IsTableFor, IsParkedFor, place_of, IsTableForName, IsParkedForName, HeedsTables}
+use Rattle.store_commits.specs.Tables.{AreThere, IsLost, IsHeededBy, IsTableFor, IsParkedFor, place_of, IsTableForName, IsParkedForName, again_of, HeedsTables}
 use Rattle.store_commits.specs.PlanLaws.{one_there}
 use Rattle.store_commits.specs.EventLaws.{there_within}
 
@@ -33,24 +31,36 @@ not_damaged (R.Broken rule) file found kind e = kind
 not_damaged (R.Damaged other bytes) file found kind e = kind
 not_damaged R.Halted file found kind e = kind
 
+not_open : (place : ℕ) → None ≡ Some place → ⊥
+not_open place e = cc
+
 refusal_is : (refusal other : Refusal) → IsErrOf {T = Answer} (Err refusal) other → refusal ≡ other
 refusal_is refusal other e = cc
 
 module _ {D N S : Type 0} {d : DiskGhosts D} {n : NamerGhosts N S} where
-  pub heeds_no_session : (old : StoreParts D N S d n) (name : SessionName) (reply : Reply) (rule : BrokenRule)
-      → IsErrAnd reply (λ refusal. refusal ≡ R.Broken rule) → rule ≡ NoSession → None ≡ place_of old.sessions.dumps.items name
-      → HeedsTables old name reply old
-  heeds_no_session old name reply rule is same none =
-      subst (λ (r : Reply). HeedsTables old name r old) (sym (broken_by reply rule NoSession is same)) (record {
-        tables = record {
-          tables = λ all file is calls. absurd (apart calls.place (none ∙ sym calls.found));
-          partial = λ all host is calls. absurd (apart calls.place (none ∙ sym calls.found));
-        };
-        undone = λ file found e. absurd cc;
-      })
-    where
-      apart : (place : ℕ) → None ≡ Some place → ⊥
-      apart place e = cc
+  -- no dump of the name is open, so that none is called for
+  module _ (old : StoreParts D N S d n) (name : SessionName) (none : None ≡ place_of old.sessions.dumps.items name) where
+    none_called : AreThere (told old.journal) (IsTableForName old name) (IsParkedForName old name)
+    none_called = record {
+      tables = λ all file is calls. absurd (not_open calls.place (none ∙ sym calls.found));
+      partial = λ all host is calls. absurd (not_open calls.place (none ∙ sym calls.found));
+    }
+
+    heeds_as : (found : Option Receipt) → receipt_named old.catalog.hosts name ≡ found → HeedsTables old name (again_of found) old
+    heeds_as None is = record {
+      tables = none_called;
+      undone = λ file bytes e. absurd cc;
+      again = λ e. (ap again_of (sym is), refl);
+    }
+    heeds_as (Some receipt) is = record {
+      tables = none_called;
+      undone = λ file bytes e. absurd cc;
+      again = λ e. (ap again_of (sym is), refl);
+    }
+
+    pub heeds_again : (reply : Reply) → reply ≡ again_of (receipt_named old.catalog.hosts name) → HeedsTables old name reply old
+    heeds_again reply is =
+        subst (λ (r : Reply). HeedsTables old name r old) (sym is) (heeds_as (receipt_named old.catalog.hosts name) refl)
 
   module _ (old : StoreParts D N S d n) (name : SessionName) (place : ℕ) (found : Some place ≡ place_of old.sessions.dumps.items name)
       (within : place < length old.sessions.dumps.items) where
@@ -105,6 +115,7 @@ module _ {D N S : Type 0} {d : DiskGhosts D} {n : NamerGhosts N S} where
     heeds_not_planned mid refusal quiet others heeds = record {
       tables = named_refused refusal (heeds session there);
       undone = λ file bytes e. (quiet, others);
+      again = λ none. absurd (not_open place (none ∙ sym found));
     }
 
     module _ (are : (session : OpenDump) → slice_get old.sessions.dumps.items place ≡ Some session
@@ -122,10 +133,12 @@ module _ {D N S : Type 0} {d : DiskGhosts D} {n : NamerGhosts N S} where
       heeds_not_written start new changes refusal w = record {
         tables = written_refused refusal w.kind;
         undone = λ file bytes e. absurd (not_damaged refusal file bytes w.kind (refusal_is refusal (R.Damaged file bytes) e));
+        again = λ none. absurd (not_open place (none ∙ sym found));
       }
 
       pub heeds_committed : (answer : Answer) (new : StoreParts D N S d n) → HeedsTables old name (Ok answer) new
       heeds_committed answer new = record {
         tables = named_there (are session there);
         undone = λ file bytes e. absurd cc;
+        again = λ none. absurd (not_open place (none ∙ sym found));
       }

@@ -3,7 +3,8 @@
 --     IsFinished      the parts behind accept_commit
 --     holds_committed      they hold the office after it
 --     runs_not_written, runs_committed      the event's answer after the write
-use Rattle.std.specs.Prelude.{◌≡◌, ◌≤◌, ◌<◌, ℕ, true, false, not, List, length, Some, None, Ok, Err, is_some, slice_get, slice_set}
+use Rattle.std.specs.Prelude.{◌≡◌, ◌≤◌, ◌<◌, ℕ, true, false, not, List, length, Option, Some, None, Ok, Err, is_some, slice_get, slice_set, if◌then◌else◌}
+use Rattle.std.specs.Option.{option_map}
 use Rattle.std.proofs.Common.{refl, sym, ap, ◌∙◌, subst, inr, arith}
 use Rattle.disk_trait.specs.declared.ids.PoolId.{PoolId}
 use Rattle.disk_trait.specs.declared.disk.Disk.{Ghosts as DiskGhosts}
@@ -22,8 +23,11 @@ use Rattle.open_sessions.specs.Opened.{AreSessions, claims_of_dump}
 use Rattle.open_sessions.specs.SessionLaws.{claims_in_dumps-remove}
 use Rattle.office_catalog.specs.Known.{Known, with_change, with_line}
 use Rattle.office_catalog.specs.Changed.{IsFor, after as known_after}
-use Rattle.office_model.specs.declared.session.SessionName.{SessionName}
+use Rattle.receipts.specs.declared.session.SessionName.{SessionName}
+use Rattle.receipts.specs.declared.receipt.Receipt.{Receipt}
+use Rattle.office_model.specs.declared.answer.Answer.{Answer}
 use Rattle.office_model.specs.declared.answer.Answer.TheVariants.{Committed}
+use Rattle.office_model.specs.Repeats.{again, receipt_named}
 use Rattle.office_model.specs.declared.event.Event.TheVariants.{Commit}
 use Rattle.office_model.specs.declared.refusal.BrokenRule.TheVariants.{NoSession}
 use Rattle.office_model.specs.declared.refusal.Refusal.{Refusal}
@@ -49,7 +53,7 @@ use Rattle.store_dumps.specs.Claims.{LetsGo}
 use Rattle.store_commits.specs.declared.plan.Plan.{Plan}
 use Rattle.store_commits.specs.Ids.{ids_in, given_ids, all_given}
 use Rattle.store_commits.specs.Former.{dropped_of}
-use Rattle.store_commits.specs.Judged.{line_of}
+use Rattle.store_commits.specs.Judged.{line_of, receipt_by, receipt_for}
 use Rattle.store_commits.specs.AcceptLaws.{with_added, claims_added}
 use Rattle.store_commits.specs.Planned.{IsPlanned}
 use Rattle.store_commits.specs.CommittedLaws.{number_is, planned_changes}
@@ -60,6 +64,12 @@ use Rattle.store_commits.specs.AfterLaws.{stored_after}
 use Rattle.store_commits.specs.KnownLaws.{index_found, catalog_committed}
 use Rattle.store_commits.specs.Tables.{place_of}
 use Rattle.store_commits.specs.EventLaws.{place_is, there_within, planned_read}
+
+-- the commit of an open dump repeats none
+open_repeats_none : (name : SessionName) (office : Office) (place : ℕ) → dump_index office.dumps name ≡ Some place
+    → CommitEvent.repeated name office.hosts office.dumps ≡ None
+open_repeats_none name office place at =
+    ap (λ (found : Option ℕ). if is_some found then None else option_map (λ (receipt : Receipt). Committed receipt.number) (receipt_named office.hosts name)) at
 
 module _ {D N S : Type 0} {d : DiskGhosts D} {n : NamerGhosts N S} where
   -- the parts behind accept_commit
@@ -94,8 +104,12 @@ module _ {D N S : Type 0} {d : DiskGhosts D} {n : NamerGhosts N S} where
         let at_place = place_is old name (Some place) found office names at in
         let is_at : dump_at office.dumps name ≡ Ok (record { index = place; value = m.dump }) =
         at_found NoSession office.dumps (dump_index office.dumps name) place m.dump at_place m.there in
-        let judged_by : CommitEvent.carried name now office
+        let ended_by : CommitEvent.ended name now office
         ≡ Ok (record { answer = Committed m.host.next; after = office_ended name office place m.dump m.host now }) = rw (is_at, m.here) refl in
+        let judged_by : CommitEvent.carried name now office
+        ≡ Ok (record { answer = Committed m.host.next; after = office_ended name office place m.dump m.host now }) =
+        ap (λ (repeated : Option Answer). again office repeated (CommitEvent.ended name now office))
+        (open_repeats_none name office place at_place) ∙ ended_by in
         let judged : CommitEvent.carried name now office
         ≡ Ok (record { answer = Committed m.host.next; after = office_after office place m.dump m.host now }) =
         judged_by ∙ ap (λ (s : SessionName). Ok (record {
@@ -144,8 +158,9 @@ module _ {D N S : Type 0} {d : DiskGhosts D} {n : NamerGhosts N S} where
         planned.built.after_is
         ∙ ap (λ (h : ℕ). with_line_at h) m.is.host
         ∙ catalog_committed old.catalog office.durable m.dump.host m.host m.dump now planned.lines.line planned.lines.dropped
-        at.catalog_is m.here
+        planned.lines.receipt at.catalog_is m.here
         (planned.judged.line ∙ line) (planned.judged.dropped ∙ ap (λ (i : Index). dropped_of i.rules i.lines) index)
+        (planned.judged.receipt ∙ receipt) m.unspent
       where
         index : planned.judged.index ≡ index_of_host m.dump.host m.host
         index = index_is office names at m
@@ -160,8 +175,12 @@ module _ {D N S : Type 0} {d : DiskGhosts D} {n : NamerGhosts N S} where
           keep = false;
         }
 
+        receipt : receipt_for planned.judged.index session ≡ receipt_by m.dump.token m.dump.name m.host.next
+        receipt = λ i. receipt_by (m.is.token i) (m.is.name i) (index i).next
+
         with_line_at : ℕ → Known
-        with_line_at h = with_change old.catalog h (with_line planned.lines.line (not (is_some planned.lines.dropped)))
+        with_line_at h =
+            with_change old.catalog h (with_line planned.lines.line (not (is_some planned.lines.dropped)) planned.lines.receipt)
 
     number_after : (office : Office) (names : Names) (at : IsRunning old office names) (m : IsMeant old place session office names at)
         → m.host.next ≡ plan.number

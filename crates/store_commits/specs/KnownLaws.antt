@@ -3,15 +3,17 @@
 --     catalog_committed      the catalog with the new line is that of the office after the commit
 use Rattle.std.specs.Prelude.{◌≡◌, ℕ, zero, suc, ◌+◌, not, List, [], ◌∷◌, Option, Some, is_some, slice_get, slice_set}
 use Rattle.std.proofs.Common.{ap, ◌∙◌, subst, arith}
+use Rattle.receipts.specs.declared.receipt.Receipt.{Receipt}
 use Rattle.backup_rules.specs.declared.lines.Line.{Line}
 use Rattle.backup_index.specs.Index.{Index}
 use Rattle.office_catalog.specs.Known.{Known, known_of, changed_at, with_change, with_line}
-use Rattle.office_model.specs.Office.{Durable, Host, Dump}
+use Rattle.office_model.specs.Office.{Durable, Host, Dump, IsUnspent}
 use Rattle.office_model.specs.Parts.{lines_of}
 use Rattle.office_model.specs.events.Commit.{new_line, with_commit}
 use Rattle.office_files.specs.Hosts.{index_of_host}
 use Rattle.office_known.specs.KnownLaws.{indices_from, known_of_office}
 use Rattle.store_commits.specs.Former.{dropped_of}
+use Rattle.store_commits.specs.Judged.{receipt_by}
 use Rattle.store_commits.specs.LineLaws.{index_committed}
 
 there_from : (n : ℕ) (hosts : List Host) (i : ℕ) (host : Host) → slice_get hosts i ≡ Some host
@@ -52,12 +54,13 @@ module _ (f : Index → Index) (host new : Host) where
       replaced_from 0 p hosts here (subst (λ (m : ℕ). f (index_of_host m host) ≡ index_of_host m new) k is)
 
 pub catalog_committed : (known : Known) (office : Durable) (p : ℕ) (host : Host) (dump : Dump) (now : ℕ) (line : Line)
-    (dropped : Option Line) → known ≡ known_of_office office → slice_get office.hosts p ≡ Some host → line ≡ new_line host dump now
-    → dropped ≡ dropped_of host.rules (lines_of host.backups)
-    → with_change known p (with_line line (not (is_some dropped)))
+    (dropped : Option Line) (receipt : Option Receipt) → known ≡ known_of_office office → slice_get office.hosts p ≡ Some host
+    → line ≡ new_line host dump now → dropped ≡ dropped_of host.rules (lines_of host.backups)
+    → receipt ≡ receipt_by dump.token dump.name host.next → IsUnspent host.receipts dump.token
+    → with_change known p (with_line line (not (is_some dropped)) receipt)
     ≡ known_of office.epoch (indices_from 0 (slice_set office.hosts p (with_commit host dump now)))
-catalog_committed known office p host dump now line dropped is here line_is dropped_is =
-    (λ i. with_change (is i) p (with_line (line_is i) (not (is_some (dropped_is i)))))
+catalog_committed known office p host dump now line dropped receipt is here line_is dropped_is receipt_is unspent =
+    (λ i. with_change (is i) p (with_line (line_is i) (not (is_some (dropped_is i))) (receipt_is i)))
     ∙ ap (known_of office.epoch)
-    (host_replaced (with_line (new_line host dump now) (not (is_some (dropped_of host.rules (lines_of host.backups))))) host
-    (with_commit host dump now) p office.hosts here (index_committed host dump now p))
+    (host_replaced (with_line (new_line host dump now) (not (is_some (dropped_of host.rules (lines_of host.backups))))
+    (receipt_by dump.token dump.name host.next)) host (with_commit host dump now) p office.hosts here (index_committed host dump now p unspent))

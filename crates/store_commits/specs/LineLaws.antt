@@ -1,20 +1,29 @@
 -- The index of a host after a commit.
 --     dropped_none, dropped_newest      what the rules say of the newest backup's line
+--     given_receipts      the receipts with the new one are those of the host after the commit, if none has the dump's token
 --     index_committed      the index with the new line is that of the host after the commit
-use Rattle.std.specs.Prelude.{◌≡◌, ◌⊎◌, ℕ, ◌-◌, Bool, true, false, not, List, [], ◌∷◌, ◌++◌, length, Some, None, is_some, slice_get, if◌then◌else◌}
+use Rattle.std.specs.Prelude.{◌≡◌, ◌≢◌, ◌⊎◌, ℕ, suc, ◌-◌, Bool, true, false, not, ◌||◌, List, [], ◌∷◌, ◌++◌, length, Option, Some, None, is_some, slice_get, if◌then◌else◌}
 use Rattle.std.proofs.Common.{refl, sym, ap, ◌∙◌, subst, inl, inr, arith}
+use Rattle.receipts.specs.declared.receipt.Receipt.{Receipt}
+use Rattle.receipts.specs.declared.session.SessionName.{SessionName}
+use Rattle.receipts.specs.declared.session.Token.{Token}
+use Rattle.receipts.specs.Receipts.{has_token, with_newest as with_newest_receipt}
+use Rattle.receipts.specs.Session.{is_same_token}
 use Rattle.backup_rules.specs.declared.lines.Line.{Line}
 use Rattle.backup_rules.specs.Fill.{stays_filled}
 use Rattle.backup_rules.specs.Values.{RuleSet}
-use Rattle.office_catalog.specs.Known.{given_filled, last_filled, with_line}
-use Rattle.office_model.specs.Office.{Host, Backup, Dump}
+use Rattle.office_catalog.specs.Known.{given_filled, last_filled, with_given, with_line}
+use Rattle.office_model.specs.Office.{Host, Backup, Dump, IsUnspent}
+use Rattle.office_model.specs.Places.{AtEach}
+use Rattle.office_model.specs.laws.RepeatLaws.{same_token}
 use Rattle.office_model.specs.Parts.{lines_of, filled_as, with_newest}
-use Rattle.office_model.specs.events.Commit.{new_line, new_backup, with_commit}
+use Rattle.office_model.specs.events.Commit.{new_line, new_backup, with_receipt, with_commit}
 use Rattle.office_files.specs.Hosts.{index_of_host}
 use Rattle.office_files.specs.Pairs.{last_there, longer}
 use Rattle.office_changes.specs.CommitLaws.{with_newest-push}
 use Rattle.store_commits.specs.Former.{last_line, if_dropped, dropped_of}
 use Rattle.store_commits.specs.HostLaws.{HasLast, ends}
+use Rattle.store_commits.specs.Judged.{receipt_by}
 
 lines_both : (xs ys : List Backup) → lines_of (xs ++ ys) ≡ lines_of xs ++ lines_of ys
 lines_both [] ys = refl
@@ -47,6 +56,28 @@ not_dropped : (b : Bool) (line : Line) → not (is_some (if b then None else Som
 not_dropped true line = refl
 not_dropped false line = refl
 
+-- a token that no receipt has
+not_same : (a b : Token) → a ≢ b → is_same_token a b ≡ false
+not_same a b other = step (is_same_token a b) refl
+  where
+    step : (test : Bool) → is_same_token a b ≡ test → is_same_token a b ≡ false
+    step true is = absurd (other (same_token a b is))
+    step false is = is
+
+none_has : (receipts : List Receipt) (token : Token) → AtEach (λ (receipt : Receipt). receipt.token ≢ token) receipts
+    → has_token receipts token ≡ false
+none_has [] token none = refl
+none_has (receipt ∷ receipts) token none =
+    ap (λ b. b || has_token receipts token) (not_same receipt.token token (none 0 receipt refl))
+    ∙ none_has receipts token (λ i r at. none (suc i) r at)
+
+pub given_receipts : (token : Option Token) (name : SessionName) (number : ℕ) (receipts : List Receipt) → IsUnspent receipts token
+    → with_given (receipt_by token name number) receipts ≡ with_receipt token name number receipts
+given_receipts None name number receipts unspent = refl
+given_receipts (Some token) name number receipts unspent =
+    ap (λ (b : Bool). if b then receipts else with_newest_receipt receipts (record { token = token; name = name; number = number }))
+    (none_has receipts token unspent)
+
 -- the lines of the host with the new backup
 module _ (host : Host) (dump : Dump) (now : ℕ) where
   lines_after : (backups : List Backup) → lines_of (with_newest host.rules backups (new_backup host dump now))
@@ -73,7 +104,11 @@ module _ (host : Host) (dump : Dump) (now : ℕ) where
               ∙ (λ j. last_filled (sym (ap (λ o. not (is_some o)) (dropped_newest host.rules older newest)
               ∙ not_dropped (stays_filled host.rules newest.line) newest.line) j) (sym (lines_both older (newest ∷ [])) j)))
 
-  pub index_committed : (number : ℕ)
-      → with_line (new_line host dump now) (not (is_some (dropped_of host.rules (lines_of host.backups)))) (index_of_host number host)
+  pub index_committed : (number : ℕ) → IsUnspent host.receipts dump.token
+      → with_line (new_line host dump now) (not (is_some (dropped_of host.rules (lines_of host.backups))))
+      (receipt_by dump.token dump.name host.next) (index_of_host number host)
       ≡ index_of_host number (with_commit host dump now)
-  index_committed number = λ j. record (index_of_host number (with_commit host dump now)) { lines = sym (lines_after host.backups) j }
+  index_committed number unspent = λ j. record (index_of_host number (with_commit host dump now)) {
+    receipts = given_receipts dump.token dump.name host.next host.receipts unspent j;
+    lines = sym (lines_after host.backups) j;
+  }

@@ -99,9 +99,10 @@ module _ {D N S : Type 0} {d : DiskGhosts D} {n : NamerGhosts N S} where
     pub host_is : plan.host ≡ host
     pub rows_are : plan.rows ≡ rows
     pub counts_are : plan.counts ≡ counts
-    pub after_is : after plan.catalog parts.catalog ≡ with_change parts.catalog host (with_line lines.line (not (is_some lines.dropped)))
+    pub after_is : after plan.catalog parts.catalog
+        ≡ with_change parts.catalog host (with_line lines.line (not (is_some lines.dropped)) lines.receipt)
     pub listed : List Change
-    pub lists : Leads parts.catalog (with_change parts.catalog host (with_line lines.line (not (is_some lines.dropped))))
+    pub lists : Leads parts.catalog (with_change parts.catalog host (with_line lines.line (not (is_some lines.dropped)) lines.receipt))
         (HostFile host ∷ []) listed
     pub fits : IsFor parts.catalog plan.catalog
     pub pooled : List Change

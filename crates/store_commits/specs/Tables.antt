@@ -4,7 +4,8 @@
 --     IsHeededBy told Calls Parks refusal      one that isn't there is named, with what was found of it
 --     IsTableFor parts session file      the table that the commit of an open dump calls for
 --     IsParkedFor parts session host      the host whose partial it calls for
---     HeedsTables old name reply new      what a commit answers for these; if one is damaged, nothing was done
+--     again_of      what the commit of a dump that isn't open answers, by its receipt
+--     HeedsTables old name reply new      what a commit answers for these; if one is damaged, or the dump isn't open, nothing was done
 use Rattle.std.specs.Prelude.{⊤, ◌≡◌, ◌⊎◌, ◌<◌, ℕ, List, Option, Some, None, Result, Ok, Err, slice_get}
 use Rattle.std.specs.List.{position_from}
 use Rattle.disk_trait.specs.declared.ids.FileId.{FileId}
@@ -22,8 +23,12 @@ use Rattle.partial_files.specs.declared.partial.PartialFile.{PartialFile}
 use Rattle.host_partials.specs.declared.held.PartialHead.{PartialHead}
 use Rattle.host_partials.specs.Held.{HasPartial, head_at}
 use Rattle.open_sessions.specs.declared.sessions.OpenDump.{OpenDump}
-use Rattle.office_model.specs.declared.session.SessionName.{SessionName}
-use Rattle.office_model.specs.Session.{is_same_session}
+use Rattle.receipts.specs.declared.session.SessionName.{SessionName}
+use Rattle.receipts.specs.Session.{is_same_session}
+use Rattle.receipts.specs.declared.receipt.Receipt.{Receipt}
+use Rattle.office_catalog.specs.Known.{receipt_named}
+use Rattle.office_model.specs.declared.answer.Answer.TheVariants.{Committed}
+use Rattle.office_model.specs.declared.refusal.BrokenRule.TheVariants.{NoSession}
 use Rattle.office_model.specs.declared.refusal.Refusal.{Refusal}
 use Rattle.office_model.specs.declared.refusal.Refusal.TheVariants as R
 use Rattle.office_model.specs.Meaning.{Reply}
@@ -66,6 +71,11 @@ IsKnownOf number (Some head) host = host ≡ number
 abbrev pub place_of : List OpenDump → SessionName → Option ℕ
 place_of dumps name = position_from (λ dump. is_same_session dump.name name) 0 dumps
 
+-- the number again, if there is a receipt
+abbrev pub again_of : Option Receipt → Reply
+again_of None = Err (R.Broken NoSession)
+again_of (Some receipt) = Ok (Committed receipt.number)
+
 module _ {D N S : Type 0} {d : DiskGhosts D} {n : NamerGhosts N S} where
   -- that of its host's newest backup, if it doesn't stay filled, and the host has a number left
   pub record IsTableFor (parts : StoreParts D N S d n) (session : OpenDump) (file : FileId) : Type 0 where
@@ -100,3 +110,5 @@ module _ {D N S : Type 0} {d : DiskGhosts D} {n : NamerGhosts N S} where
     pub tables : Heeds (told old.journal) (IsTableForName old name) (IsParkedForName old name) reply
     pub undone : (file : FileId) (found : Option (List ℕ)) → reply ≡ Err (R.Damaged file found)
         → Quiet old.journal new.journal × (new ≡ record old { journal = new.journal })
+    pub again : None ≡ place_of old.sessions.dumps.items name
+        → (reply ≡ again_of (receipt_named old.catalog.hosts name)) × (new ≡ old)

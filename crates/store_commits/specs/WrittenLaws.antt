@@ -20,7 +20,7 @@ use Rattle.office_changes.specs.ChangeLaws.{is_of_host, is_of_index}
 use Rattle.office_changes.specs.JoinedLaws.{applied_both, are_both, other_table, not_hosts}
 use Rattle.store_commits.specs.declared.files.Former.{Former}
 use Rattle.store_commits.specs.declared.files.HostFiles.{HostFiles}
-use Rattle.store_commits.specs.Written.{change_of, former_part, unparked_change, partial_part, last_part, other_part, index_change, host_part, written}
+use Rattle.store_commits.specs.Written.{change_of, unparked_change, partial_part, last_part, other_part, index_change, host_part, written}
 
 -- ---- the changes of a commit
 

@@ -29,9 +29,13 @@ pub(crate) fn build<D: Disk, N: Namer>(
     requires filled { lines.line.filled ≡ true }
     ensures { IfOk result (IsBuilt parts.now host lines gathered.read.parked gathered.read.folding gathered.counts rows) }
 {
-    let catalog = parts
-        .catalog
-        .propose_line(alloc, host, lines.line, lines.dropped.is_none())?;
+    let catalog = parts.catalog.propose_line(
+        alloc,
+        host,
+        lines.line,
+        lines.dropped.is_none(),
+        lines.receipt,
+    )?;
     let mut index = settle_rows(alloc, &parts.pool, &rows)?;
     let files = host_files(
         alloc,

@@ -1,14 +1,18 @@
 //! What a commit of an open dump is to do: the dump becomes its host's next backup.
 //!
-//! One commit of the journal writes the new table, the former newest's table if it doesn't stay filled, the host's index and
-//! counts, and the files of the pool's index that change, and takes away the file of the host's partial, if it has one.
-//! [`plan_commit`] reads what it must and builds all of it, and changes nothing: so want of memory leaves everything as it was.
-//! [`accept_commit`] makes in memory what was committed. [`commit_dump`] is the event that plans, writes and finishes: it promises
-//! `Runs` of store_parts, and, over whatever the disk tells, `HeedsTables` of `specs/Tables`: after Ok the former newest's table and
-//! the host's partial were there if they were called for, and one that isn't there is named. Its laws are those of what stands in the
-//! files afterwards (`specs/OfficeLaws`, `specs/HostLaws`, `specs/LineLaws`), of what is open without the dump and its stages
-//! (`specs/Ending`), of the parts that then hold the office (`specs/RunningLaws`), and of the steps to that (`specs/EventLaws`,
-//! `specs/HoldLaws`).
+//! One commit of the journal writes the new table, the former newest's table if it doesn't stay filled, the host's index, the host's
+//! counts, and the files of the pool's index that change, and takes away the file of the host's partial, if it has one. If the dump was
+//! opened with a token, the commit's receipt stands in the host's index. [`plan_commit`] reads what it must and builds all of it, and
+//! changes nothing: so want of memory leaves everything as it was. [`accept_commit`] makes in memory what was committed.
+//!
+//! [`commit_dump`] is the event that plans, writes and finishes: it promises `Runs` of store_parts, and, over whatever the disk tells,
+//! `HeedsTables` of `specs/Tables`: after Ok the former newest's table and the host's partial were there if they were called for, and
+//! one that isn't there is named. A dump that isn't open has the answer of its receipt, or is refused if it has none; either does
+//! nothing, and reads nothing.
+//!
+//! Its laws are those of what stands in the files afterwards (`specs/OfficeLaws`, `specs/HostLaws`, `specs/LineLaws`), of what is open
+//! without the dump and its stages (`specs/Ending`), of the parts that then hold the office (`specs/RunningLaws`), and of the steps to
+//! that (`specs/EventLaws`, `specs/HoldLaws`).
 //!
 //! What a commit has in common with other events that store rows is [`settle_rows`], [`ids_of`] and [`unpark`], and [`parked_rows`]
 //! for those that take a partial's rows from the counts.
@@ -16,7 +20,7 @@
 //! | Type | What it is |
 //! |---|---|
 //! | [`Plan`] | the changes of all files, and of catalog and pool behind them |
-//! | [`Lines`] | the line of the new backup, and the former newest's, if it doesn't stay filled |
+//! | [`Lines`] | the line of the new backup, the former newest's, if it doesn't stay filled, and the receipt, if there is one |
 //! | [`Gathered`], [`HostRows`], [`Folding`] | what was read of the host, and its counts then |
 //! | [`HostFiles`], [`Former`] | the bytes of the host's files |
 #![tactic(auto)]

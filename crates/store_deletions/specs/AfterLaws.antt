@@ -155,7 +155,7 @@ module _ {D N S : Type 0} {d : DiskGhosts D} {n : NamerGhosts N S} where
 
     index_then : left_index numbers (index_of_host p host) ≡ index_of_host p (left_host numbers host)
     index_then =
-        ap (λ (ls : List Line). host_index_of p host.name host.rules host.good host.bad host.next ls)
+        ap (λ (ls : List Line). host_index_of p host.name host.rules host.good host.bad host.next host.receipts ls)
         (sym (lines_left numbers host.backups))
 
     pub shortened : IsShortened old plan p at.all office_then

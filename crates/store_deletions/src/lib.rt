@@ -1,10 +1,10 @@
 //! Deletions of backups: the events Delete and Expire of a store at work.
 //!
 //! One commit of the journal writes the host's index and counts, and each table of it that changes, and takes away the tables of
-//! the backups that go, whatever their number. [`plan_deletion`] reads the host's tables that the deletion touches, a window of
-//! its backups (`IsWindow` of backup_delete), and builds all of it: so want of memory leaves everything as it was. `specs/Planned`
-//! says what a plan leads to: if the files stand for a host, they have the deletion (`IsDeletion` of office_deletion) after the
-//! changes.
+//! the backups that go, whatever their number; the receipts of their commits stay. [`plan_deletion`] reads the host's tables that
+//! the deletion touches, a window of its backups (`IsWindow` of backup_delete), and builds all of it: so want of memory leaves
+//! everything as it was. `specs/Planned` says what a plan leads to: if the files stand for a host, they have the deletion
+//! (`IsDeletion` of office_deletion) after the changes.
 //!
 //! | Function | The event |
 //! |---|---|

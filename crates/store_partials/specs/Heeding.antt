@@ -17,7 +17,7 @@ use Rattle.host_partials.specs.declared.held.PartialHead.{PartialHead}
 use Rattle.host_partials.specs.Held.{HasPartial, head_at}
 use Rattle.office_catalog.specs.Known.{host_named, names_of}
 use Rattle.open_sessions.specs.declared.sessions.OpenDump.{OpenDump}
-use Rattle.office_model.specs.declared.session.SessionName.{SessionName}
+use Rattle.receipts.specs.declared.session.SessionName.{SessionName}
 use Rattle.office_model.specs.declared.refusal.Refusal.{Refusal}
 use Rattle.office_model.specs.declared.refusal.Refusal.TheVariants as R
 use Rattle.office_model.specs.Meaning.{Reply}

@@ -25,7 +25,7 @@ use Rattle.open_sessions.specs.declared.sessions.OpenDump.{OpenDump}
 use Rattle.open_sessions.specs.declared.sessions.Sessions.{Sessions}
 use Rattle.open_sessions.specs.Opened.{AreSessions, claims_in}
 use Rattle.office_catalog.specs.Known.{Known, known_of}
-use Rattle.office_model.specs.declared.session.SessionName.{SessionName}
+use Rattle.receipts.specs.declared.session.SessionName.{SessionName}
 use Rattle.office_model.specs.declared.answer.Answer.TheVariants.{Done}
 use Rattle.office_model.specs.declared.event.Event.TheVariants.{Park}
 use Rattle.office_model.specs.declared.refusal.BrokenRule.TheVariants.{NoSession}
