@@ -65,6 +65,7 @@ fn what_was_done_has_its_body(rt: HostRuntime) -> Result<(), Fail> {
     let text = "{\"restore\":\"18446744073709551615-0\"}";
     expect_json(alloc, &sweep, Answer::Restore(DUMP), text)?;
     expect_json(alloc, &sweep, Answer::Committed(0), "{\"number\":0}")?;
+    expect_json(alloc, &sweep, Answer::Already(4), "{\"number\":4}")?;
     let partial = Answer::Partial {
         entries: 3,
         kind: Kind::Incr,
@@ -295,6 +296,10 @@ fn each_refusal_has_its_body(_rt: HostRuntime) -> Result<(), Fail> {
     expect_refusal(
         Refusal::Broken(BrokenRule::NotADirectory),
         "{\"refused\":\"NotADirectory\"}",
+    )?;
+    expect_refusal(
+        Refusal::Broken(BrokenRule::TokensFull),
+        "{\"refused\":\"TokensFull\"}",
     )?;
     expect_refusal(Refusal::Halted, "{\"refused\":\"Halted\"}")?;
     expect_refusal(Refusal::DiskFault, "{\"refused\":\"DiskFault\"}")?;

@@ -3,7 +3,7 @@ use backup_rules::{Rules, Setting};
 use http_heads::{Front, read_front};
 use http_query::QueryRule;
 use http_routes::{Route, router};
-use office_model::{Event, PutItem};
+use office_model::{Event, PutItem, Token};
 use office_talks::expect;
 use request_events::*;
 use std::alloc::Global;
@@ -12,15 +12,18 @@ use stream_traits::Moment;
 use wake_schedule::Zone;
 
 /// Heads without their ends, each of which has an event.
-const TAKEN: [&str; 31] = [
+const TAKEN: [&str; 34] = [
     "GET /hosts",
     "PUT /hosts/pc1",
     "PUT /hosts/pc1/rules",
     "PUT /hosts/pc1/rules?FillCycle=7&FullKeepCnt=4,2&BlackoutPeriods=&OldFullKeepCnt=0",
     "POST /hosts/pc1/dumps?kind=full",
     "POST /hosts/pc1/dumps?kind=incr",
+    "POST /hosts/pc1/dumps?kind=full&token=0123456789abcdef0123456789abcdef",
+    "PUT /dumps/1-0/entry?token=0123456789abcdef0123456789abcdef&path=a&kind=dir",
     "PUT /dumps/1-0/entry?path=a&kind=dir&mode=0700&uid=4294967295&gid=0&mtime=-1&nanos=999999999",
     "DELETE /dumps/1-0/entry?path=a%2Fb",
+    "DELETE /dumps/1-0/entry?path=a&token=00000000000000000000000000000000",
     "POST /dumps/1-0/commit",
     "POST /dumps/x/commit",
     "POST /dumps/1-0/park",
@@ -57,7 +60,7 @@ const MISSING: RequestRefusal = RequestRefusal::BadQuery(QueryRule::Missing);
 const VALUE: RequestRefusal = RequestRefusal::BadQuery(QueryRule::Value);
 
 /// Heads without their ends, and why each is refused.
-const REFUSED: [(&str, RequestRefusal); 31] = [
+const REFUSED: [(&str, RequestRefusal); 44] = [
     ("GET /host", RequestRefusal::NoRoute),
     ("PUT /hosts", RequestRefusal::NoMethod(Route::Hosts)),
     (
@@ -95,6 +98,54 @@ const REFUSED: [(&str, RequestRefusal); 31] = [
         "PUT /dumps/x/entry?kind=file&path=/a",
         RequestRefusal::BadPath(BadPath::EmptyComponent),
     ),
+    // A token of 31 digits, of 33, of none, with a letter in upper case, with one that is no digit, and with a space.
+    (
+        "POST /hosts/a/dumps?kind=full&token=0123456789abcdef0123456789abcde",
+        VALUE,
+    ),
+    (
+        "POST /hosts/a/dumps?kind=full&token=0123456789abcdef0123456789abcdef0",
+        VALUE,
+    ),
+    ("POST /hosts/a/dumps?kind=full&token", VALUE),
+    (
+        "POST /hosts/a/dumps?kind=full&token=0123456789abcdef0123456789abcdeF",
+        VALUE,
+    ),
+    (
+        "PUT /dumps/x/entry?kind=dir&path=/a&token=0123456789abcdefg123456789abcdef",
+        VALUE,
+    ),
+    (
+        "DELETE /dumps/x/entry?path=/a&token=+0123456789abcdef123456789abcdef",
+        VALUE,
+    ),
+    (
+        "DELETE /dumps/x/entry?path=/a&token=0123456789abcdef0123456789abcdef",
+        RequestRefusal::BadPath(BadPath::EmptyComponent),
+    ),
+    (
+        "POST /hosts/a/dumps?kind=full&token=0123456789abcdef0123456789abcdef&token=x",
+        REPEATED,
+    ),
+    // Routes that take none.
+    (
+        "POST /dumps/1-0/commit?token=0123456789abcdef0123456789abcdef",
+        UNKNOWN,
+    ),
+    (
+        "POST /hosts/a/resume?token=0123456789abcdef0123456789abcdef",
+        UNKNOWN,
+    ),
+    (
+        "POST /dumps/1-0/park?token=0123456789abcdef0123456789abcdef",
+        UNKNOWN,
+    ),
+    (
+        "PUT /hosts/a?token=0123456789abcdef0123456789abcdef",
+        UNKNOWN,
+    ),
+    ("DELETE /dumps/1-0?token=x", UNKNOWN),
     (
         "GET /hosts/a/backups/0/list?path=",
         RequestRefusal::BadPath(BadPath::Empty),
@@ -107,6 +158,46 @@ const REFUSED: [(&str, RequestRefusal); 31] = [
         "PUT /dumps/x/entry?kind=file&path=a&group=1",
         RequestRefusal::NoLength,
     ),
+];
+
+/// The token of the requests below.
+const TOKEN: Token = Token {
+    bytes: [
+        0x00, 0x11, 0x22, 0x33, 0x44, 0x55, 0x66, 0x77, 0x88, 0x99, 0xaa, 0xbb, 0xcc, 0xdd, 0xee,
+        0xff,
+    ],
+};
+
+/// Requests with that token, or without one, each with a field of its head and its body.
+const WITH_TOKENS: [(&str, &str, Option<Token>); 8] = [
+    (
+        "POST /hosts/pc1/dumps?kind=full&token=00112233445566778899aabbccddeeff",
+        "",
+        Some(TOKEN),
+    ),
+    ("POST /hosts/pc1/dumps?kind=full", "", None),
+    (
+        "PUT /dumps/1-0/entry?path=a&kind=file&token=00112233445566778899aabbccddeeff",
+        "hello",
+        Some(TOKEN),
+    ),
+    (
+        "PUT /dumps/1-0/entry?path=a&kind=dir&token=00112233445566778899aabbccddeeff",
+        "",
+        Some(TOKEN),
+    ),
+    (
+        "PUT /dumps/1-0/entry?path=a&kind=link&token=00112233445566778899aabbccddeeff",
+        "hello",
+        Some(TOKEN),
+    ),
+    ("PUT /dumps/1-0/entry?path=a&kind=link", "hello", None),
+    (
+        "DELETE /dumps/1-0/entry?path=a&token=%300112233445566778899aabbccddeef%66",
+        "",
+        Some(TOKEN),
+    ),
+    ("DELETE /dumps/1-0/entry?path=a", "", None),
 ];
 
 /// Rules of which nothing is said, and a zone an hour ahead of UTC.
@@ -223,6 +314,7 @@ fn expect_put(alloc: Global, query: &str, wanted: (u16, u32, u32)) -> Result<(),
             dump,
             path: _,
             item,
+            token: _,
         },
     ) = asked(alloc, head.as_str(), b"hello", &defaults)
     else {
@@ -232,6 +324,45 @@ fn expect_put(alloc: Global, query: &str, wanted: (u16, u32, u32)) -> Result<(),
         return Ok(());
     }
     Err(Fail::new("another item"))
+}
+
+/// The token of an opening, a put or a removal.
+fn token_of(event: &Event) -> Option<Token> {
+    match event {
+        Event::OpenDump { token, .. } => *token,
+        Event::Put { token, .. } => *token,
+        Event::Remove { token, .. } => *token,
+        _ => None,
+    }
+}
+
+fn expect_token(alloc: Global, line: &str, body: &str, wanted: Option<Token>) -> Result<(), Fail> {
+    let defaults = defaults(alloc)?;
+    let count = body.len();
+    let head = format!(in alloc; "{line} HTTP/1.0\r\nContent-Length: {count}")?;
+    match asked(alloc, head.as_str(), body.as_bytes(), &defaults) {
+        Ok(event) => expect(token_of(&event) == wanted, "another token"),
+        Err(_) => Err(Fail::new("a request refused")),
+    }
+}
+
+#[test]
+fn a_request_has_its_token(rt: HostRuntime) -> Result<(), Fail> {
+    for (line, body, wanted) in WITH_TOKENS {
+        expect_token(rt.alloc(), line, body, wanted)?;
+    }
+    Ok(())
+}
+
+/// A file that goes by stages keeps its token for the put.
+#[test]
+fn a_staged_file_has_its_token(rt: HostRuntime) -> Result<(), Fail> {
+    let head =
+        "PUT /dumps/1-0/entry?path=a&kind=file&token=00112233445566778899aabbccddeeff HTTP/1.1\r\nHost: b\r\nTransfer-Encoding: chunked";
+    match way(rt.alloc(), head) {
+        Ok(Way::Staged(put)) => expect(put.token == Some(TOKEN), "another token"),
+        _ => Err(Fail::new("another way")),
+    }
 }
 
 #[test]

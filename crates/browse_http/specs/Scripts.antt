@@ -41,7 +41,7 @@ put_drops refusal = true
 
 -- the put of a stage
 abbrev pub staged_event : FilePut → ℕ → Event
-staged_event put stage = E.Put put.dump put.path (Staged (record { attr = put.attr; group = put.group; stage = stage }))
+staged_event put stage = E.Put put.dump put.path (Staged (record { attr = put.attr; group = put.group; stage = stage })) put.token
 
 abbrev pub drop_script : ℕ → Bool → Script
 drop_script stage true [] = Some (E.StageDrop stage)

@@ -107,6 +107,7 @@ fn staged_event(put: FilePut, stage: u64) -> Event
         dump: put.dump,
         path: put.path,
         item: PutItem::Staged(file),
+        token: put.token,
     }
 }
 

@@ -76,6 +76,7 @@ fn rule_status(rule: BrokenRule) -> StatusCode
         BrokenRule::Kept => StatusCode::CONFLICT,
         BrokenRule::BadBucket => StatusCode::UNPROCESSABLE_ENTITY,
         BrokenRule::BadPiece => StatusCode::BAD_REQUEST,
+        BrokenRule::TokensFull => StatusCode::UNPROCESSABLE_ENTITY,
     }
 }
 

@@ -8,7 +8,7 @@ use Rattle.std.proofs.lemmas.Grind.{common_steps}
 use Rattle.std.proofs.lemmas.Str.Parse.{digit_from_value}
 use Rattle.std.proofs.lemmas.Fmt.{decimal_is_IsNumeral}
 use Rattle.attr_records.specs.Names.{is_host_name, is_host_byte, begins_with_letter_or_digit}
-use Rattle.office_model.specs.declared.session.SessionName.{SessionName}
+use Rattle.receipts.specs.declared.session.SessionName.{SessionName}
 use Rattle.office_model.specs.declared.event.Event.{Event}
 use Rattle.office_model.specs.declared.event.Event.TheVariants as E
 use Rattle.office_model.specs.declared.answer.Answer.{Answer}
@@ -17,7 +17,7 @@ use Rattle.reply_bodies.specs.Objects.{Field, is_plain_byte, is_plain_text, are_
 use Rattle.reply_bodies.specs.Replies.{done_fields, due_text, short_fields, refusal_fields}
 use Rattle.backup_rules.specs.declared.lines.Kind.{Kind}
 use Rattle.backup_rules.specs.declared.lines.Kind.TheVariants.{Full, Incr}
-use Rattle.office_model.specs.Session.{session_text}
+use Rattle.receipts.specs.Session.{session_text}
 use Rattle.office_model.specs.RuleNames.{rule_name, put_rule_name}
 use Rattle.office_model.specs.declared.refusal.BrokenRule.{BrokenRule}
 use Rattle.office_model.specs.declared.refusal.BrokenRule.TheVariants as B

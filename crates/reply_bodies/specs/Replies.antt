@@ -12,7 +12,7 @@ use Rattle.backup_rules.specs.declared.lines.Kind.{Kind}
 use Rattle.backup_rules.specs.declared.lines.Kind.TheVariants.{Full, Incr}
 use Rattle.backup_rules.specs.declared.lines.Line.{Line}
 use Rattle.serde_json.specs.Data.{Data, string, boolean, null}
-use Rattle.office_model.specs.declared.session.SessionName.{SessionName}
+use Rattle.receipts.specs.declared.session.SessionName.{SessionName}
 use Rattle.office_model.specs.declared.event.Event.{Event}
 use Rattle.office_model.specs.declared.event.Event.TheVariants as E
 use Rattle.office_model.specs.declared.answer.Answer.{Answer}
@@ -24,7 +24,7 @@ use Rattle.tree_frames.specs.declared.nodes.Node.TheVariants as N
 use Rattle.office_model.specs.declared.refusal.Refusal.{Refusal}
 use Rattle.office_model.specs.declared.refusal.Refusal.TheVariants.{Broken, Halted, DiskFault, Damaged, Memory}
 use Rattle.office_model.specs.RuleNames.{rule_name}
-use Rattle.office_model.specs.Session.{session_text}
+use Rattle.receipts.specs.Session.{session_text}
 use Rattle.restore_stream.specs.Layouts.{frame_bytes}
 use Rattle.reply_bodies.specs.Objects.{Field, Text, Count, Flag, Member, json_text, json_object, json_list, json_count, json_integer}
 
@@ -54,6 +54,7 @@ abbrev pub short_fields : Event → Answer → Option (List Field)
 short_fields event A.Done = Some (done_fields event)
 short_fields event (A.Dump name) = Some ((codes "dump", Text (session_text name)) ∷ [])
 short_fields event (A.Committed number) = Some ((codes "number", Count number) ∷ [])
+short_fields event (A.Already number) = Some ((codes "number", Count number) ∷ [])
 short_fields event (A.Partial entries kind start) =
     Some ((codes "entries", Count entries) ∷ (codes "kind", Text (kind_text kind)) ∷ (codes "start", Count start) ∷ [])
 short_fields event (A.Stage number) = Some ((codes "stage", Count number) ∷ [])

@@ -1,6 +1,6 @@
 ghost use Rattle.std.specs.Prelude.{◌≡◌, ◌≤◌, [], ◌∷◌, codes, length, true, IfOk, IfErr};
 ghost use Rattle.std.specs.Option.{option_map};
-ghost use Rattle.office_model.specs.Session.{session_text};
+ghost use Rattle.receipts.specs.Session.{session_text};
 ghost use Rattle.reply_bodies.specs.Objects.{Text as TextValue, Count, Flag, object_text};
 ghost use Rattle.reply_bodies.specs.Replies.{done_fields, stats_fields, kind_text, due_text, short_fields, long_body, takes_memory};
 
@@ -22,6 +22,7 @@ pub fn answer_text(event: &Event, answer: &Answer) -> Option<ShortText>
         Answer::Done => Some(done_text(event)),
         Answer::Dump(name) => Some(named(b"dump", session_name(*name).as_slice())),
         Answer::Committed(number) => Some(counted(b"number", u64::from(*number))),
+        Answer::Already(number) => Some(counted(b"number", u64::from(*number))),
         Answer::Partial {
             entries,
             kind,

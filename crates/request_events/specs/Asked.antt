@@ -19,7 +19,7 @@ use Rattle.request_events.specs.Events.{event_of}
 -- how many bytes of a body the event needs: of a file that goes whole all, of a target one more than it may have
 abbrev pub looked_at : Plan → ℕ
 looked_at (P.PutFile put) = piece_limit
-looked_at (P.PutLink dump path attributes) = 4097
+looked_at (P.PutLink dump path attributes token) = 4097
 looked_at plan = 0
 
 -- a file goes by stages if it comes in chunks, or is longer than a piece

@@ -34,7 +34,7 @@ rule_keys =
 abbrev pub entry_keys : List KeyRow
 entry_keys =
     needed (codes "path") ∷ needed (codes "kind") ∷ optional (codes "mode") ∷ optional (codes "uid")
-    ∷ optional (codes "gid") ∷ optional (codes "mtime") ∷ optional (codes "nanos") ∷ []
+    ∷ optional (codes "gid") ∷ optional (codes "mtime") ∷ optional (codes "nanos") ∷ optional (codes "token") ∷ []
 
 abbrev pub file_keys : List KeyRow
 file_keys = entry_keys ++ optional (codes "group") ∷ []
@@ -46,14 +46,14 @@ put_keys (Some kind) = if bytes_eq kind (codes "file") then file_keys else entry
 abbrev pub keys_of : Action → List Pair → List KeyRow
 keys_of (A.Office O.Clean) pairs = needed (codes "bucket") ∷ []
 keys_of (A.Host H.SetRules) pairs = rule_keys
-keys_of (A.Host H.OpenDump) pairs = needed (codes "kind") ∷ []
+keys_of (A.Host H.OpenDump) pairs = needed (codes "kind") ∷ optional (codes "token") ∷ []
 keys_of (A.Host H.Contact) pairs = needed (codes "good") ∷ []
 keys_of (A.Backup B.List) pairs = optional (codes "path") ∷ []
 keys_of (A.Backup B.Lookup) pairs = needed (codes "path") ∷ []
 keys_of (A.Backup B.OpenFile) pairs = needed (codes "path") ∷ []
 keys_of (A.Backup B.Keep) pairs = needed (codes "on") ∷ []
 keys_of (A.Session S.Put) pairs = put_keys (value_of (codes "kind") pairs)
-keys_of (A.Session S.Remove) pairs = needed (codes "path") ∷ []
+keys_of (A.Session S.Remove) pairs = needed (codes "path") ∷ optional (codes "token") ∷ []
 keys_of action pairs = []
 
 abbrev pub refused_for : Option QueryRule → Said (Unit {0})

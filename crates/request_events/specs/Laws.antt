@@ -1,5 +1,5 @@
 -- No more of a body is looked at than its event needs.
-use Rattle.std.specs.Prelude.{◌≡◌, ◌≤◌, ℕ, nat_le, nat_lt, Bool, true, false, ◌&&◌, ◌||◌, not, List, take, length, None, unwrap_or}
+use Rattle.std.specs.Prelude.{◌≡◌, ◌≤◌, ℕ, nat_le, nat_lt, Bool, true, false, ◌&&◌, ◌||◌, not, List, take, length, Option, None, unwrap_or}
 use Rattle.std.specs.Str.{is_utf8}
 use Rattle.std.proofs.Common.{◌<◌, refl, sym, ap, subst, arith, inl, inr}
 use Rattle.std.proofs.lemmas.Bool.{cases_lt}
@@ -10,7 +10,8 @@ use Rattle.attr_records.specs.Names.{is_link_target}
 use Rattle.attr_records.specs.PathRules.{has_nul, is_empty_component}
 use Rattle.http_heads.specs.Heads.{HeadParts}
 use Rattle.office_model.specs.Office.{piece_limit}
-use Rattle.office_model.specs.declared.session.SessionName.{SessionName}
+use Rattle.receipts.specs.declared.session.SessionName.{SessionName}
+use Rattle.receipts.specs.declared.session.Token.{Token}
 use Rattle.request_events.specs.declared.defaults.Defaults.{Defaults}
 use Rattle.request_events.specs.declared.plan.FilePut.{FilePut}
 use Rattle.request_events.specs.declared.plan.Plan.{Plan}
@@ -40,18 +41,18 @@ long_is_none text long = step (not (is_empty_component text)) (length text) (is_
     step : (some : Bool) (n : ℕ) (plain : Bool) → 4096 < n → (some && (nat_le n 4096 && plain)) ≡ false
     step some n plain long = grind (arith, nat_tests)
 
-target_kept : (dump : SessionName) (path : List ℕ) (attributes : Attributes) (body : List ℕ)
-    → link_event dump path attributes (take 4097 body) ≡ link_event dump path attributes body
-target_kept dump path attributes body = elim (cases_lt 4096 (length body)) [
+target_kept : (dump : SessionName) (path : List ℕ) (attributes : Attributes) (token : Option Token) (body : List ℕ)
+    → link_event dump path attributes token (take 4097 body) ≡ link_event dump path attributes token body
+target_kept dump path attributes token body = elim (cases_lt 4096 (length body)) [
   | inl long ↦
       let kept : is_link_target (take 4097 body) ≡ false = long_is_none (take 4097 body) (omega (arith, length-take 4097 body, long)) in
       rw (kept, long_is_none body long) refl
-  | inr short ↦ ap (λ (bytes : List ℕ). link_event dump path attributes bytes) (take_all 4097 body (omega (arith, short)))
+  | inr short ↦ ap (λ (bytes : List ℕ). link_event dump path attributes token bytes) (take_all 4097 body (omega (arith, short)))
 ]
 
 pub looks_at_enough : LooksAtEnough
 looks_at_enough (P.PutFile put) body moment defaults fits = ap (λ (bytes : List ℕ). event_of (P.PutFile put) bytes moment defaults) (take_all piece_limit body fits)
-looks_at_enough (P.PutLink dump path attributes) body moment defaults fits = target_kept dump path attributes body
+looks_at_enough (P.PutLink dump path attributes token) body moment defaults fits = target_kept dump path attributes token body
 looks_at_enough plan body moment defaults fits = refl
 
 few : (count : ℕ) → nat_lt piece_limit count ≡ false → count ≤ piece_limit

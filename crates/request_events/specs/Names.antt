@@ -5,7 +5,7 @@ use Rattle.std.specs.Option.{option_map}
 use Rattle.attr_records.specs.Names.{is_host_name}
 use Rattle.http_query.specs.Numbers.{number_of}
 use Rattle.http_routes.specs.Targets.{first_part, second_part}
-use Rattle.office_model.specs.declared.session.SessionName.{SessionName}
+use Rattle.receipts.specs.declared.session.SessionName.{SessionName}
 use Rattle.request_events.specs.declared.refusal.RequestRefusal.TheVariants.{BadName, BadNumber}
 use Rattle.request_events.specs.Said.{Said, or_refuse}
 

@@ -1,15 +1,19 @@
 -- The values of a query.
 --     value_in, value_or      the value of a key in a form, which must be there, or stands for another where it is absent
+--     token_in      the token of the request, if it has one
 --     path_in, place_in      the path that the query names;  the same, or the root
-use Rattle.std.specs.Prelude.{ℕ, Bool, true, false, List, codes, Option, Some, None, Ok, Err, bytes_eq, if◌then◌else◌}
-use Rattle.std.specs.Option.{option_map_or}
+use Rattle.std.specs.Prelude.{ℕ, Bool, true, false, List, codes, Option, Some, None, Result, Ok, Err, bytes_eq, if◌then◌else◌}
+use Rattle.std.specs.Option.{option_map, option_map_or}
 use Rattle.attr_records.specs.PathRules.{broken_path_rule}
 use Rattle.attr_records.specs.declared.paths.BadPath.{BadPath}
 use Rattle.backup_rules.specs.declared.lines.Kind.{Kind}
 use Rattle.backup_rules.specs.declared.lines.Kind.TheVariants.{Full, Incr}
+use Rattle.hex.specs.Hex.{encode_lower, decode_sized}
+use Rattle.hex.specs.declared.error.FromHexError.{FromHexError}
 use Rattle.http_query.specs.declared.keys.QueryRule.TheVariants.{Missing, Value}
 use Rattle.http_query.specs.Numbers.{number_of}
 use Rattle.http_query.specs.Query.{Pair, value_of}
+use Rattle.receipts.specs.declared.session.Token.{Token}
 use Rattle.request_events.specs.declared.refusal.RequestRefusal.TheVariants.{BadQuery, BadPath as RefusedPath}
 use Rattle.request_events.specs.Said.{Said, ◌>>=◌, or_refuse}
 
@@ -35,6 +39,22 @@ flag_of text = if bytes_eq text (codes "0") then Some false else if bytes_eq tex
 -- 0 to 255
 abbrev pub bucket_of : List ℕ → Option ℕ
 bucket_of text = number_of 255 text
+
+-- the token of these bytes, if the text is their lower-case hexadecimal digits
+abbrev pub lower_token : List ℕ → List ℕ → Option Token
+lower_token text bytes = if bytes_eq text (encode_lower bytes) then Some (record { bytes = bytes }) else None
+
+abbrev pub token_read : List ℕ → Result (List ℕ) FromHexError → Option Token
+token_read text (Ok bytes) = lower_token text bytes
+token_read text (Err fault) = None
+
+-- the token that a text writes: 32 lower-case hexadecimal digits
+unfoldable pub token_of : List ℕ → Option Token
+token_of text = token_read text (decode_sized text 16)
+
+-- None where the key is absent
+abbrev pub token_in : List Pair → Said (Option Token)
+token_in pairs = or_refuse (BadQuery Value) (value_or (λ text. option_map Some (token_of text)) None (codes "token") pairs)
 
 -- a text as a path, refused for the first rule of paths that it breaks
 abbrev pub path_or : List ℕ → Option BadPath → Said (List ℕ)

@@ -8,7 +8,7 @@ use crate::plan::{FilePut, Plan};
 use crate::refusal::{RequestFault, RequestRefusal};
 use attr_records::{Attr, BadTarget, File, HostName, Item, Link, LinkTarget, PathName};
 use disk_trait::Bytes;
-use office_model::{Event, PutItem, SessionName};
+use office_model::{Event, PutItem, SessionName, Token};
 use std::alloc::Global;
 use stream_traits::Moment;
 
@@ -26,9 +26,19 @@ pub fn event_of(
     match plan {
         Plan::Ready(event) => Ok(event),
         Plan::AddHost { host } => add_host(alloc, host, defaults),
-        Plan::OpenDump { host, kind } => Ok(Event::OpenDump { host, kind, now }),
+        Plan::OpenDump { host, kind, token } => Ok(Event::OpenDump {
+            host,
+            kind,
+            now,
+            token,
+        }),
         Plan::PutFile(put) => Ok(put_file(put, body)),
-        Plan::PutLink { dump, path, attr } => put_link(alloc, dump, path, attr, body),
+        Plan::PutLink {
+            dump,
+            path,
+            attr,
+            token,
+        } => put_link(alloc, dump, path, attr, token, body),
         Plan::Commit { dump } => Ok(Event::Commit { dump, now }),
         Plan::Expire { host } => Ok(Event::Expire { host, now }),
         Plan::Due { host } => Ok(due(host, now, defaults)),
@@ -64,6 +74,7 @@ fn put_file(put: FilePut, bytes: Vec<u8>) -> Event
         dump: put.dump,
         path: put.path,
         item: PutItem::Whole(Item::File(file)),
+        token: put.token,
     }
 }
 
@@ -73,14 +84,20 @@ fn put_link(
     dump: SessionName,
     path: PathName,
     attr: Attr,
+    token: Option<Token>,
     target: Vec<u8>,
 ) -> Result<Event, RequestFault>
-    ensures { Says result (link_event dump path attr target.items) }
+    ensures { Says result (link_event dump path attr token target.items) }
 {
     match LinkTarget::read(alloc, target.as_slice()) {
         Ok(target) => {
             let item = PutItem::Whole(Item::Link(Link { attr, target }));
-            Ok(Event::Put { dump, path, item })
+            Ok(Event::Put {
+                dump,
+                path,
+                item,
+                token,
+            })
         }
         Err(BadTarget::BadTarget) => Err(RequestFault::Refused(RequestRefusal::BadTarget)),
         Err(BadTarget::Memory) => Err(RequestFault::Memory),

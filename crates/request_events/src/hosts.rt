@@ -6,7 +6,7 @@ ghost use Rattle.request_events.specs.HostPlans.{host_plan};
 use crate::plan::Plan;
 use crate::refusal::RequestFault;
 use crate::rules::change_in;
-use crate::values::{dump_kind_in, flag_in};
+use crate::values::{dump_kind_in, flag_in, token_in};
 use attr_records::HostName;
 use http_query::Query;
 use http_routes::HostAction;
@@ -29,7 +29,8 @@ pub fn host_plan(
         }
         HostAction::OpenDump => {
             let kind = dump_kind_in(query)?;
-            Ok(Plan::OpenDump { host, kind })
+            let token = token_in(query)?;
+            Ok(Plan::OpenDump { host, kind, token })
         }
         HostAction::Resume => Ok(Plan::Ready(Event::Resume { host })),
         HostAction::DropPartial => Ok(Plan::Ready(Event::DropPartial { host })),

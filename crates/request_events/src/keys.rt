@@ -67,6 +67,11 @@ const GROUP: Key = Key {
     needed: false,
 };
 
+const TOKEN: Key = Key {
+    name: "token",
+    needed: false,
+};
+
 /// The key `path` of a listing, which is of the root without it.
 const PLACE: Key = Key {
     name: "path",
@@ -138,10 +143,10 @@ const RULE_KEYS: [Key; 15] = [
 ];
 
 /// The keys of a put.
-const ENTRY_KEYS: [Key; 7] = [PATH, KIND, MODE, UID, GID, MTIME, NANOS];
+const ENTRY_KEYS: [Key; 8] = [PATH, KIND, MODE, UID, GID, MTIME, NANOS, TOKEN];
 
 /// The keys of a put of a file.
-const FILE_KEYS: [Key; 8] = [PATH, KIND, MODE, UID, GID, MTIME, NANOS, GROUP];
+const FILE_KEYS: [Key; 9] = [PATH, KIND, MODE, UID, GID, MTIME, NANOS, TOKEN, GROUP];
 
 /// The keys of a put, by the kind that the query names.
 fn put_keys(query: &Query) -> &'static [Key]
@@ -166,13 +171,13 @@ pub fn keys_of(action: Action, query: &Query) -> &'static [Key]
     match action {
         Action::Office(OfficeAction::Clean) => &[BUCKET],
         Action::Host(HostAction::SetRules) => &RULE_KEYS,
-        Action::Host(HostAction::OpenDump) => &[KIND],
+        Action::Host(HostAction::OpenDump) => &[KIND, TOKEN],
         Action::Host(HostAction::Contact) => &[GOOD],
         Action::Backup(BackupAction::List) => &[PLACE],
         Action::Backup(BackupAction::Lookup | BackupAction::OpenFile) => &[PATH],
         Action::Backup(BackupAction::Keep) => &[ON],
         Action::Session(SessionAction::Put) => put_keys(query),
-        Action::Session(SessionAction::Remove) => &[PATH],
+        Action::Session(SessionAction::Remove) => &[PATH, TOKEN],
         _ => &[],
     }
 }

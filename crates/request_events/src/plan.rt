@@ -16,7 +16,7 @@ use http_heads::Head;
 use http_query::Query;
 use http_routes::{Action, Route, route_of, split_target};
 use matchit::Router;
-use office_model::{Event, SessionName};
+use office_model::{Event, SessionName, Token};
 use std::alloc::Global;
 
 /// The put of a file, but for its bytes.
@@ -27,6 +27,7 @@ pub struct FilePut {
     pub attr: Attr,
     /// Files of one group other than 0 are hard links of one file.
     pub group: u32,
+    pub token: Option<Token>,
 }
 
 /// What a head asks for: an event, or what lacks its body, the moment or the settings to be one.
@@ -42,6 +43,7 @@ pub enum Plan {
     OpenDump {
         host: HostName,
         kind: Kind,
+        token: Option<Token>,
     },
     /// The body is the file's bytes.
     PutFile(FilePut),
@@ -50,6 +52,7 @@ pub enum Plan {
         dump: SessionName,
         path: PathName,
         attr: Attr,
+        token: Option<Token>,
     },
     /// The moment is that after the body.
     Commit {

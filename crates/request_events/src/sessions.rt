@@ -7,16 +7,23 @@ ghost use Rattle.request_events.specs.SessionPlans.{put_of, put_plan, session_pl
 use crate::items::{ItemKind, attributes_in, group_in, item_kind_in};
 use crate::plan::{FilePut, Plan};
 use crate::refusal::RequestFault;
-use crate::values::path_in;
+use crate::values::{path_in, token_in};
 use attr_records::{Attr, Dir, Item, PathName};
 use http_query::Query;
 use http_routes::SessionAction;
-use office_model::{Event, PutItem, SessionName};
+use office_model::{Event, PutItem, SessionName, Token};
 use std::alloc::Global;
 
 /// The put of an item of a kind. A directory takes no body; a file's is its bytes, and a link's its target.
-fn put_of(kind: ItemKind, dump: SessionName, path: PathName, attr: Attr, group: u32) -> Plan
-    ensures { result ≡ put_of kind dump path attr group }
+fn put_of(
+    kind: ItemKind,
+    dump: SessionName,
+    path: PathName,
+    attr: Attr,
+    group: u32,
+    token: Option<Token>,
+) -> Plan
+    ensures { result ≡ put_of kind dump path attr group token }
 {
     match kind {
         ItemKind::File => Plan::PutFile(FilePut {
@@ -24,13 +31,20 @@ fn put_of(kind: ItemKind, dump: SessionName, path: PathName, attr: Attr, group: 
             path,
             attr,
             group,
+            token,
         }),
         ItemKind::Dir => Plan::Ready(Event::Put {
             dump,
             path,
             item: PutItem::Whole(Item::Dir(Dir { attr })),
+            token,
         }),
-        ItemKind::Link => Plan::PutLink { dump, path, attr },
+        ItemKind::Link => Plan::PutLink {
+            dump,
+            path,
+            attr,
+            token,
+        },
     }
 }
 
@@ -42,8 +56,9 @@ fn put_plan(alloc: Global, dump: SessionName, query: &Query) -> Result<Plan, Req
     let kind = item_kind_in(query)?;
     let attr = attributes_in(kind, query)?;
     let group = group_in(query)?;
+    let token = token_in(query)?;
     let path = path_in(alloc, query)?;
-    Ok(put_of(kind, dump, path, attr, group))
+    Ok(put_of(kind, dump, path, attr, group, token))
 }
 
 pub fn session_plan(
@@ -57,10 +72,12 @@ pub fn session_plan(
     match action {
         SessionAction::Put => put_plan(alloc, session, query),
         SessionAction::Remove => {
+            let token = token_in(query)?;
             let path = path_in(alloc, query)?;
             Ok(Plan::Ready(Event::Remove {
                 dump: session,
                 path,
+                token,
             }))
         }
         SessionAction::Commit => Ok(Plan::Commit { dump: session }),

@@ -1,13 +1,14 @@
 ghost use Rattle.std.specs.Prelude.{◌≡◌, codes};
 ghost use Rattle.http_query.specs.declared.keys.QueryRule.TheVariants.{Value};
 ghost use Rattle.request_events.specs.Said.{Says, or_refuse};
-ghost use Rattle.request_events.specs.Values.{value_in, dump_kind_of, flag_of, bucket_of, path_of_text, path_in, place_in};
+ghost use Rattle.request_events.specs.Values.{value_in, dump_kind_of, flag_of, bucket_of, lower_token, token_of, token_in, path_of_text, path_in, place_in};
 ghost use Rattle.request_events.specs.declared.refusal.RequestRefusal.TheVariants.{BadQuery};
 
 use crate::refusal::{RequestFault, RequestRefusal};
 use attr_records::{BadPath, PathName};
 use backup_rules::Kind;
 use http_query::{Query, QueryRule, read_number};
+use office_model::Token;
 use std::alloc::Global;
 
 /// What a value of another form is answered.
@@ -86,6 +87,47 @@ pub fn bucket_in(query: &Query) -> Result<u8, RequestFault>
             None => Err(BAD_VALUE),
         },
         None => Err(MISSING),
+    }
+}
+
+/// The token of these bytes, if the text is their lower-case hexadecimal digits.
+fn lower_token(text: &str, bytes: [u8; 16]) -> Option<Token>
+    ensures { result ≡ lower_token text.now bytes }
+{
+    let mut lower = [0u8; 32];
+    match hex::encode_to_slice(&bytes, &mut lower) {
+        Ok(()) => {}
+        Err(_) => unreachable!(),
+    }
+    if text.as_bytes() == lower.as_slice() {
+        Some(Token { bytes })
+    } else {
+        None
+    }
+}
+
+/// The token that a text writes: 32 lower-case hexadecimal digits.
+#[tactic(auto, unfolding(crate::specs::Values::token_of))]
+fn token_of(text: &str) -> Option<Token>
+    ensures { result ≡ token_of text.now }
+{
+    let mut bytes = [0u8; 16];
+    match hex::decode_to_slice(text, &mut bytes) {
+        Ok(()) => lower_token(text, bytes),
+        Err(_) => None,
+    }
+}
+
+/// The token, by the key `token`, or None if the key is absent.
+pub fn token_in(query: &Query) -> Result<Option<Token>, RequestFault>
+    ensures { Says result (token_in query.now) }
+{
+    match query.value("token") {
+        Some(text) => match token_of(text) {
+            Some(token) => Ok(Some(token)),
+            None => Err(BAD_VALUE),
+        },
+        None => Ok(None),
     }
 }
 

@@ -2,12 +2,13 @@ use crate::interfaces::{interface, name_of};
 use attr_records::HostName;
 use browse_http::*;
 use disk_trait::Bytes;
-use office_model::{Answer, BrokenRule, Event, HostList, Port, Refusal, SessionName};
+use office_model::{Answer, BrokenRule, Event, HostList, Port, Refusal, SessionName, Token};
 use std::alloc::{AllocError, Global};
 use std::test::Fail;
 use stream_traits::{FixedClock, Gate, MemoryLink, Moment, OpenGate};
 
-/// A port that has one host, pc1, with a dump 1-0 and a backup of a file `hello`, whatever it is asked.
+/// A port that has one host, pc1, with a dump 1-0 and a backup of a file `hello`, whatever it is asked. An opening with a token
+/// repeats that of backup 7, and a put with a token is one too many.
 #[derive(Drop)]
 struct OneHost {
     /// Whether the bytes of the file were read.
@@ -22,13 +23,13 @@ impl Port for OneHost {
     fn call(&mut self, alloc: Global, event: &Event) -> Result<Answer, Refusal> {
         match event {
             Event::AddHost { .. } => Ok(Answer::Done),
-            Event::OpenDump { host, .. } => {
+            Event::OpenDump { host, token, .. } => {
                 of_host(host)?;
-                Ok(Answer::Dump(DUMP))
+                Ok(opened(*token))
             }
-            Event::Put { dump, .. } => {
+            Event::Put { dump, token, .. } => {
                 of_dump(*dump)?;
-                Ok(Answer::Done)
+                kept(*token)
             }
             Event::Commit { dump, .. } => {
                 of_dump(*dump)?;
@@ -76,6 +77,20 @@ fn of_host(host: &HostName) -> Result<(), Refusal> {
         return Ok(());
     }
     Err(Refusal::Broken(BrokenRule::NoHost))
+}
+
+fn opened(token: Option<Token>) -> Answer {
+    match token {
+        Some(_) => Answer::Already(7),
+        None => Answer::Dump(DUMP),
+    }
+}
+
+fn kept(token: Option<Token>) -> Result<Answer, Refusal> {
+    match token {
+        Some(_) => Err(Refusal::Broken(BrokenRule::TokensFull)),
+        None => Ok(Answer::Done),
+    }
 }
 
 fn of_dump(dump: SessionName) -> Result<(), Refusal> {
@@ -159,7 +174,7 @@ fn a_failed_call_of_the_link_ends_it(rt: HostRuntime) -> Result<(), Fail> {
 }
 
 /// Requests without the end of their heads, and the status lines, fields and bodies of their responses.
-const REQUESTS: [(&str, &str); 21] = [
+const REQUESTS: [(&str, &str); 25] = [
     (
         "PATCH /hosts/pc1",
         "405 Method Not Allowed\r\nContent-Type: application/json\r\nContent-Length: 22\r\nAllow: PUT\r\n\r\n{\"refused\":\"NoMethod\"}",
@@ -231,6 +246,22 @@ const REQUESTS: [(&str, &str); 21] = [
     (
         "POST /hosts/a/dumps?kind=full",
         "404 Not Found\r\nContent-Type: application/json\r\nContent-Length: 20\r\n\r\n{\"refused\":\"NoHost\"}",
+    ),
+    (
+        "POST /hosts/pc1/dumps?kind=full",
+        "201 Created\r\nContent-Type: application/json\r\nContent-Length: 14\r\n\r\n{\"dump\":\"1-0\"}",
+    ),
+    (
+        "POST /hosts/pc1/dumps?kind=full&token=0123456789abcdef0123456789abcdef",
+        "200 OK\r\nContent-Type: application/json\r\nContent-Length: 12\r\n\r\n{\"number\":7}",
+    ),
+    (
+        "PUT /dumps/1-0/entry?path=a&kind=dir&token=0123456789abcdef0123456789abcdef",
+        "422 Unprocessable Entity\r\nContent-Type: application/json\r\nContent-Length: 24\r\n\r\n{\"refused\":\"TokensFull\"}",
+    ),
+    (
+        "PUT /dumps/1-0/entry?path=a&kind=dir&token=0123456789abcdef0123456789abcdef0",
+        "400 Bad Request\r\nContent-Type: application/json\r\nContent-Length: 28\r\n\r\n{\"refused\":\"BadQuery.Value\"}",
     ),
     (
         "GET /hosts",

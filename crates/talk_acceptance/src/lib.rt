@@ -7,6 +7,8 @@ mod browse_http_tests;
 #[cfg(test)]
 mod interfaces;
 #[cfg(test)]
+mod repeats_tests;
+#[cfg(test)]
 mod request_calls_tests;
 #[cfg(test)]
 mod serve_callers_tests;

@@ -1,6 +1,6 @@
 //! The calls of one request: a body that is handed on in pieces, and a file that is read in parts; also if a call is refused.
 
-use self::Cause::{Disk, Memory, NoParent, NoSession, TooLarge};
+use self::Cause::{Disk, Memory, NoParent, NoSession, TokensFull, TooLarge};
 use crate::interfaces::{interface, name_of};
 use attr_records::PutRule;
 use browse_http::serve_connection;
@@ -15,6 +15,7 @@ use stream_traits::{FixedClock, MemoryLink, Moment, OpenGate};
 enum Cause {
     NoSession,
     NoParent,
+    TokensFull,
     TooLarge,
     Disk,
     Memory,
@@ -24,6 +25,7 @@ fn refusal(cause: Cause) -> Refusal {
     match cause {
         NoSession => Refusal::Broken(BrokenRule::NoSession),
         NoParent => Refusal::Broken(BrokenRule::Put(PutRule::NoParent)),
+        TokensFull => Refusal::Broken(BrokenRule::TokensFull),
         TooLarge => Refusal::Broken(BrokenRule::Put(PutRule::FileTooLarge)),
         Disk => Refusal::DiskFault,
         Memory => Refusal::Memory,
@@ -226,7 +228,7 @@ fn chunks_are_joined_to_pieces(rt: HostRuntime) -> Result<(), Fail> {
 }
 
 /// How many calls of a put of 100,000 bytes come before the one that is refused, why it is, and what comes of it.
-const REFUSED_PUTS: [(u64, Cause, &str, &str, &str); 9] = [
+const REFUSED_PUTS: [(u64, Cause, &str, &str, &str); 10] = [
     (0, NoSession, "stage ", "404", "ended"),
     (1, NoSession, "stage 65536 ", "404", "ended"),
     (1, Disk, "stage 65536 ", "500", "ended"),
@@ -235,6 +237,7 @@ const REFUSED_PUTS: [(u64, Cause, &str, &str, &str); 9] = [
     (2, TooLarge, "stage 65536 34464 drop ", "413", "ended"),
     (3, NoSession, "stage 65536 34464 put ", "404", "ended"),
     (3, NoParent, "stage 65536 34464 put drop ", "409", "ended"),
+    (3, TokensFull, "stage 65536 34464 put drop ", "422", "ended"),
     (3, Disk, "stage 65536 34464 put drop ", "500", "ended"),
 ];
 
