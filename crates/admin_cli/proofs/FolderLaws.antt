@@ -32,7 +32,8 @@ use Rattle.folder_laws.specs.ShownLaws.{dump_shows}
 use Rattle.folder_walk.specs.declared.refusals.DumpRefusal.{DumpRefusal}
 use Rattle.folder_walk.specs.declared.refusals.DumpRefusal.TheVariants as P
 use Rattle.folder_walk.specs.Causes.{IsDumpCause}
-use Rattle.folder_walk.specs.Dumps.{IsDump, Dumped, Stopped as DumpStopped}
+use Rattle.folder_walk.specs.Dumps.{Dumped, Stopped as DumpStopped}
+use Rattle.folder_walk.specs.ShownLaws.{is_dump}
 use Rattle.folder_restore.specs.declared.refusals.RestoreRefusal.{RestoreRefusal}
 use Rattle.folder_restore.specs.declared.refusals.RestoreRefusal.TheVariants as F
 use Rattle.folder_restore.specs.Restores.{Restored, Stopped as RestoreStopped, IsUncalled}
@@ -123,8 +124,9 @@ module _ {D : Type 0} (d : DiskGhosts D) (digest_of : List ℕ → List ℕ) (di
       → IsTree is_dir tree → told ≡ Some tree → StandsForEither d digest_of disk a b
       → Dumped (LeadsOnDisk d digest_of halted) disk disk' told moments moments' kind host number → HoldsBackup d digest_of disk' host number tree
   dump_holds told moments moments' kind host number tree a b is_tree is stands dumped =
-      let made : IsDump kind tree host dumped.now dumped.later number dumped.calls = dumped.whole tree is is_tree in
       let served : IsServed d digest_of disk disk' dumped.calls halted a b = dumped.moved a b stands in
+      let made = is_dump kind tree host dumped.now dumped.later number dumped.calls (reopened served.office) served.names served.opening
+      served.last (d.fault_count disk') served.history (dumped.whole tree is is_tree) in
       holds host number tree served.last
       (dump_shows host made.moment made.dump number tree made.puts made.are_puts served.last (d.fault_count disk') is_tree kind dumped.now made.base
       (reopened served.office) served.names served.opening served.sound.office made.is_base

@@ -4,7 +4,7 @@
 --     event_of      the event of an ask, by the dump that was opened last
 --     dump_after, more      the dump that is open then, and the asks that come before what else is left
 --     is_passed      whether the job goes on
-use Rattle.std.specs.Prelude.{ℕ, Bool, true, false, ◌&&◌, List, [], ◌∷◌, ◌++◌, map, codes, decimal, pos, Some, Ok, Err, zero, suc}
+use Rattle.std.specs.Prelude.{ℕ, Bool, true, false, ◌&&◌, List, [], ◌∷◌, ◌++◌, map, codes, decimal, pos, Some, None, Ok, Err, zero, suc}
 use Rattle.attr_records.specs.Attributes.{Attributes}
 use Rattle.attr_records.specs.declared.nodes.Item.{Item}
 use Rattle.attr_records.specs.declared.nodes.Item.TheVariants as I
@@ -14,7 +14,7 @@ use Rattle.backup_rules.specs.Values.{RuleSet, RuleChanges}
 use Rattle.backup_rules.specs.Changes.{default_rules, no_change, with_number, changed}
 use Rattle.tree_frames.specs.declared.nodes.Frame.{Frame}
 use Rattle.tree_frames.specs.declared.nodes.Frame.TheVariants.{Entry, Piece, End}
-use Rattle.office_model.specs.declared.session.SessionName.{SessionName}
+use Rattle.receipts.specs.declared.session.SessionName.{SessionName}
 use Rattle.office_model.specs.declared.event.Event.{Event}
 use Rattle.office_model.specs.declared.event.Event.TheVariants as E
 use Rattle.office_model.specs.declared.event.PutItem.TheVariants.{Whole}
@@ -73,10 +73,10 @@ demo_rules = changed default_rules demo_change
 
 abbrev pub event_of : SessionName → Ask → Event
 event_of dump (Q.AddHost host) = E.AddHost (host_name host) demo_rules
-event_of dump (Q.OpenDump host kind now) = E.OpenDump (host_name host) kind now
-event_of dump (Q.PutDir dir) = E.Put dump (dir_path dir) (Whole dir_item)
-event_of dump (Q.PutFile dir file value times) = E.Put dump (file_path dir file) (Whole (file_item value times))
-event_of dump (Q.Remove dir file) = E.Remove dump (file_path dir file)
+event_of dump (Q.OpenDump host kind now) = E.OpenDump (host_name host) kind now None
+event_of dump (Q.PutDir dir) = E.Put dump (dir_path dir) (Whole dir_item) None
+event_of dump (Q.PutFile dir file value times) = E.Put dump (file_path dir file) (Whole (file_item value times)) None
+event_of dump (Q.Remove dir file) = E.Remove dump (file_path dir file) None
 event_of dump (Q.Commit now) = E.Commit dump now
 event_of dump (Q.Expire host now) = E.Expire (host_name host) now
 event_of dump (Q.Clean bucket) = E.Clean bucket
@@ -139,7 +139,7 @@ names_no_path (Broken rule) = is_no_path rule
 names_no_path _ = false
 
 abbrev pub is_remove : Event → Bool
-is_remove (E.Remove dump path) = true
+is_remove (E.Remove dump path token) = true
 is_remove _ = false
 
 -- an answer, or a Remove where there is nothing

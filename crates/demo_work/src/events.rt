@@ -1,6 +1,6 @@
 //! The event of an ask.
 
-ghost use Rattle.std.specs.Prelude.{◌≡◌, IfOk};
+ghost use Rattle.std.specs.Prelude.{◌≡◌, None, IfOk};
 ghost use Rattle.office_model.specs.declared.event.Event.TheVariants as E;
 ghost use Rattle.office_model.specs.declared.event.PutItem.TheVariants.{Whole};
 ghost use Rattle.demo_work.specs.Asks.{host_name, dir_path, file_path, word_of, repeated, file_item, dir_item, demo_rules, event_of};
@@ -124,21 +124,31 @@ fn add_host(alloc: Global, host: u64) -> Result<Event, AllocError>
 
 /// A host's dump is opened.
 fn open_dump(alloc: Global, host: u64, kind: Kind, now: Moment) -> Result<Event, AllocError>
-    ensures { IfOk result (λ event. event ≡ E.OpenDump (host_name host) kind now) }
+    ensures { IfOk result (λ event. event ≡ E.OpenDump (host_name host) kind now None) }
 {
     let host = host_name(alloc, host)?;
-    Ok(Event::OpenDump { host, kind, now })
+    Ok(Event::OpenDump {
+        host,
+        kind,
+        now,
+        token: None,
+    })
 }
 
 /// A directory with the default attributes is put.
 fn put_dir(alloc: Global, dump: SessionName, dir: u64) -> Result<Event, AllocError>
-    ensures { IfOk result (λ event. event ≡ E.Put dump (dir_path dir) (Whole dir_item)) }
+    ensures { IfOk result (λ event. event ≡ E.Put dump (dir_path dir) (Whole dir_item) None) }
 {
     let path = dir_path(alloc, dir)?;
     let item = PutItem::Whole(Item::Dir(Dir {
         attr: Attr::dir_default(),
     }));
-    Ok(Event::Put { dump, path, item })
+    Ok(Event::Put {
+        dump,
+        path,
+        item,
+        token: None,
+    })
 }
 
 /// A file is put.
@@ -150,19 +160,28 @@ fn put_file(
     value: u64,
     times: u64,
 ) -> Result<Event, AllocError>
-    ensures { IfOk result (λ event. event ≡ E.Put dump (file_path dir file) (Whole (file_item value times))) }
+    ensures { IfOk result (λ event. event ≡ E.Put dump (file_path dir file) (Whole (file_item value times)) None) }
 {
     let path = file_path(alloc, dir, file)?;
     let item = PutItem::Whole(file_item(alloc, value, times)?);
-    Ok(Event::Put { dump, path, item })
+    Ok(Event::Put {
+        dump,
+        path,
+        item,
+        token: None,
+    })
 }
 
 /// A file is removed.
 fn remove(alloc: Global, dump: SessionName, dir: u64, file: u64) -> Result<Event, AllocError>
-    ensures { IfOk result (λ event. event ≡ E.Remove dump (file_path dir file)) }
+    ensures { IfOk result (λ event. event ≡ E.Remove dump (file_path dir file) None) }
 {
     let path = file_path(alloc, dir, file)?;
-    Ok(Event::Remove { dump, path })
+    Ok(Event::Remove {
+        dump,
+        path,
+        token: None,
+    })
 }
 
 /// A host is expired.

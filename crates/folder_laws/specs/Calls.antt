@@ -1,13 +1,13 @@
 -- The calls of a dump and of a restore, and their answers.
 --     IsPut, ArePuts      of a row, of all rows
 --     dump_calls, restore_calls      of a whole dump, of a whole restore
-use Rattle.std.specs.Prelude.{◌≡◌, ℕ, Bool, true, false, List, [], ◌∷◌, ◌++◌, Ok, map}
+use Rattle.std.specs.Prelude.{◌≡◌, ℕ, Bool, true, false, List, [], ◌∷◌, ◌++◌, None, Ok, map}
 use Rattle.attr_records.specs.declared.nodes.Item.{Item}
 use Rattle.attr_records.specs.declared.nodes.Item.TheVariants as I
 use Rattle.attr_records.specs.declared.nodes.File.{File}
 use Rattle.attr_records.specs.Items.{Tree, is_large}
 use Rattle.backup_rules.specs.declared.lines.Kind.{Kind}
-use Rattle.office_model.specs.declared.session.SessionName.{SessionName}
+use Rattle.receipts.specs.declared.session.SessionName.{SessionName}
 use Rattle.office_model.specs.declared.event.Event.TheVariants as E
 use Rattle.office_model.specs.declared.event.Event.{Event}
 use Rattle.office_model.specs.declared.event.PutItem.TheVariants.{Whole, Staged}
@@ -19,15 +19,19 @@ use Rattle.office_model.specs.Step.{Call}
 
 -- a dump was opened
 abbrev pub open_call : List ℕ → Kind → ℕ → SessionName → Call
-open_call host kind now dump = (E.OpenDump host kind now, Ok (A.Dump dump))
+open_call host kind now dump = (E.OpenDump host kind now None, Ok (A.Dump dump))
+
+-- an opening was answered with the number of a backup, which none is that has no token
+abbrev pub already_call : List ℕ → Kind → ℕ → ℕ → Call
+already_call host kind now number = (E.OpenDump host kind now None, Ok (A.Already number))
 
 -- an item was put with its bytes
 abbrev pub put_call : SessionName → List ℕ → Item → Call
-put_call dump path item = (E.Put dump path (Whole item), Ok A.Done)
+put_call dump path item = (E.Put dump path (Whole item) None, Ok A.Done)
 
 -- the put of a file whose bytes are in a stage
 abbrev pub staged_put : SessionName → List ℕ → File → ℕ → Event
-staged_put dump path file stage = E.Put dump path (Staged (record { attr = file.attr; group = file.group; stage = stage }))
+staged_put dump path file stage = E.Put dump path (Staged (record { attr = file.attr; group = file.group; stage = stage })) None
 
 -- a stage took a piece
 abbrev pub piece_call : ℕ → List ℕ → Call
@@ -63,7 +67,7 @@ ArePuts dump (row ∷ rows) calls =
 
 -- a path was removed
 abbrev pub remove_call : SessionName → List ℕ → Call
-remove_call dump path = (E.Remove dump path, Ok A.Done)
+remove_call dump path = (E.Remove dump path None, Ok A.Done)
 
 abbrev pub remove_calls : SessionName → List (List ℕ) → List Call
 remove_calls dump paths = map (remove_call dump) paths

@@ -1,19 +1,22 @@
 -- In each legal history of its calls a dump of a tree becomes a backup that is this tree.
-use Rattle.std.specs.Prelude.{◌≡◌, ℕ, List, [], ◌∷◌, ◌++◌, Ok}
+use Rattle.std.specs.Prelude.{◌≡◌, ℕ, List, [], ◌∷◌, ◌++◌, None, Ok}
 use Rattle.std.proofs.Common.{sym, ap, ◌∙◌, subst, append_assoc}
 use Rattle.attr_records.specs.Items.{Tree}
+use Rattle.backup_rules.specs.declared.lines.Kind.{Kind}
 use Rattle.backup_rules.specs.declared.lines.Kind.TheVariants.{Full}
-use Rattle.office_model.specs.declared.session.SessionName.{SessionName}
+use Rattle.receipts.specs.declared.session.SessionName.{SessionName}
 use Rattle.office_model.specs.declared.event.Event.TheVariants as E
 use Rattle.office_model.specs.declared.answer.Answer.TheVariants as A
-use Rattle.office_model.specs.Office.{Office, Names, IsSound}
+use Rattle.office_model.specs.Office.{Office, Dump, Names, IsSound, with_dumps, numbered}
 use Rattle.office_model.specs.Step.{Call, State, Running}
 use Rattle.office_model.specs.History.{Leads}
 use Rattle.office_model.specs.Meaning.{Judged}
+use Rattle.office_model.specs.events.OpenDump.{with_dump, next_session}
+use Rattle.office_model.specs.laws.Judging.{bound}
 use Rattle.call_scripts.specs.FirstCalls.{answered, none_left}
-use Rattle.folder_laws.specs.Calls.{open_call, item_calls, ArePuts, commit_call}
+use Rattle.folder_laws.specs.Calls.{open_call, already_call, item_calls, ArePuts, commit_call}
 use Rattle.folder_laws.specs.Replays.{with_all}
-use Rattle.folder_laws.specs.OfficeLaws.{HasDump, Shows, opened, commit_step}
+use Rattle.folder_laws.specs.OfficeLaws.{HasDump, Shows, answer_of, opened, commit_step}
 use Rattle.folder_laws.specs.StagingLaws.{AfterPuts, after_item}
 
 -- ---- puts
@@ -67,7 +70,7 @@ pub opened_full : (office : Office) (names : Names) (faults : ℕ) (host : List 
     (state' : State) (faults' : ℕ)
     → Leads (Running office names) faults (open_call host Full now dump ∷ more) state' faults' → AfterPuts dump host [] more state' faults'
 opened_full office names faults host now dump more state' faults' leads =
-    let a = answered office names faults (E.OpenDump host Full now) (A.Dump dump) more state' faults' leads in
+    let a = answered office names faults (E.OpenDump host Full now None) (A.Dump dump) more state' faults' leads in
     let b = opened office host Full now dump a.after a.carried in
     let base : [] ≡ b.1 = empty_base b.1 b.3 in
     record {
@@ -78,6 +81,16 @@ opened_full office names faults host now dump more state' faults' leads =
       has = subst (λ t. HasDump a.after dump host t) (sym base) b.4;
       rest = a.rest;
     }
+
+-- no opening without a token is answered with the number of a backup
+pub not_already : (office : Office) (names : Names) (faults : ℕ) (host : List ℕ) (kind : Kind) (now number : ℕ) (more : List Call)
+    (state' : State) (faults' : ℕ) → Leads (Running office names) faults (already_call host kind now number ∷ more) state' faults' → ⊥
+not_already office names faults host kind now number more state' faults' leads =
+    let a = answered office names faults (E.OpenDump host kind now None) (A.Already number) more state' faults' leads in
+    let w = bound (with_dump host kind now None (next_session office) office.hosts office.dumps)
+    (λ (dumps : List Dump). Ok (record { answer = A.Dump (next_session office); after = numbered (with_dumps office dumps) })) _ a.carried in
+    let same : A.Dump (next_session office) ≡ A.Already number = answer_of _ (A.Already number) _ a.after w.2 in
+    absurd (cc)
 
 -- puts of a tree that replace all of a dump's tree, and a commit
 pub filled : (office : Office) (names : Names) (faults : ℕ) (host : List ℕ) (dump : SessionName) (base tree : Tree) (puts : List Call)

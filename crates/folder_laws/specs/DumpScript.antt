@@ -10,7 +10,7 @@ use Rattle.attr_records.specs.Items.{Tree, is_large}
 use Rattle.backup_rules.specs.declared.lines.Line.{Line}
 use Rattle.backup_rules.specs.declared.lines.Kind.{Kind}
 use Rattle.backup_rules.specs.declared.lines.Kind.TheVariants.{Full, Incr}
-use Rattle.office_model.specs.declared.session.SessionName.{SessionName}
+use Rattle.receipts.specs.declared.session.SessionName.{SessionName}
 use Rattle.office_model.specs.declared.event.Event.{Event}
 use Rattle.office_model.specs.declared.event.Event.TheVariants as E
 use Rattle.office_model.specs.declared.event.PutItem.TheVariants.{Whole}
@@ -31,12 +31,12 @@ stage_script dump path file next (call ∷ calls) = None
 
 abbrev pub file_script : Bool → SessionName → List ℕ → File → Script → Script
 file_script true dump path file next = stage_script dump path file next
-file_script false dump path file next = each_then (E.Put dump path (Whole (I.File file)) ∷ []) next
+file_script false dump path file next = each_then (E.Put dump path (Whole (I.File file)) None ∷ []) next
 
 abbrev pub item_script : SessionName → List ℕ → Item → Script → Script
 item_script dump path (I.File file) next = file_script (is_large (I.File file)) dump path file next
-item_script dump path (I.Dir dir) next = each_then (E.Put dump path (Whole (I.Dir dir)) ∷ []) next
-item_script dump path (I.Link link) next = each_then (E.Put dump path (Whole (I.Link link)) ∷ []) next
+item_script dump path (I.Dir dir) next = each_then (E.Put dump path (Whole (I.Dir dir)) None ∷ []) next
+item_script dump path (I.Link link) next = each_then (E.Put dump path (Whole (I.Link link)) None ∷ []) next
 
 -- each row is put, and then another script
 abbrev pub puts_script : SessionName → Tree → Script → Script
@@ -44,7 +44,7 @@ puts_script dump [] next = next
 puts_script dump (row ∷ rows) next = item_script dump row.0 row.1 (puts_script dump rows next)
 
 abbrev pub remove_events : SessionName → List (List ℕ) → List Event
-remove_events dump paths = map (E.Remove dump) paths
+remove_events dump paths = map (λ path. E.Remove dump path None) paths
 
 -- each directory that is pending is listed, and those in it next; then each path that leaves is removed; then another script
 abbrev pub list_script : Tree → List ℕ → ℕ → SessionName → Script → List Known → List (List ℕ) → Script
@@ -71,9 +71,10 @@ abbrev pub base_script : Kind → Tree → List ℕ → SessionName → Script �
 base_script Full seen host dump next = next
 base_script Incr seen host dump next = incr_script seen host dump next
 
--- a dump of a tree; `later` has the moment of its end once it was read, before which it isn't committed
+-- a dump of a tree; `later` has the moment of its end once it was read, before which it isn't committed. Behind an opening that was
+-- answered with the number of a backup nothing is called.
 abbrev pub dump_script : List ℕ → Kind → ℕ → List ℕ → Tree → Script
-dump_script host kind now later tree [] = Some (E.OpenDump host kind now)
+dump_script host kind now later tree [] = Some (E.OpenDump host kind now None)
 dump_script host kind now later tree ((asked, Ok (A.Dump dump)) ∷ calls) =
     base_script kind tree host dump (puts_script dump tree (each_of (map (E.Commit dump) later))) calls
 dump_script host kind now later tree (call ∷ calls) = None

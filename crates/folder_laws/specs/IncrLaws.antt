@@ -16,7 +16,7 @@ use Rattle.backup_rules.specs.declared.lines.Line.{Line}
 use Rattle.backup_rules.specs.declared.lines.Kind.TheVariants.{Incr}
 use Rattle.folder_laws.specs.Walks.{is_child}
 use Rattle.folder_laws.specs.Lists.{path_in}
-use Rattle.office_model.specs.declared.session.SessionName.{SessionName}
+use Rattle.receipts.specs.declared.session.SessionName.{SessionName}
 use Rattle.office_model.specs.declared.answer.NamedNode.{NamedNode}
 use Rattle.office_model.specs.declared.event.Event.TheVariants as E
 use Rattle.office_model.specs.declared.answer.Answer.{Answer}
@@ -168,7 +168,7 @@ after_lists (call ∷ lists) office names faults seen host number backup pending
 
 remove_step : (office : Office) (session : SessionName) (name : List ℕ) (tree : Tree) (path : List ℕ) (answer : Answer) (after : Office)
     → IsSound office → HasDump office session name tree
-    → RemoveEvent.carried session path office ≡ Ok (record { answer = answer; after = after })
+    → RemoveEvent.carried session path None office ≡ Ok (record { answer = answer; after = after })
     → HasDump after session name (without tree path)
 remove_step office session name tree path answer after sound has e =
     let w = bound (RemoveEvent.without_path session path office.dumps) (λ dumps. Ok (record { answer = A.Done; after = with_dumps office dumps })) _ e in
@@ -192,7 +192,7 @@ pub after_removes : (gone : List (List ℕ)) (office : Office) (names : Names) (
 after_removes [] office names faults dump name tree more state' faults' sound has leads =
     record { office = office; names = names; faults = faults; sound = sound; has = has; rest = leads }
 after_removes (path ∷ gone) office names faults dump name tree more state' faults' sound has leads =
-    let a = answered office names faults (E.Remove dump path) A.Done (remove_calls dump gone ++ more) state' faults' leads in
+    let a = answered office names faults (E.Remove dump path None) A.Done (remove_calls dump gone ++ more) state' faults' leads in
     after_removes gone a.after a.after_names a.faults dump name _ more state' faults' a.sound
     (remove_step office dump name tree path A.Done a.after sound has a.carried) a.rest
 
@@ -257,7 +257,7 @@ pub opened_incr : (office : Office) (names : Names) (faults : ℕ) (host : List 
     → Leads (Running office names) faults (open_call host Incr now dump ∷ backups_call host lines next other ∷ more) state' faults'
     → OpenedIncr dump host lines more state' faults'
 opened_incr office names faults host now dump lines next other more state' faults' sound leads =
-    let a = answered office names faults (E.OpenDump host Incr now) (A.Dump dump) _ state' faults' leads in
+    let a = answered office names faults (E.OpenDump host Incr now None) (A.Dump dump) _ state' faults' leads in
     let o = opened office host Incr now dump a.after a.carried in
     let w = newest_of o.0.value o.1 o.3 in
     let at = at_is _ office.hosts _ o.0 o.2 in

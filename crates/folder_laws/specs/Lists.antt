@@ -9,7 +9,7 @@ use Rattle.attr_records.specs.Trees.{node_at, is_dir_found}
 use Rattle.backup_rules.specs.declared.lines.Line.{Line}
 use Rattle.backup_rules.specs.declared.lines.Kind.{Kind}
 use Rattle.backup_rules.specs.declared.lines.Kind.TheVariants.{Full, Incr}
-use Rattle.office_model.specs.declared.session.SessionName.{SessionName}
+use Rattle.receipts.specs.declared.session.SessionName.{SessionName}
 use Rattle.tree_frames.specs.declared.nodes.Node.{Node}
 use Rattle.tree_frames.specs.declared.nodes.Node.TheVariants as N
 use Rattle.office_model.specs.declared.answer.NamedNode.{NamedNode}

@@ -2,7 +2,7 @@
 --     HasDump      a dump is open, with this tree
 --     Shows      a host has a backup of this number, with this tree
 --     opened_full, put_step, commit_step      from one to the other
-use Rattle.std.specs.Prelude.{◌≡◌, ◌<◌, ℕ, ◌+◌, ◌==◌, Bool, true, false, List, [], ◌∷◌, ◌++◌, length, Some, Ok, slice_get, slice_set, nat_lt, nat_le, is_some}
+use Rattle.std.specs.Prelude.{◌≡◌, ◌<◌, ℕ, ◌+◌, ◌==◌, Bool, true, false, List, [], ◌∷◌, ◌++◌, length, Option, Some, None, Ok, slice_get, slice_set, nat_lt, nat_le, is_some, if◌then◌else◌}
 use Rattle.std.specs.Option.{option_map}
 use Rattle.std.specs.List.{remove, position_from}
 use Rattle.std.proofs.lemmas.Bool.Decides.{nat_tests, Decides-eqb}
@@ -13,15 +13,17 @@ use Rattle.attr_records.specs.Items.{Tree, is_dir, is_large, content_of}
 use Rattle.attr_records.specs.Trees.{with_node}
 use Rattle.attr_records.specs.Trees as Trees
 use Rattle.backup_rules.specs.declared.lines.Kind.{Kind}
-use Rattle.office_model.specs.declared.session.SessionName.{SessionName}
+use Rattle.receipts.specs.declared.session.SessionName.{SessionName}
+use Rattle.receipts.specs.declared.receipt.Receipt.{Receipt}
 use Rattle.office_model.specs.declared.event.PutItem.TheVariants.{Whole}
 use Rattle.office_model.specs.declared.answer.Answer.{Answer}
 use Rattle.office_model.specs.declared.answer.Answer.TheVariants as A
 use Rattle.office_model.specs.declared.refusal.BrokenRule.TheVariants.{Put as PutRule, NoSession}
 use Rattle.office_model.specs.Places.{slice_get-set_same, position-found, position-some}
 use Rattle.office_model.specs.Pool.{with_tree}
-use Rattle.office_model.specs.Office.{Office, Host, Backup, Dump, Names, IsSound, IsSoundHost, AreNumbered, dump_index_of_host, backup_index, number_limit, last_sequence, with_dumps, numbered}
+use Rattle.office_model.specs.Office.{Office, Host, Backup, Dump, Names, IsSound, IsSoundHost, AreNumbered, dump_index, dump_index_of_host, backup_index, number_limit, last_sequence, with_dumps, numbered}
 use Rattle.office_model.specs.Meaning.{Carried, Judged, found, ◌>>=◌}
+use Rattle.office_model.specs.Repeats.{again, receipt_named}
 use Rattle.office_model.specs.Parts.{At, dump_at, host_at, backup_at, backup_of, with_last, filled_as}
 use Rattle.backup_rules.specs.Fill.{stays_filled}
 use Rattle.office_model.specs.events.OpenDump as OpenDumpEvent
@@ -105,7 +107,7 @@ put_dumps large full office session name tree path item dumps sound has e =
 -- a put that was answered
 pub put_step : (office : Office) (names : Names) (session : SessionName) (name : List ℕ) (tree : Tree) (path : List ℕ) (item : Item)
     (answer : Answer) (after : Office) → IsSound office → HasDump office session name tree
-    → PutEvent.carried session path (Whole item) office names ≡ Ok (record { answer = answer; after = after })
+    → PutEvent.carried session path (Whole item) None office names ≡ Ok (record { answer = answer; after = after })
     → HasDump after session name (with_node tree path item)
 put_step office names session name tree path item answer after sound has e =
     let full : Bool = PutEvent.is_chain_full office.pool office.dumps names (content_of item) in
@@ -124,11 +126,11 @@ dump_is a b e = cc
 
 -- what a dump begins with is its base
 pub opened : (office : Office) (name : List ℕ) (kind : Kind) (now : ℕ) (session : SessionName) (after : Office)
-    → OpenDumpEvent.carried name kind now office ≡ Ok (record { answer = A.Dump session; after = after })
+    → OpenDumpEvent.carried name kind now None office ≡ Ok (record { answer = A.Dump session; after = after })
     → (host : At Host) × (base : Tree) × (host_at office.hosts name ≡ Ok host) × (OpenDumpEvent.base_of kind host.value.backups ≡ Ok base)
     × HasDump after session name base × (after.hosts ≡ office.hosts)
 opened office name kind now session after e =
-    let w = bound (OpenDumpEvent.with_dump name kind now (OpenDumpEvent.next_session office) office.hosts office.dumps)
+    let w = bound (OpenDumpEvent.with_dump name kind now None (OpenDumpEvent.next_session office) office.hosts office.dumps)
     (λ dumps. Ok (record { answer = A.Dump (OpenDumpEvent.next_session office); after = numbered (with_dumps office dumps) })) _ e in
     let a = bound (host_at office.hosts name) _ w.0 w.1 in
     let b = bound (OpenDumpEvent.base_of kind a.0.value.backups) _ w.0 a.2 in
@@ -206,13 +208,22 @@ shown office name place i host backup sound is_host named is_backup =
 committed_is : (m n : ℕ) → A.Committed m ≡ A.Committed n → m ≡ n
 committed_is m n e = cc
 
+-- the commit of an open dump repeats none
+unrepeated : (session : SessionName) (now i : ℕ) (office : Office) → dump_index office.dumps session ≡ Some i
+    → CommitEvent.carried session now office ≡ CommitEvent.ended session now office
+unrepeated session now i office is = ap (λ (place : Option ℕ). again office
+    (if is_some place then None else option_map (λ (receipt : Receipt). A.Committed receipt.number) (receipt_named office.hosts session))
+    (CommitEvent.ended session now office)) is
+
 pub commit_step : (office : Office) (session : SessionName) (name : List ℕ) (tree : Tree) (now number : ℕ) (after : Office)
     → IsSound office → IsSound after → HasDump office session name tree
     → CommitEvent.carried session now office ≡ Ok (record { answer = A.Committed number; after = after })
     → Shows after name number tree
 commit_step office session name tree now number after sound sound' has e =
+    let at_index = dump_index-at office.dumps session has.index has.dump sound.sessions.dumps_differ has.is_dump has.name_is in
     let w = bound (CommitEvent.committed session now office.hosts office.pool office.dumps)
-    (λ parts. Ok (record { answer = A.Committed parts.number; after = CommitEvent.after session office parts })) _ e in
+    (λ parts. Ok (record { answer = A.Committed parts.number; after = CommitEvent.after session office parts })) _
+    (sym (unrepeated session now has.index office at_index) ∙ e) in
     let a = bound (dump_at office.dumps session) _ w.0 w.1 in
     let same = asked_dump office session name tree sound has a.0 a.1 in
     let b = bound (found NoSession (slice_get office.hosts a.0.value.host)) _ w.0 a.2 in

@@ -5,12 +5,12 @@ use Rattle.std.proofs.Common.{refl, sym, ap, ◌∙◌, subst, arith, append_ass
 use Rattle.std.proofs.lemmas.Option.{slice_get_within}
 use Rattle.attr_records.specs.declared.nodes.Item.{Item}
 use Rattle.attr_records.specs.Items.{Tree}
-use Rattle.office_model.specs.declared.session.SessionName.{SessionName}
+use Rattle.receipts.specs.declared.session.SessionName.{SessionName}
 use Rattle.tree_frames.specs.declared.nodes.Frame.{Frame}
 use Rattle.tree_frames.specs.declared.nodes.Frame.TheVariants.{Entry, Piece, End}
 use Rattle.office_model.specs.declared.event.Event.TheVariants as E
 use Rattle.office_model.specs.declared.answer.Answer.TheVariants as A
-use Rattle.office_model.specs.Session.{is_same_session}
+use Rattle.receipts.specs.Session.{is_same_session}
 use Rattle.office_model.specs.Places.{slice_get-set_same, position-found}
 use Rattle.office_model.specs.Office.{Office, Backup, Restore, Names, IsSound, last_sequence, with_restores, numbered}
 use Rattle.tree_frames.specs.Frames.{frames, node_of, bytes_of, pieces}

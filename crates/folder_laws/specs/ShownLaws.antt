@@ -6,7 +6,7 @@ use Rattle.attr_records.specs.Trees.{IsTree}
 use Rattle.backup_rules.specs.declared.lines.Line.{Line}
 use Rattle.backup_rules.specs.declared.lines.Kind.{Kind}
 use Rattle.backup_rules.specs.declared.lines.Kind.TheVariants.{Full, Incr}
-use Rattle.office_model.specs.declared.session.SessionName.{SessionName}
+use Rattle.receipts.specs.declared.session.SessionName.{SessionName}
 use Rattle.office_model.specs.Office.{Office, Names, IsSound}
 use Rattle.office_model.specs.History.{Leads}
 use Rattle.office_model.specs.Step.{Call, State, Running}

@@ -2,7 +2,7 @@
 --     HasStage      a stage of a dump is open, with these bytes
 --     stage_step, piece_step, staged_step      from one to the other
 --     after_item      the row is in the dump's tree
-use Rattle.std.specs.Prelude.{◌≡◌, ℕ, ◌==◌, Bool, true, false, not, List, [], ◌∷◌, ◌++◌, length, map, Some, Ok, slice_get, slice_set, nat_le, nat_lt, ◌+◌}
+use Rattle.std.specs.Prelude.{◌≡◌, ℕ, ◌==◌, Bool, true, false, not, List, [], ◌∷◌, ◌++◌, length, map, Some, None, Ok, slice_get, slice_set, nat_le, nat_lt, ◌+◌}
 use Rattle.std.specs.List.{concat, remove}
 use Rattle.std.proofs.Common.{refl, sym, ap, ◌∙◌, subst, append_assoc}
 use Rattle.std.proofs.lemmas.List.{append-nil}
@@ -15,14 +15,14 @@ use Rattle.attr_records.specs.declared.trees.PutRule.TheVariants.{FileTooLarge}
 use Rattle.attr_records.specs.Items.{Tree, is_large, content_of}
 use Rattle.attr_records.specs.Trees.{with_node}
 use Rattle.tree_frames.specs.Frames.{pieces}
-use Rattle.office_model.specs.declared.session.SessionName.{SessionName}
+use Rattle.receipts.specs.declared.session.SessionName.{SessionName}
 use Rattle.office_model.specs.declared.event.Event.TheVariants as E
 use Rattle.office_model.specs.declared.event.StagedFile.{StagedFile}
 use Rattle.office_model.specs.declared.event.PutItem.TheVariants.{Whole, Staged}
 use Rattle.office_model.specs.declared.answer.Answer.{Answer}
 use Rattle.office_model.specs.declared.answer.Answer.TheVariants as A
 use Rattle.office_model.specs.declared.refusal.BrokenRule.TheVariants.{NumbersSpent, BadPiece, NoSession, Put as PutRule}
-use Rattle.office_model.specs.Session.{is_same_session}
+use Rattle.receipts.specs.Session.{is_same_session}
 use Rattle.office_model.specs.Places.{position-found, slice_get-set_same}
 use Rattle.office_model.specs.Office.{Office, Dump, Stage, Names, IsSound, last_sequence, content_limit, stage_content, stage_index, with_dumps, with_stages}
 use Rattle.office_model.specs.Meaning.{Judged, ◌>>=◌, breaks}
@@ -143,7 +143,7 @@ piece_step office session name tree number front bytes answer after sound has e 
 -- a put of a stage that was answered
 pub staged_step : (office : Office) (names : Names) (session : SessionName) (name : List ℕ) (tree : Tree) (path : List ℕ) (file : StagedFile)
     (bytes : List ℕ) (answer : Answer) (after : Office) → IsSound office → Staging office session name tree file.stage bytes
-    → PutEvent.carried session path (Staged file) office names ≡ Ok (record { answer = answer; after = after })
+    → PutEvent.carried session path (Staged file) None office names ≡ Ok (record { answer = answer; after = after })
     → HasDump after session name (with_node tree path (PutEvent.staged_item file bytes))
 staged_step office names session name tree path file bytes answer after sound has e =
     let full : Bool = PutEvent.is_chain_full office.pool office.dumps names (stage_content office.stages file.stage) in
@@ -209,10 +209,10 @@ after_pieces (piece ∷ list) office names faults dump name tree number front mo
 
 module _ (office : Office) (names : Names) (faults : ℕ) (dump : SessionName) (name : List ℕ) (tree : Tree) (path : List ℕ) (more : List Call)
     (state' : State) (faults' : ℕ) (sound : IsSound office) (has : HasDump office dump name tree) where
-  after_whole : (item : Item) → Leads (Running office names) faults ((E.Put dump path (Whole item), Ok A.Done) ∷ more) state' faults'
+  after_whole : (item : Item) → Leads (Running office names) faults ((E.Put dump path (Whole item) None, Ok A.Done) ∷ more) state' faults'
       → AfterPuts dump name (with_node tree path item) more state' faults'
   after_whole item leads =
-      let a = answered office names faults (E.Put dump path (Whole item)) A.Done more state' faults' leads in
+      let a = answered office names faults (E.Put dump path (Whole item) None) A.Done more state' faults' leads in
       record {
         office = a.after;
         names = a.after_names;

@@ -17,7 +17,7 @@ use Rattle.tree_frames.specs.Frames.{frames}
 use Rattle.folder_trait.specs.declared.folder.FolderFault.{FolderFault}
 use Rattle.folder_trait.specs.declared.folder.FolderFault.TheVariants as F
 use Rattle.folder_trait.specs.Folders.{is_bare, IsEmptiness}
-use Rattle.office_model.specs.declared.session.SessionName.{SessionName}
+use Rattle.receipts.specs.declared.session.SessionName.{SessionName}
 use Rattle.office_model.specs.declared.event.Event.TheVariants as E
 use Rattle.office_model.specs.declared.answer.Answer.TheVariants as A
 use Rattle.office_model.specs.declared.refusal.Refusal.{Refusal}

@@ -3,7 +3,7 @@
 --     restore_script      it is opened first
 use Rattle.std.specs.Prelude.{ℕ, List, [], ◌∷◌, Some, None, Ok}
 use Rattle.tree_frames.specs.declared.nodes.Frame.TheVariants.{Entry, Piece, End}
-use Rattle.office_model.specs.declared.session.SessionName.{SessionName}
+use Rattle.receipts.specs.declared.session.SessionName.{SessionName}
 use Rattle.office_model.specs.declared.event.Event.TheVariants as E
 use Rattle.office_model.specs.declared.answer.Answer.TheVariants as A
 use Rattle.call_scripts.specs.Scripts.{Script, one_call}

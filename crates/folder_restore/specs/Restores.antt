@@ -8,7 +8,7 @@ use Rattle.attr_records.specs.Trees.{IsTree}
 use Rattle.tree_frames.specs.declared.nodes.Frame.{Frame}
 use Rattle.tree_frames.specs.declared.nodes.Frame.TheVariants.{End}
 use Rattle.tree_frames.specs.Frames.{frames}
-use Rattle.office_model.specs.declared.session.SessionName.{SessionName}
+use Rattle.receipts.specs.declared.session.SessionName.{SessionName}
 use Rattle.office_model.specs.Step.{Call}
 use Rattle.call_scripts.specs.Scripts.{Script, Begins, Follows, AreAnswered, EndRefused}
 use Rattle.folder_laws.specs.Calls.{restore_calls, ArePlain}

@@ -5,7 +5,7 @@ use Rattle.attr_records.specs.Trees.{IsTree}
 use Rattle.tree_frames.specs.declared.nodes.Frame.{Frame}
 use Rattle.tree_frames.specs.declared.nodes.Frame.TheVariants.{Entry, Piece, End}
 use Rattle.tree_frames.specs.Frames.{frames}
-use Rattle.office_model.specs.declared.session.SessionName.{SessionName}
+use Rattle.receipts.specs.declared.session.SessionName.{SessionName}
 use Rattle.office_model.specs.Step.{Call}
 use Rattle.call_scripts.specs.Scripts.{Begins, EndRefused}
 use Rattle.folder_laws.specs.Calls.{next_call, ArePlain}

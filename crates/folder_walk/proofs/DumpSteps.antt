@@ -1,13 +1,13 @@
 -- The steps of a dump: its opening, its base, its puts, its commit, and an abort.
 use Rattle.std.specs.Prelude.{◌≡◌, ℕ, List, [], ◌∷◌, ◌++◌, Option, Some, None, Ok, Err}
-use Rattle.std.proofs.Common.{refl, sym, ap, ◌∙◌, subst, append_assoc}
+use Rattle.std.proofs.Common.{refl, sym, ap, ◌∙◌, subst, inl, inr, append_assoc}
 use Rattle.std.proofs.lemmas.List.{append-nil, map-append}
 use Rattle.attr_records.specs.Items.{Tree}
 use Rattle.backup_rules.specs.declared.lines.Line.{Line}
 use Rattle.backup_rules.specs.declared.lines.Kind.{Kind}
 use Rattle.backup_rules.specs.declared.lines.Kind.TheVariants.{Full, Incr}
 use Rattle.stream_traits.specs.Moments.{first_moment, after_reading}
-use Rattle.office_model.specs.declared.session.SessionName.{SessionName}
+use Rattle.receipts.specs.declared.session.SessionName.{SessionName}
 use Rattle.office_model.specs.declared.event.Event.TheVariants as E
 use Rattle.office_model.specs.declared.answer.Answer.TheVariants as A
 use Rattle.office_model.specs.declared.refusal.Refusal.{Refusal}
@@ -16,7 +16,7 @@ use Rattle.office_model.specs.Step.{Call}
 use Rattle.call_scripts.specs.Scripts.{Script, each_then, each_of, AreAnswered, Begins}
 use Rattle.call_scripts.specs.ScriptLaws.{AreAnswered-append, EndRefused-append}
 use Rattle.call_scripts.specs.Moments.{Gave}
-use Rattle.folder_laws.specs.Calls.{open_call, ArePuts, remove_call, remove_calls, commit_call}
+use Rattle.folder_laws.specs.Calls.{open_call, already_call, ArePuts, remove_call, remove_calls, commit_call}
 use Rattle.folder_laws.specs.Compares.{root}
 use Rattle.folder_laws.specs.Lists.{AreLists, AreRemovals, backups_call, last_line}
 use Rattle.folder_laws.specs.DumpScript.{puts_script, remove_events, list_script, removal_script, base_script}
@@ -39,7 +39,7 @@ begins_commit dump tree puts moment refusal are =
 
 -- removals of the first paths, and one that was refused
 begins_removes : (dump : SessionName) (done : List (List ℕ)) (path : List ℕ) (more : List (List ℕ)) (refusal : Refusal) (next : Script)
-    → Begins (each_then (remove_events dump (done ++ path ∷ more)) next) (remove_calls dump done ++ (E.Remove dump path, Err refusal) ∷ [])
+    → Begins (each_then (remove_events dump (done ++ path ∷ more)) next) (remove_calls dump done ++ (E.Remove dump path None, Err refusal) ∷ [])
 begins_removes dump [] path more refusal next = (refl, tt)
 begins_removes dump (first ∷ done) path more refusal next = (refl, begins_removes dump done path more refusal next)
 
@@ -61,16 +61,16 @@ module _ {P : Type 0} (moves : P → List Call → P → Type 0) (joined : (p q 
 
   -- the removal of a path was refused
   pub removed_part : (old mid new : P) (gone done : List (List ℕ)) (path : List ℕ) (more : List (List ℕ)) (fault : DumpRefusal)
-      → done ++ path ∷ more ≡ gone → moves old (remove_calls dump done) mid → IsCallFault moves mid new (E.Remove dump path) fault
+      → done ++ path ∷ more ≡ gone → moves old (remove_calls dump done) mid → IsCallFault moves mid new (E.Remove dump path None) fault
       → RemovesAll moves old new dump gone (Err fault)
   removed_part old mid new gone done path more fault split before failed = step (refusal_of fault) refl failed
     where
-      step : (o : Option Refusal) → refusal_of fault ≡ o → IsRefusedCall moves mid new (E.Remove dump path) o
+      step : (o : Option Refusal) → refusal_of fault ≡ o → IsRefusedCall moves mid new (E.Remove dump path None) o
           → RemovesAll moves old new dump gone (Err fault)
       step None is refused = absurd refused
       step (Some refusal) is refused = record {
-        calls = remove_calls dump done ++ (E.Remove dump path, Err refusal) ∷ [];
-        moved = joined old mid new (remove_calls dump done) ((E.Remove dump path, Err refusal) ∷ []) before refused;
+        calls = remove_calls dump done ++ (E.Remove dump path None, Err refusal) ∷ [];
+        moved = joined old mid new (remove_calls dump done) ((E.Remove dump path None, Err refusal) ∷ []) before refused;
         ends = (done, path, more, refusal, sym split, is, refl);
       }
 
@@ -170,7 +170,7 @@ module _ {P : Type 0} (moves : P → List Call → P → Type 0) (joined : (p q 
       step removes.ends.0 removes.ends.1 removes.ends.2 removes.ends.3 removes.ends.4 removes.ends.5 removes.ends.6
     where
       step : (done : List (List ℕ)) (path : List ℕ) (more : List (List ℕ)) (refusal : Refusal) → gone ≡ done ++ path ∷ more
-          → refusal_of fault ≡ Some refusal → removes.calls ≡ remove_calls dump done ++ (E.Remove dump path, Err refusal) ∷ []
+          → refusal_of fault ≡ Some refusal → removes.calls ≡ remove_calls dump done ++ (E.Remove dump path None, Err refusal) ∷ []
           → MakesBase moves old new told Incr host dump (Err fault)
       step done path more refusal split is calls_are = record {
         calls = backups_call host asked.lines asked.next asked.dump ∷ (lists.calls ++ removes.calls);
@@ -180,12 +180,12 @@ module _ {P : Type 0} (moves : P → List Call → P → Type 0) (joined : (p q 
             (AnsweredOr-behind (refusal_of fault) lists.calls removes.calls lists.answered
             (subst (λ (r : Option Refusal). AnsweredOr r removes.calls) (sym is)
             (subst (λ cs. AnsweredOr (Some refusal) cs) (sym calls_are)
-            (EndRefused-append (remove_calls dump done) ((E.Remove dump path, Err refusal) ∷ []) refusal (AreAnswered-removes dump done) (refl, refl)))));
+            (EndRefused-append (remove_calls dump done) ((E.Remove dump path None, Err refusal) ∷ []) refusal (AreAnswered-removes dump done) (refl, refl)))));
         ends = λ tree here is_tree next.
             begins_asked tree asked.lines asked.next asked.dump number (lists.calls ++ removes.calls) next asked.last_is
             (begins_lists tree host number dump next lists.calls (root ∷ []) [] [] gone removes.calls (lists.are tree here is_tree)
             (subst (λ cs. Begins (each_then (remove_events dump gone) next) cs) (sym calls_are)
-            (subst (λ paths. Begins (each_then (remove_events dump paths) next) (remove_calls dump done ++ (E.Remove dump path, Err refusal) ∷ []))
+            (subst (λ paths. Begins (each_then (remove_events dump paths) next) (remove_calls dump done ++ (E.Remove dump path None, Err refusal) ∷ []))
             (sym split) (begins_removes dump done path more refusal next))));
       }
 
@@ -273,7 +273,7 @@ module _ {P : Type 0} (moves : P → List Call → P → Type 0) (joined : (p q 
     answered = fills.so;
     whole = λ tree is is_tree.
         let e = fills.ends tree is is_tree in
-        record {
+        inl (record {
           moment = e.2;
           dump = dump;
           base = e.0;
@@ -282,7 +282,20 @@ module _ {P : Type 0} (moves : P → List Call → P → Type 0) (joined : (p q 
           are_puts = e.4;
           later_is = e.5;
           calls_are = ap (λ cs. open_call host kind now dump ∷ cs) e.6;
-        };
+        });
+  }
+
+  -- the opening was answered with the number of a backup
+  pub known : (old new : P) (number : ℕ) → IsFirst → moments' ≡ opened_at → moves old (already_call host kind now number ∷ []) new
+      → Dumped moves old new told moments moments' kind host number
+  known old new number first same moved = record {
+    now = now;
+    later = [];
+    calls = already_call host kind now number ∷ [];
+    clock = (first.0, same ∙ first.1);
+    moved = moved;
+    answered = tt;
+    whole = λ tree is is_tree. inr (record { later_is = refl; calls_are = refl });
   }
 
   pub stopped : (old opened filled new : P) (dump : SessionName) (fault : DumpRefusal) (reply : Reply) → IsFirst
@@ -302,11 +315,11 @@ module _ {P : Type 0} (moves : P → List Call → P → Type 0) (joined : (p q 
     begins = λ tree is is_tree. (refl, fills.ends tree is is_tree);
   }
 
-  pub unopened : (old new : P) (fault : DumpRefusal) → IsFirst → moments' ≡ opened_at → IsFailedCall moves old new (E.OpenDump host kind now) fault
+  pub unopened : (old new : P) (fault : DumpRefusal) → IsFirst → moments' ≡ opened_at → IsFailedCall moves old new (E.OpenDump host kind now None) fault
       → Stopped moves old new told moments moments' kind host fault
   unopened old new fault first same failed = step (refusal_of fault) refl failed
     where
-      step : (o : Option Refusal) → refusal_of fault ≡ o → IsFailedWith moves old new (E.OpenDump host kind now) o
+      step : (o : Option Refusal) → refusal_of fault ≡ o → IsFailedWith moves old new (E.OpenDump host kind now None) o
           → Stopped moves old new told moments moments' kind host fault
       step None is moved = record {
         now = now;
@@ -322,11 +335,11 @@ module _ {P : Type 0} (moves : P → List Call → P → Type 0) (joined : (p q 
       step (Some refusal) is moved = record {
         now = now;
         later = [];
-        calls = (E.OpenDump host kind now, Err refusal) ∷ [];
+        calls = (E.OpenDump host kind now None, Err refusal) ∷ [];
         aborts = [];
         clock = (first.0, same ∙ first.1);
         moved = moved;
-        so = subst (λ (r : Option Refusal). AnsweredOr r ((E.OpenDump host kind now, Err refusal) ∷ [])) (sym is) (refl, refl);
+        so = subst (λ (r : Option Refusal). AnsweredOr r ((E.OpenDump host kind now None, Err refusal) ∷ [])) (sym is) (refl, refl);
         aborted = refl;
         begins = λ tree here is_tree. (refl, tt);
       }

@@ -10,7 +10,7 @@ use Rattle.folder_trait.specs.declared.found.FoundNode.{FoundNode}
 use Rattle.folder_trait.specs.declared.found.FoundNode.TheVariants as N
 use Rattle.folder_trait.specs.declared.found.FoundFile.{FoundFile}
 use Rattle.folder_trait.specs.Folders.{found_of, IsPieceRead}
-use Rattle.office_model.specs.declared.session.SessionName.{SessionName}
+use Rattle.receipts.specs.declared.session.SessionName.{SessionName}
 use Rattle.office_model.specs.declared.event.Event.TheVariants as E
 use Rattle.office_model.specs.declared.event.PutItem.TheVariants.{Whole}
 use Rattle.office_model.specs.declared.answer.Answer.TheVariants as A
@@ -67,9 +67,9 @@ small_calls dump path (I.Dir dir) small = refl
 small_calls dump path (I.Link link) small = refl
 
 small_script : (dump : SessionName) (path : List ℕ) (item : Item) (refusal : Refusal) (next : Script) → is_large item ≡ false
-    → Begins (item_script dump path item next) ((E.Put dump path (Whole item), Err refusal) ∷ [])
+    → Begins (item_script dump path item next) ((E.Put dump path (Whole item) None, Err refusal) ∷ [])
 small_script dump path (I.File file) refusal next small =
-    subst (λ large. Begins (file_script large dump path file next) ((E.Put dump path (Whole (I.File file)), Err refusal) ∷ [])) (sym small) (refl, tt)
+    subst (λ large. Begins (file_script large dump path file next) ((E.Put dump path (Whole (I.File file)) None, Err refusal) ∷ [])) (sym small) (refl, tt)
 small_script dump path (I.Dir dir) refusal next small = (refl, tt)
 small_script dump path (I.Link link) refusal next small = (refl, tt)
 
@@ -98,10 +98,10 @@ module _ {P : Type 0} (moves : P → List Call → P → Type 0) (none : (p : P)
     small_item item found = sym (found_large item) ∙ ap is_large_node (sym found) ∙ small
 
     -- it was put
-    pub puts_one : (item : Item) → moves old ((E.Put dump path (Whole item), Ok A.Done) ∷ []) new → IsItemThere told path node (Some item)
+    pub puts_one : (item : Item) → moves old ((E.Put dump path (Whole item) None, Ok A.Done) ∷ []) new → IsItemThere told path node (Some item)
         → PutsEntry moves old new told dump path node (Ok true)
     puts_one item moved there = record {
-      calls = (E.Put dump path (Whole item), Ok A.Done) ∷ [];
+      calls = (E.Put dump path (Whole item) None, Ok A.Done) ∷ [];
       moved = moved;
       so = tt;
       ends = λ tree is other at found.
@@ -109,14 +109,14 @@ module _ {P : Type 0} (moves : P → List Call → P → Type 0) (none : (p : P)
     }
 
     -- it was refused
-    pub puts_refused : (item : Item) (fault : DumpRefusal) → IsCallFault moves old new (E.Put dump path (Whole item)) fault
+    pub puts_refused : (item : Item) (fault : DumpRefusal) → IsCallFault moves old new (E.Put dump path (Whole item) None) fault
         → IsItemThere told path node (Some item) → PutsEntry {A = Bool} moves old new told dump path node (Err fault)
     puts_refused item (D.Refused refusal) moved there = record {
-      calls = (E.Put dump path (Whole item), Err refusal) ∷ [];
+      calls = (E.Put dump path (Whole item) None, Err refusal) ∷ [];
       moved = moved;
       so = (refl, refl);
       ends = λ tree is other at found next.
-          subst (λ (x : Item). Begins (item_script dump path other next) ((E.Put dump path (Whole x), Err refusal) ∷ []))
+          subst (λ (x : Item). Begins (item_script dump path other next) ((E.Put dump path (Whole x) None, Err refusal) ∷ []))
           (sym (some_injects (there tree is other at found))) (small_script dump path other refusal next (small_item other found));
     }
     puts_refused item (D.BadPath rule) moved there = absurd moved

@@ -16,7 +16,7 @@ use Rattle.folder_trait.specs.declared.found.FoundNode.{FoundNode}
 use Rattle.folder_trait.specs.Folders.{is_child, found_of}
 use Rattle.folder_laws.specs.Walks.{children}
 use Rattle.folder_laws.specs.WalkLaws.{node_between}
-use Rattle.office_model.specs.declared.session.SessionName.{SessionName}
+use Rattle.receipts.specs.declared.session.SessionName.{SessionName}
 use Rattle.office_model.specs.Step.{Call}
 use Rattle.call_scripts.specs.Scripts.{Begins}
 use Rattle.folder_laws.specs.DumpScript.{item_script}

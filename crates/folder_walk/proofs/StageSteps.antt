@@ -14,7 +14,7 @@ use Rattle.folder_trait.specs.declared.found.FoundNode.{FoundNode}
 use Rattle.folder_trait.specs.declared.found.FoundNode.TheVariants as N
 use Rattle.folder_trait.specs.declared.found.FoundFile.{FoundFile}
 use Rattle.folder_trait.specs.Folders.{found_of, IsPieceRead}
-use Rattle.office_model.specs.declared.session.SessionName.{SessionName}
+use Rattle.receipts.specs.declared.session.SessionName.{SessionName}
 use Rattle.office_model.specs.declared.event.Event.{Event}
 use Rattle.office_model.specs.declared.event.Event.TheVariants as E
 use Rattle.office_model.specs.declared.answer.Answer.TheVariants as A

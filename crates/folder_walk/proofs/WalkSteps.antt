@@ -22,7 +22,7 @@ use Rattle.folder_laws.specs.WalkLaws.{first_open, open_more, open_first, node_b
 use Rattle.folder_laws.specs.Calls.{IsPut, ArePuts}
 use Rattle.folder_laws.specs.DumpScript.{item_script, puts_script}
 use Rattle.folder_laws.specs.DumpScriptLaws.{begins_some_puts, ArePuts-more}
-use Rattle.office_model.specs.declared.session.SessionName.{SessionName}
+use Rattle.receipts.specs.declared.session.SessionName.{SessionName}
 use Rattle.office_model.specs.Step.{Call}
 use Rattle.folder_walk.specs.declared.rows.Row.{Row}
 use Rattle.folder_walk.specs.declared.refusals.DumpRefusal.{DumpRefusal}

@@ -8,7 +8,7 @@ use Rattle.attr_records.specs.Items.{Tree, is_dir}
 use Rattle.attr_records.specs.Trees.{IsTree}
 use Rattle.backup_rules.specs.declared.lines.Line.{Line}
 use Rattle.backup_rules.specs.declared.lines.Kind.{Kind}
-use Rattle.office_model.specs.declared.session.SessionName.{SessionName}
+use Rattle.receipts.specs.declared.session.SessionName.{SessionName}
 use Rattle.office_model.specs.declared.answer.NamedNode.{NamedNode}
 use Rattle.office_model.specs.declared.event.Event.{Event}
 use Rattle.office_model.specs.declared.event.Event.TheVariants as E
@@ -123,7 +123,7 @@ abbrev pub RemovesEnd : SessionName → List (List ℕ) → List Call → Result
 RemovesEnd dump gone calls (Ok _) = calls ≡ remove_calls dump gone
 RemovesEnd dump gone calls (Err fault) =
     (done : List (List ℕ)) × (path : List ℕ) × (more : List (List ℕ)) × (refusal : Refusal) × (gone ≡ done ++ path ∷ more)
-    × (refusal_of fault ≡ Some refusal) × (calls ≡ remove_calls dump done ++ (E.Remove dump path, Err refusal) ∷ [])
+    × (refusal_of fault ≡ Some refusal) × (calls ≡ remove_calls dump done ++ (E.Remove dump path None, Err refusal) ∷ [])
 
 pub record RemovesAll {P : Type 0} (moves : P → List Call → P → Type 0) (old new : P) (dump : SessionName) (gone : List (List ℕ))
     (result : Result ⊤ DumpRefusal) : Type 0 where

@@ -1,23 +1,33 @@
 -- A dump of a folder over a port.
+--     opening_call      an opening, by what it was answered with
 --     Dumped      it was committed: its calls are those of a dump of the folder's tree
 --     Stopped      it was refused: its calls begin the script, and an open dump was aborted
-use Rattle.std.specs.Prelude.{◌≡◌, ℕ, List, [], ◌∷◌, ◌++◌, map, Option, Some, Result, Ok, Err}
+use Rattle.std.specs.Prelude.{◌≡◌, ℕ, List, [], ◌∷◌, ◌++◌, map, Option, Some, Result, Ok, Err, ◌⊎◌}
 use Rattle.attr_records.specs.Items.{Tree, is_dir}
 use Rattle.attr_records.specs.Trees.{IsTree}
 use Rattle.backup_rules.specs.declared.lines.Kind.{Kind}
-use Rattle.office_model.specs.declared.session.SessionName.{SessionName}
+use Rattle.receipts.specs.declared.session.SessionName.{SessionName}
 use Rattle.office_model.specs.declared.event.Event.TheVariants as E
 use Rattle.office_model.specs.declared.answer.Answer.TheVariants as A
 use Rattle.office_model.specs.Meaning.{Reply}
 use Rattle.office_model.specs.Step.{Call}
 use Rattle.call_scripts.specs.Scripts.{each_of, AreAnswered, Begins}
 use Rattle.call_scripts.specs.Moments.{Gave}
-use Rattle.folder_laws.specs.Calls.{ArePuts, commit_call, dump_calls}
+use Rattle.folder_laws.specs.Calls.{open_call, already_call, ArePuts, commit_call, dump_calls}
 use Rattle.folder_laws.specs.Lists.{IsBase}
 use Rattle.folder_laws.specs.DumpScript.{puts_script, base_script, dump_script}
+use Rattle.folder_walk.specs.declared.asking.Opening.{Opening}
+use Rattle.folder_walk.specs.declared.asking.Opening.TheVariants as O
 use Rattle.folder_walk.specs.declared.refusals.DumpRefusal.{DumpRefusal}
 use Rattle.folder_walk.specs.Causes.{refusal_of}
 use Rattle.folder_walk.specs.Puts.{AnsweredOr, EndSo}
+
+-- ---- an opening
+
+-- by what it was answered with
+abbrev pub opening_call : List ℕ → Kind → ℕ → Opening → Call
+opening_call host kind now (O.Dump dump) = open_call host kind now dump
+opening_call host kind now (O.Already number) = already_call host kind now number
 
 -- ---- an open dump
 
@@ -52,8 +62,14 @@ pub record IsDump (kind : Kind) (tree : Tree) (host : List ℕ) (now : ℕ) (lat
   pub later_is : later ≡ moment ∷ []
   pub calls_are : calls ≡ dump_calls host kind now moment dump number base puts
 
+-- the opening was answered with the number of a backup, and nothing was called behind it; no office answers so
+pub record IsKnown (kind : Kind) (host : List ℕ) (now : ℕ) (later : List ℕ) (number : ℕ) (calls : List Call) : Type 0 where
+  pub later_is : later ≡ []
+  pub calls_are : calls ≡ already_call host kind now number ∷ []
+
 -- A dump was committed as the backup of this number. The clock was read as it began and as it was committed. The calls lead from the
--- port's state before to that after, each was answered, and where the folder tells its tree, they are those of a dump of it.
+-- port's state before to that after, each was answered, and where the folder tells its tree, they are those of a dump of it; or the
+-- opening alone was called, if it was answered with that number.
 pub record Dumped {P : Type 0} (moves : P → List Call → P → Type 0) (old new : P) (told : Option Tree) (moments moments' : Option (List ℕ))
     (kind : Kind) (host : List ℕ) (number : ℕ) : Type 0 where
   pub now : ℕ
@@ -62,7 +78,8 @@ pub record Dumped {P : Type 0} (moves : P → List Call → P → Type 0) (old n
   pub clock : Gave moments (now ∷ later) moments'
   pub moved : moves old calls new
   pub answered : AreAnswered calls
-  pub whole : (tree : Tree) → told ≡ Some tree → IsTree is_dir tree → IsDump kind tree host now later number calls
+  pub whole : (tree : Tree) → told ≡ Some tree → IsTree is_dir tree
+      → IsDump kind tree host now later number calls ⊎ IsKnown kind host now later number calls
 
 -- the abort of the dump that was opened, if one was
 abbrev pub AreAborts : List Call → List Call → Type 0

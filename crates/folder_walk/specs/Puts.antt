@@ -13,7 +13,7 @@ use Rattle.folder_laws.specs.Walks.{is_open}
 use Rattle.folder_laws.specs.Calls.{piece_calls, IsPut, ArePuts}
 use Rattle.folder_laws.specs.DumpScript.{item_script, puts_script}
 use Rattle.tree_frames.specs.Frames.{pieces}
-use Rattle.office_model.specs.declared.session.SessionName.{SessionName}
+use Rattle.receipts.specs.declared.session.SessionName.{SessionName}
 use Rattle.office_model.specs.declared.event.Event.{Event}
 use Rattle.office_model.specs.declared.event.Event.TheVariants as E
 use Rattle.office_model.specs.declared.event.PutItem.TheVariants.{Staged}
@@ -62,7 +62,7 @@ pub record PutsEntry {P A : Type 0} (moves : P → List Call → P → Type 0) (
 
 -- the put of a file that the folder lists, whose bytes are in a stage
 abbrev pub found_put : SessionName → List ℕ → FoundFile → ℕ → Event
-found_put dump path file stage = E.Put dump path (Staged (record { attr = file.attr; group = file.group; stage = stage }))
+found_put dump path file stage = E.Put dump path (Staged (record { attr = file.attr; group = file.group; stage = stage })) None
 
 -- the pieces of a file before a place were taken by a stage
 pub record Taken (stage : ℕ) (bytes : List ℕ) (from : ℕ) (calls : List Call) : Type 0 where

@@ -1,14 +1,15 @@
 //! The calls of a dump, one each.
 
-ghost use Rattle.std.specs.Prelude.{◌≡◌, ◌≢◌, [], ◌∷◌, Option, Ok, IfOk, IfErr, OnOk};
+ghost use Rattle.std.specs.Prelude.{◌≡◌, ◌≢◌, [], ◌∷◌, Option, None, Ok, IfOk, IfErr, OnOk};
 ghost use Rattle.std.specs.Option.{option_copied};
 ghost use Rattle.attr_records.specs.Items.{Tree};
 ghost use Rattle.office_model.specs.declared.event.Event.TheVariants as E;
 ghost use Rattle.office_model.specs.declared.answer.Answer.TheVariants as A;
-ghost use Rattle.folder_laws.specs.Calls.{open_call, remove_call, commit_call};
+ghost use Rattle.folder_laws.specs.Calls.{remove_call, commit_call};
 ghost use Rattle.folder_walk.specs.Causes.{IsDumpCause};
 ghost use Rattle.folder_walk.specs.Puts.{IsCallFault};
 ghost use Rattle.folder_walk.specs.Bases.{LastAsked, IsFailedCall};
+ghost use Rattle.folder_walk.specs.Dumps.{opening_call};
 
 use crate::refusals::DumpRefusal;
 use attr_records::{HostName, PathName};
@@ -17,6 +18,13 @@ use office_model::{Answer, EntryList, Event, Port, SessionName};
 use std::alloc::{AllocError, Global};
 use stream_traits::Moment;
 
+/// What an opening was answered with: the dump's name, or the number of the backup that it is already.
+#[derive(Clone, Copy, Debug)]
+pub(crate) enum Opening {
+    Dump(SessionName),
+    Already(u32),
+}
+
 /// Opens a dump.
 pub(crate) fn open_dump<P: Port>(
     alloc: Global,
@@ -24,17 +32,26 @@ pub(crate) fn open_dump<P: Port>(
     host: &HostName,
     kind: Kind,
     now: Moment,
-) -> Result<SessionName, DumpRefusal>
-    ensures ok { IfOk result (λ dump. P.moves port.old (open_call host.now kind now dump ∷ []) port.new) }
-    ensures err { IfErr result (IsFailedCall P.moves port.old port.new (E.OpenDump host.now kind now)) }
+) -> Result<Opening, DumpRefusal>
+    ensures ok { IfOk result (λ opening. P.moves port.old (opening_call host.now kind now opening ∷ []) port.new) }
+    ensures err { IfErr result (IsFailedCall P.moves port.old port.new (E.OpenDump host.now kind now None)) }
     ensures cause { (told : Option Tree) → IfErr result (IsDumpCause told) }
     ensures unfailed { IfErr result (λ fault. fault ≢ DumpRefusal.Folder) }
 {
     let Ok(host) = host.copy(alloc) else {
         return Err(DumpRefusal::Memory);
     };
-    match port.call(alloc, &Event::OpenDump { host, kind, now }) {
-        Ok(Answer::Dump(dump)) => Ok(dump),
+    match port.call(
+        alloc,
+        &Event::OpenDump {
+            host,
+            kind,
+            now,
+            token: None,
+        },
+    ) {
+        Ok(Answer::Dump(dump)) => Ok(Opening::Dump(dump)),
+        Ok(Answer::Already(number)) => Ok(Opening::Already(number)),
         Ok(_) => unreachable!(),
         Err(refusal) => Err(DumpRefusal::Refused(refusal)),
     }
@@ -48,11 +65,18 @@ pub(crate) fn remove<P: Port>(
     path: PathName,
 ) -> Result<(), DumpRefusal>
     ensures ok { OnOk result (P.moves port.old (remove_call dump path ∷ []) port.new) }
-    ensures err { IfErr result (IsCallFault P.moves port.old port.new (E.Remove dump path)) }
+    ensures err { IfErr result (IsCallFault P.moves port.old port.new (E.Remove dump path None)) }
     ensures cause { (told : Option Tree) → IfErr result (IsDumpCause told) }
     ensures unfailed { IfErr result (λ fault. fault ≢ DumpRefusal.Folder) }
 {
-    match port.call(alloc, &Event::Remove { dump, path }) {
+    match port.call(
+        alloc,
+        &Event::Remove {
+            dump,
+            path,
+            token: None,
+        },
+    ) {
         Ok(_) => Ok(()),
         Err(refusal) => Err(DumpRefusal::Refused(refusal)),
     }

@@ -7,7 +7,7 @@ ghost use Rattle.folder_walk.specs.Causes.{IsDumpCause};
 ghost use Rattle.folder_walk.specs.Bases.{RemovesAll, MakesBase};
 ghost use Rattle.folder_walk.specs.Dumps.{Fills, Dumped, Stopped};
 
-use crate::asking::{commit, last_number, open_dump, remove};
+use crate::asking::{Opening, commit, last_number, open_dump, remove};
 use crate::comparing::gone_paths;
 use crate::putting::put_all;
 use crate::refusals::DumpRefusal;
@@ -127,7 +127,8 @@ fn fill<P: Port, F: Folder, C: Clock, G: Progress>(
 /// A full dump takes all of the folder. An incremental one begins with the last backup's tree; what the folder lacks of that, or has
 /// as something else if one of the two is a directory, is removed. Then each entry is put, a file with its bytes, in the order of the
 /// paths, and the dump is committed. The clock is read twice, as it begins and as it is committed. A file that has gone since it was
-/// listed is passed over, and `progress` is told; where the folder tells its tree none has.
+/// listed is passed over, and `progress` is told; where the folder tells its tree none has. It bears no token; an opening that is answered
+/// with a backup's number nevertheless, as no office does, is all that is called, and that number is given.
 ///
 /// If it is Ok, the host has one backup more, whose tree is the folder's where the folder tells it and the port keeps its history
 /// legal. If it isn't, no commit was answered with Ok: an open dump was aborted, whatever the abort answered, and the reason is what came
@@ -148,7 +149,8 @@ pub fn dump_folder<P: Port, F: Folder, C: Clock, G: Progress>(
     ensures counted { Counted (F.fault_count folder.old) (F.fault_count folder.new) (IsErrOf result DumpRefusal.Folder) }
 {
     let dump = match open_dump(alloc, port, host, kind, clock.now()) {
-        Ok(dump) => dump,
+        Ok(Opening::Dump(dump)) => dump,
+        Ok(Opening::Already(number)) => return Ok(number),
         Err(fault) => return Err(fault),
     };
     match fill(alloc, port, folder, host, kind, dump, clock, progress) {

@@ -1,6 +1,6 @@
 //! Each entry of a folder is put into a dump.
 
-ghost use Rattle.std.specs.Prelude.{◌≡◌, ◌≢◌, ◌++◌, ◌∷◌, [], ℕ, List, reverse, false, Option, Ok, Some, IfOk, IfErr, OnOk, IsErrOf};
+ghost use Rattle.std.specs.Prelude.{◌≡◌, ◌≢◌, ◌++◌, ◌∷◌, [], ℕ, List, reverse, false, Option, Ok, Some, None, IfOk, IfErr, OnOk, IsErrOf};
 ghost use Rattle.std.specs.Option.{ForSome};
 ghost use Rattle.fault_counts.specs.Counts.{Counted};
 ghost use Rattle.attr_records.specs.Items.{Tree};
@@ -98,12 +98,20 @@ fn put_item<P: Port>(
     path: PathName,
     item: Item,
 ) -> Result<(), DumpRefusal>
-    ensures ok { OnOk result (P.moves port.old ((E.Put dump path (Whole item), Ok A.Done) ∷ []) port.new) }
-    ensures err { IfErr result (IsCallFault P.moves port.old port.new (E.Put dump path (Whole item))) }
+    ensures ok { OnOk result (P.moves port.old ((E.Put dump path (Whole item) None, Ok A.Done) ∷ []) port.new) }
+    ensures err { IfErr result (IsCallFault P.moves port.old port.new (E.Put dump path (Whole item) None)) }
     ensures unfailed { IfErr result (λ fault. fault ≢ DumpRefusal.Folder) }
 {
     let item = PutItem::Whole(item);
-    match port.call(alloc, &Event::Put { dump, path, item }) {
+    match port.call(
+        alloc,
+        &Event::Put {
+            dump,
+            path,
+            item,
+            token: None,
+        },
+    ) {
         Ok(_) => Ok(()),
         Err(refusal) => Err(DumpRefusal::Refused(refusal)),
     }

@@ -84,7 +84,15 @@ fn put_staged<P: Port>(
         group: file.group,
         stage,
     });
-    match port.call(alloc, &Event::Put { dump, path, item }) {
+    match port.call(
+        alloc,
+        &Event::Put {
+            dump,
+            path,
+            item,
+            token: None,
+        },
+    ) {
         Ok(_) => Ok(()),
         Err(refusal) => Err(DumpRefusal::Refused(refusal)),
     }

@@ -1,4 +1,4 @@
-use Rattle.std.specs.Prelude.{Some, Ok, [], ◌∷◌}
+use Rattle.std.specs.Prelude.{Some, None, Ok, [], ◌∷◌}
 use Rattle.std.proofs.Common.{refl, subst}
 use Rattle.office_model.specs.declared.event.Event.TheVariants as E
 use Rattle.office_model.specs.declared.event.PutItem.TheVariants.{Whole}
@@ -27,7 +27,7 @@ pub returns-in-Ok-put_item-clause-puts : goal.returns-in-Ok-put_item-clause-puts
 returns-in-Ok-put_item-clause-puts g c =
     puts_one g.P.Port.moves g.met.P.Port.none c.args.port.now c.put_item.new.port (g.F.Folder.tree c.args.folder.now) c.args.dump c.args.path.now c.args.node
     c.requires c.in-Some.item
-    (subst (λ path. g.P.Port.moves c.args.port.now ((E.Put c.args.dump path (Whole c.in-Some.item), Ok A.Done) ∷ []) c.put_item.new.port) c.in-Ok-copy.ensures
+    (subst (λ path. g.P.Port.moves c.args.port.now ((E.Put c.args.dump path (Whole c.in-Some.item) None, Ok A.Done) ∷ []) c.put_item.new.port) c.in-Ok-copy.ensures
     c.in-Ok-put_item.ensures.ok)
     (subst (λ found. IsItemThere (g.F.Folder.tree c.args.folder.now) c.args.path.now c.args.node found) c.in-Some.is c.in-Ok.ensures.item)
 
@@ -35,6 +35,6 @@ pub returns-in-Err-put_item-clause-puts : goal.returns-in-Err-put_item-clause-pu
 returns-in-Err-put_item-clause-puts g c =
     puts_refused g.P.Port.moves g.met.P.Port.none c.args.port.now c.put_item.new.port (g.F.Folder.tree c.args.folder.now) c.args.dump c.args.path.now
     c.args.node c.requires c.in-Some.item c.in-Err-put_item.fault
-    (subst (λ path. IsCallFault g.P.Port.moves c.args.port.now c.put_item.new.port (E.Put c.args.dump path (Whole c.in-Some.item)) c.in-Err-put_item.fault)
+    (subst (λ path. IsCallFault g.P.Port.moves c.args.port.now c.put_item.new.port (E.Put c.args.dump path (Whole c.in-Some.item) None) c.in-Err-put_item.fault)
     c.in-Ok-copy.ensures c.in-Err-put_item.ensures.err)
     (subst (λ found. IsItemThere (g.F.Folder.tree c.args.folder.now) c.args.path.now c.args.node found) c.in-Some.is c.in-Ok.ensures.item)
