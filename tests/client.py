@@ -369,6 +369,10 @@ class Room:
     def backups(self):
         return self.client("backups", self.host, "--json").json()
 
+    def backups_now(self):
+        """The same, not through the relay."""
+        return json.loads(ask(self.server.port, "GET", f"/hosts/{self.host}/backups"))
+
 
 def remove(path):
     """Removes a tree of paths that may be too long for a system call."""
@@ -519,7 +523,7 @@ def lost_answers(room):
     lost = []
 
     def spoil(_before, piece):
-        for word in (b"/dumps?kind=full HTTP", b"/commit HTTP"):
+        for word in (b"/dumps?kind=full", b"/commit HTTP"):
             if word in piece and word not in lost:
                 lost.append(word)
                 return "pass"
@@ -933,114 +937,141 @@ def proxies(room):
     want_in("Halted", room.client("hosts", port=liar.port).wants(4).err)
 
 
-# ---- Parked dumps and tokens: an office of a few lines that has them
+# ---- Parked dumps and tokens
 
 
-class Office:
-    """A server with one host, one dump, a parked dump and tokens. Trees are dicts of path and query."""
-
-    def __init__(self):
-        self.backups, self.dump, self.tree, self.partial, self.tokens = [], None, {}, None, []
-        self.count = 0
-
-    def __call__(self, method, target, body):
-        path, _, query = target.partition("?")
-        keys = {key: each[0] for key, each in urllib.parse.parse_qs(query, keep_blank_values=True).items()}
-        return getattr(self, f"{method}_{path.rpartition('/')[2]}".lower().replace("-", "_"), self.other)(method, path, keys, body)
-
-    def other(self, method, path, _keys, _body):
-        if method == "DELETE" and self.dump and path.endswith(self.dump):
-            self.dump, self.tree = None, {}
-            return 200, {}
-        return (201, {"host": "pc"}) if method == "PUT" else (404, {"refused": "NoRoute"})
-
-    def get_stats(self, *_):
-        return 200, dict.fromkeys(("backups", "bytes", "dumps", "files", "hosts", "marked", "restores"), 0)
-
-    def get_due(self, *_):
-        return 200, {"due": "incr", "blackout": False}
-
-    def get_backups(self, *_):
-        lines = [{**LINE, "number": number} for number in range(len(self.backups))]
-        return 200, {"backups": lines, "dump": self.dump, "next": len(self.backups)}
-
-    def opened(self, tree):
-        self.count += 1
-        self.dump, self.tree = f"1-{self.count}", dict(tree)
-        return 201, {"dump": self.dump}
-
-    def post_dumps(self, _method, _path, keys, _body):
-        self.tokens.append(keys.get("token"))
-        return self.opened(self.backups[-1] if keys["kind"] == "incr" else {})
-
-    def post_park(self, *_):
-        self.partial = dict(self.tree)
-        return 200, {}
-
-    def post_resume(self, *_):
-        return self.opened(self.partial) if self.partial is not None else (404, {"refused": "NoPartial"})
-
-    def post_commit(self, *_):
-        self.backups.append(self.tree)
-        self.dump, self.partial = None, None
-        return 201, {"number": len(self.backups) - 1}
-
-    def put_entry(self, _method, _path, keys, body):
-        self.tree[keys.pop("path")] = {**keys, "body": body}
-        return 200, {}
-
-    def delete_entry(self, _method, _path, keys, _body):
-        below = [path for path in self.tree if path == keys["path"] or path.startswith(keys["path"] + "/")]
-        for path in below:
-            del self.tree[path]
-        return (200, {}) if below else (404, {"refused": "NoPath"})
-
-    def get_list(self, _method, path, keys, _body):
-        tree, top = self.backups[int(path.split("/")[-2])], keys.get("path", "")
-        found = []
-        for each, what in sorted(tree.items()):
-            if each.rpartition("/")[0] == top:
-                numbers = {key: int(what.get(key, 0)) for key in ("uid", "gid", "mtime", "nanos")}
-                more = {"file": {"group": int(what.get("group", 0)), "size": len(what["body"])}, "dir": {},
-                        "link": {"target": what["body"].decode()}}[what["kind"]]
-                found.append({"kind": what["kind"], "mode": what["mode"], "name": each.rpartition("/")[2], **numbers, **more})
-        return 200, {"entries": found}
+def drawn(room):
+    """The tokens of the requests that were sent, each with its request; one that was sent again has it again."""
+    found = {}
+    for line in room.relay.lines():
+        for token in re.findall(rb"[?&]token=([^& ]*)", line):
+            if found.setdefault(token, line) != line or not re.fullmatch(b"[0-9a-f]{32}", token):
+                raise Wrong(f"the token {token} of {line}, and of {found[token]}")
+    return found
 
 
 def parked(room):
-    """A push that is stopped is parked, and the next one goes on with what it sent, though things changed; tokens are sent."""
+    """A push that is stopped is parked, and the next one goes on with what it sent, though things changed; and so twice."""
     make_small(room.tree, 300, 8_000)
-    office = Office()
-    liar = Liar(office)
-    room.relay = Relay(liar.port)
     for turn in range(2):
         room.relay.reset(rate=2_000_000)
         run = Begun(room.top, room.relay.port, "push", room.host, room.tree, *(["--checksum"] if turn else []))
         wait_for(lambda: room.relay.bytes() > 1_000_000, "bytes")
         run.send_signal(signal.SIGTERM)
         status, _, said = run.end()
-        want((status, office.dump), (130, None), said)
+        want((status, room.backups()["dump"]), (130, None), said)
         want_in("is parked", said)
-        kept = len(office.partial)
+        kept = json.loads(ask(room.server.port, "GET", f"/hosts/{room.host}/partial"))["entries"]
         if kept < 50:
             raise Wrong(f"{kept} entries were parked")
         write(f"{room.tree}/d0/f{20 * turn}", b"changed")
         os.unlink(f"{room.tree}/d{turn + 1}/f{turn + 1}")
         shutil.rmtree(f"{room.tree}/d{turn + 3}")
-        before = len(liar.seen)
         room.relay.reset()
         found = room.push()
-        if f"POST /hosts/{room.host}/resume" not in liar.seen[before:] or found["unchanged"] < 40:
+        lines = room.relay.lines()
+        if f"POST /hosts/{room.host}/resume".encode() not in lines or found["unchanged"] < 40:
             raise Wrong(f"it didn't go on: {found}")
-        wanted = {f"{room.stored}/{path}" for path in described(room.tree)}
-        there = {path for path in office.backups[-1] if path.startswith(room.stored + "/")}
-        want(there, wanted, "what is there")
-        for path in described(room.tree):
-            if os.path.isfile(f"{room.tree}/{path}"):
-                with open(f"{room.tree}/{path}", "rb") as it:
-                    want(office.backups[-1][f"{room.stored}/{path}"]["body"], it.read(), path)
-    if not all(re.fullmatch("[0-9a-f]{32}", each or "") for each in office.tokens):
-        raise Wrong(f"tokens: {office.tokens}")
+        want_same(room.tree, room.restored())
+        want(len(drawn(room)), sum(b"/entry?" in line for line in lines), "tokens")
+
+
+def tokens(room):
+    """The opening of a dump, each put and each removal have a token of their own, which a request that is sent again has again."""
+    for name in ("a", "b", "gone"):
+        write_in(room.tree, name)
+    lost = set()
+
+    def spoil(_before, piece):
+        for line in re.findall(rb"^(?:POST|PUT|DELETE) \S+", piece, re.MULTILINE):
+            if line not in lost and (b"kind=file" in line or b"DELETE" in line or b"/dumps?" in line):
+                lost.add(line)
+                return "pass"
+        return None
+
+    for number in range(2):
+        room.relay.reset(spoil=spoil)
+        want((room.push()["number"], room.relay.connections > 2), (number, True), "the push")
+        lines = [line for line in room.relay.lines() if b"/entry?" in line or b"/dumps?" in line]
+        if len(lines) == len(set(lines)):
+            raise Wrong("nothing was sent again")
+        want(len(drawn(room)), len(set(lines)), "tokens")
+        want_same(room.tree, room.restored(str(number)))
+        os.unlink(f"{room.tree}/gone") if number == 0 else None
+    want(len(room.backups()["backups"]), 2, "backups")
+
+
+def write_in(top, name):
+    os.makedirs(top, exist_ok=True)
+    write(f"{top}/{name}", name.encode())
+
+
+def lost_commit(room):
+    """The answer to the commit is lost, and the server is away until the push ends: the next one says that the backup is done."""
+    write_in(room.tree, "a")
+
+    def spoil(_before, piece):
+        if b"/commit HTTP" not in piece:
+            return None
+        room.relay.is_down = True
+        return "pass"
+
+    room.relay.reset(spoil=spoil)
+    room.client("push", room.host, room.tree, "--retry", "0.5").wants(4)
+    wait_for(lambda: room.backups_now()["backups"], "the backup")
+    room.relay.reset()
+    run = room.client("push", room.host, room.tree).wants(0)
+    want_in("backup 0 is done already", run.err)
+    want_in("backup 1 of", run.out)
+    want_same(room.tree, room.restored("0"))
+    if "done already" in room.client("push", room.host, room.tree).wants(0).err:
+        raise Wrong("it is told twice")
+
+
+def lost_opening(room):
+    """The answer to the opening is lost, and the server is away until the push ends: the dump isn't in the way of the next one,
+    but one of somebody else is."""
+    write_in(room.tree, "a")
+
+    def spoil(_before, piece):
+        if b"/dumps?kind=full" not in piece:
+            return None
+        room.relay.is_down = True
+        return "pass"
+
+    room.relay.reset(spoil=spoil)
+    room.client("push", room.host, room.tree, "--retry", "0.5").wants(4)
+    wait_for(lambda: room.backups_now()["dump"], "the dump")
+    room.relay.reset()
+    want(room.push()["number"], 0, "number")
+    room.relay.reset(spoil=lambda _before, piece: "drop" if b"/dumps?kind=full" in piece else None)
+    room.client("push", room.host, room.tree, "--full", "--retry", "0.5").wants(4)
+    room.relay.reset()
+    ask(room.server.port, "POST", f"/hosts/{room.host}/dumps?kind=full")
+    want_in("SessionOpen", room.client("push", room.host, room.tree).wants(1).err)
+
+
+def without_tokens(room):
+    """A server of an older version, which takes no tokens, isn't given any behind the first."""
+    write_in(room.tree, "a")
+    relay = room.relay
+
+    def answer(method, target, _body):
+        if "token=" in target:
+            return 400, {"refused": "BadQuery.Unknown"}
+        if target.endswith("/backups"):
+            return 200, {"backups": [], "dump": None, "next": 0}
+        if target == "/stats":
+            return 200, dict.fromkeys(("backups", "bytes", "dumps", "files", "hosts", "marked", "restores"), 0)
+        if method == "POST":
+            return 201, {"number": 0} if target.endswith("/commit") else {"dump": "1-0"}
+        return 200, {}
+
+    liar = Liar(answer)
+    room.relay = Relay(liar.port)
+    want(room.push()["number"], 0, "number")
+    want(len(drawn(room)), 1, "tokens")
+    room.relay = relay
 
 
 def one_file(room):
@@ -1053,7 +1084,7 @@ def one_file(room):
 
 TESTS = [one_file, every_kind, other_kinds, two_in_a_hundred, plain_paths, stopped, broken_connections, lost_answers, away_and_back,
          open_dumps, left_out, unreadable, moving_files, choices, other_commands, many_listings, hostile_names, hostile_links,
-         hostile_lengths, hostile_answers, hostile_pushes, proxies, parked]
+         hostile_lengths, hostile_answers, hostile_pushes, proxies, parked, tokens, lost_commit, lost_opening, without_tokens]
 
 
 def main():

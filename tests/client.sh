@@ -2,7 +2,7 @@
 # The client clients/turretgage against the program's command `serve`, and against servers that lie: trees of every kind there and
 # back, pushes that break off and go on, and refusals. Run it from anywhere after `make build`, or with another program's path; it
 # needs python3 alone, and takes about a minute.
-# Parked dumps are tried against the program, too; parked dumps and tokens against an office of a few lines that has them (client.py).
+# Parked dumps and tokens are tried against the program, too, and what an older server takes against an office of a few lines (client.py).
 # The last line is 'N passed, M failed'; the status is 0 if none failed.
 
 top=$(cd "$(dirname "$0")/.." && pwd)
