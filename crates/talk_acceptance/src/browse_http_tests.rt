@@ -2,7 +2,7 @@ use crate::interfaces::{interface, name_of};
 use attr_records::HostName;
 use browse_http::*;
 use disk_trait::Bytes;
-use office_model::{Answer, BrokenRule, Event, HostList, Port, Refusal, SessionName, Token};
+use office_model::{Answer, BrokenRule, Event, HostList, Port, Refusal, SessionName};
 use std::alloc::{AllocError, Global};
 use std::test::Fail;
 use stream_traits::{FixedClock, Gate, MemoryLink, Moment, OpenGate};
@@ -25,11 +25,17 @@ impl Port for OneHost {
             Event::AddHost { .. } => Ok(Answer::Done),
             Event::OpenDump { host, token, .. } => {
                 of_host(host)?;
-                Ok(opened(*token))
+                match token {
+                    Some(_) => Ok(Answer::Already(7)),
+                    None => Ok(Answer::Dump(DUMP)),
+                }
             }
             Event::Put { dump, token, .. } => {
                 of_dump(*dump)?;
-                kept(*token)
+                match token {
+                    Some(_) => Err(Refusal::Broken(BrokenRule::TokensFull)),
+                    None => Ok(Answer::Done),
+                }
             }
             Event::Commit { dump, .. } => {
                 of_dump(*dump)?;
@@ -77,20 +83,6 @@ fn of_host(host: &HostName) -> Result<(), Refusal> {
         return Ok(());
     }
     Err(Refusal::Broken(BrokenRule::NoHost))
-}
-
-fn opened(token: Option<Token>) -> Answer {
-    match token {
-        Some(_) => Answer::Already(7),
-        None => Answer::Dump(DUMP),
-    }
-}
-
-fn kept(token: Option<Token>) -> Result<Answer, Refusal> {
-    match token {
-        Some(_) => Err(Refusal::Broken(BrokenRule::TokensFull)),
-        None => Ok(Answer::Done),
-    }
 }
 
 fn of_dump(dump: SessionName) -> Result<(), Refusal> {
