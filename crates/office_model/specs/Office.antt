@@ -89,13 +89,14 @@ pub record Office : Type 0 where
   pub volatile : Volatile
   pub open volatile use *
 
--- how contents are named: the digest of each, and the names of pool files that are in use; and the numbers of the next stage and of
--- the next reader, which no epoch sets back
+-- how contents are named: the digest of each, and the names of pool files that are in use; the numbers of the next stage and of the
+-- next reader, which no epoch sets back; and the hosts, by their indexes, that may have tables of the first layout
 pub record Names : Type 0 where
   pub digest_of : List ℕ → List ℕ
   pub used : List PoolId
   pub next_stage : ℕ
   pub next_reader : ℕ
+  pub old_hosts : List ℕ
 
 abbrev pub blank : Durable
 blank = record { epoch = 0; hosts = []; pool = [] }

@@ -5,6 +5,7 @@ ghost use Rattle.office_model.specs.Meaning.{Reply};
 ghost use Rattle.office_model.specs.Step.{State, meaning_of, IsStep, IsSoundState};
 ghost use Rattle.office_model.specs.Partials.{PartialsStay, ParkedIsPartial, ResumedIsPartial, ParkedReads};
 ghost use Rattle.office_model.specs.Tokens.{ReceiptsDiffer, OpeningByReceipt, OpeningByDump, CommitByReceipt, OkRepeats, PutByToken, RemoveByToken, FirstAlone};
+ghost use Rattle.office_model.specs.OldTables.{NoneJoins, NoneJoinsLater, MigratedIsNone};
 ghost use Rattle.office_model.specs.laws.Lawful.{IsLawful};
 
 /// Each event is lawful: carried out in a sound office with its names, it answers what is of its kind and leaves a sound office, in
@@ -49,4 +50,12 @@ pub fn a_repeated_request_changes_nothing()
 /// Of the puts and removals of one open dump with one token only the first Ok changes a tree, whatever came between it and the next.
 pub fn only_the_first_of_a_token_changes()
     ensures { FirstAlone }
+{}
+
+/// No event, and so no legal history, makes a host one of those that may have tables of the first layout; the host of a Migrate that was
+/// Ok is none of them.
+pub fn old_hosts_become_fewer()
+    ensures joins { NoneJoins }
+    ensures joins_later { NoneJoinsLater }
+    ensures migrated { MigratedIsNone }
 {}

@@ -9,7 +9,7 @@ use Rattle.receipts.specs.declared.session.Token.{Token}
 use Rattle.office_model.specs.declared.answer.Answer.{Answer}
 use Rattle.office_model.specs.declared.answer.Answer.TheVariants.{Done, Reopened}
 use Rattle.office_model.specs.declared.event.Event.{Event}
-use Rattle.office_model.specs.declared.event.Event.TheVariants.{AddHost, SetRules, OpenDump, Put, Remove, StageOpen, StagePiece, StageDrop, Commit, Abort, Park, Resume, DropPartial, PartialInfo, List as ListEvent, Lookup, ReadFile, OpenFile, ReadPart, CloseFile, OpenRead, ReadNext, CloseRead, Keep, Delete, Expire, Contact, Due, Clean, Sweep, Stats, Hosts, Backups, Reopen}
+use Rattle.office_model.specs.declared.event.Event.TheVariants.{AddHost, SetRules, OpenDump, Put, Remove, StageOpen, StagePiece, StageDrop, Commit, Abort, Park, Resume, DropPartial, PartialInfo, List as ListEvent, Lookup, ReadFile, OpenFile, ReadPart, CloseFile, OpenRead, ReadNext, CloseRead, Keep, Delete, Expire, Migrate, Contact, Due, Clean, Sweep, Stats, Hosts, Backups, Reopen}
 use Rattle.office_model.specs.declared.event.PutItem.{PutItem}
 use Rattle.office_model.specs.declared.event.PutItem.TheVariants.{Whole, Staged}
 use Rattle.office_model.specs.declared.refusal.BrokenRule.TheVariants.{BadBucket, NumbersSpent, NoSession, TokensFull}
@@ -335,6 +335,8 @@ follows (Delete name number) office names c reopen e =
     let a = bound (events.Delete.without name number office.hosts) _ c e in alike office _ c a.2 refl (no_less office.sequence) refl
 follows (Expire name now) office names c reopen e =
     let a = bound (events.Expire.expired name now office.hosts) _ c e in alike office _ c a.2 refl (no_less office.sequence) refl
+follows (Migrate name) office names c reopen e =
+    let a = bound (host_at office.hosts name) _ c e in alike office _ c a.2 refl (no_less office.sequence) refl
 follows (Contact name good) office names c reopen e =
     let a = bound (events.Contact.contacted name good office.hosts) _ c e in alike office _ c a.2 refl (no_less office.sequence) refl
 follows (Due name now local) office names c reopen e =

@@ -9,7 +9,7 @@ use Rattle.office_model.specs.declared.answer.Answer.{Answer}
 use Rattle.office_model.specs.declared.answer.Answer.TheVariants.{Done, Reopened, Dump as Opened}
 use Rattle.backup_rules.specs.declared.lines.Kind.{Kind}
 use Rattle.office_model.specs.declared.event.Event.{Event}
-use Rattle.office_model.specs.declared.event.Event.TheVariants.{AddHost, SetRules, OpenDump, Put, Remove, StageOpen, StagePiece, StageDrop, Commit, Abort, Park, Resume, DropPartial, PartialInfo, List as ListEvent, Lookup, ReadFile, OpenFile, ReadPart, CloseFile, OpenRead, ReadNext, CloseRead, Keep, Delete, Expire, Contact, Due, Clean, Sweep, Stats, Hosts, Backups, Reopen}
+use Rattle.office_model.specs.declared.event.Event.TheVariants.{AddHost, SetRules, OpenDump, Put, Remove, StageOpen, StagePiece, StageDrop, Commit, Abort, Park, Resume, DropPartial, PartialInfo, List as ListEvent, Lookup, ReadFile, OpenFile, ReadPart, CloseFile, OpenRead, ReadNext, CloseRead, Keep, Delete, Expire, Migrate, Contact, Due, Clean, Sweep, Stats, Hosts, Backups, Reopen}
 use Rattle.office_model.specs.declared.event.PutItem.TheVariants.{Whole, Staged}
 use Rattle.office_model.specs.declared.refusal.BrokenRule.TheVariants.{NoHost, NoBackup, NoSession, NoPartial, NumbersSpent, BadBucket, TokensFull}
 use Rattle.office_model.specs.declared.refusal.Refusal.TheVariants.{Broken, Halted as HaltedReply, DiskFault, Damaged, Memory}
@@ -307,6 +307,8 @@ keeps (Delete name number) office names c e i host at other =
 keeps (Expire name now) office names c e i host at other =
     let a = bound (events.Expire.expired name now office.hosts) _ c e in
     kept_by (λ (x : Carried). x.after.hosts) _ c a.2 i host (expire_keeps name now office.hosts a.0 a.1 i host at)
+keeps (Migrate name) office names c e i host at other =
+    let a = bound (host_at office.hosts name) _ c e in stays _ c a.2 i host at
 keeps (Contact name good) office names c e i host at other =
     let a = bound (events.Contact.contacted name good office.hosts) _ c e in
     kept_by (λ (x : Carried). x.after.hosts) _ c a.2 i host (contact_keeps name good office.hosts a.0 a.1 i host at)
