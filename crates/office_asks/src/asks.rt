@@ -48,6 +48,7 @@ pub enum Ask {
     Keep(&'static str, u32),
     Delete(&'static str, u32),
     Expire(&'static str),
+    Migrate(&'static str),
     Contact(&'static str, bool),
     Due(&'static str, u64, u8, u16),
     Clean(u8),
@@ -215,7 +216,7 @@ fn session_event(alloc: Global, ask: Ask) -> Result<Event, Fail> {
     }
 }
 
-/// An event of a partial, or of a session.
+/// An event of a partial or of a host's tables, or of a session.
 fn partial_event(alloc: Global, ask: Ask) -> Result<Event, Fail> {
     match ask {
         Ask::CommitIn(epoch, sequence) => Ok(Event::Commit {
@@ -232,6 +233,9 @@ fn partial_event(alloc: Global, ask: Ask) -> Result<Event, Fail> {
             host: host(alloc, name)?,
         }),
         Ask::Partial(name) => Ok(Event::PartialInfo {
+            host: host(alloc, name)?,
+        }),
+        Ask::Migrate(name) => Ok(Event::Migrate {
             host: host(alloc, name)?,
         }),
         _ => session_event(alloc, ask),

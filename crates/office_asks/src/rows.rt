@@ -285,6 +285,8 @@ const EXPIRY: &[(Ask, &str)] = &[
     (Ask::Commit(3), "3"),
     (Ask::Keep("pc1", 0), "done"),
     (Ask::Expire("pc1"), "2"),
+    (Ask::Migrate("pc1"), "done"),
+    (Ask::Migrate("pc2"), "NoHost"),
     (Ask::Backups("pc1"), "0 filled 3 filled next 4 dump false"),
     (Ask::Expire("pc1"), "0"),
 ];
