@@ -40,6 +40,7 @@ use Rattle.office_model.specs.UsedNames.{AreSound}
 use Rattle.office_model.specs.laws.StateLaws.{AreSound-carried}
 use Rattle.office_files.specs.Pooled.{contents_of}
 use Rattle.office_files.specs.Stands.{Stands}
+use Rattle.office_files.specs.TableLayouts.{AreSecondBut}
 use Rattle.store_parts.specs.declared.parts.StoreParts.{StoreParts}
 use Rattle.store_parts.specs.Held.{given, AreUsed, AreCountsOf, IsKeptView}
 use Rattle.store_parts.specs.States.{slots, staging_of, IsWorking, IsRunning}
@@ -70,7 +71,7 @@ was_live : (id : PoolId) (old new : Option Slot) → IsNear id old new → is_li
 was_live id old new near live = live_is id old ∙ ap is_some (sym near.live) ∙ sym (live_is id new) ∙ live
 
 pub alike_still : (names : Names) → AreNamedAlike names names
-alike_still names = record { used = refl; digest_of = refl }
+alike_still names = record { used = refl; digest_of = refl; old_hosts = refl }
 
 -- ---- parts
 
@@ -135,6 +136,7 @@ module _ {D N S : Type 0} {d : DiskGhosts D} {n : NamerGhosts N S} where
           near = λ id e. at.used.near id (sym (stays.names id).used ∙ e);
         });
         digest = alike.digest_of ∙ at.digest;
+        second = subst (λ (hosts : List ℕ). AreSecondBut hosts at.all) (sym alike.old_hosts) at.second;
         catalog_is = stays.catalog_same ∙ at.catalog_is;
       };
       counted = subst (λ (counts : List Items). AreCountsOf counts at.shown) (sym stays.counts_same) at.counted;

@@ -37,6 +37,7 @@ AreNear old new = (id : PoolId) → IsNear id (old id) (new id)
 pub record AreNamedAlike (old new : Names) : Type 0 where
   pub used : new.used ≡ old.used
   pub digest_of : new.digest_of ≡ old.digest_of
+  pub old_hosts : new.old_hosts ≡ old.old_hosts
 
 -- an office of which this is open
 abbrev pub with_open : Office → Volatile → Office

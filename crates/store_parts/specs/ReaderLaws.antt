@@ -143,7 +143,7 @@ module _ {D N S : Type 0} {d : DiskGhosts D} {n : NamerGhosts N S} where
                   after = with_opened office name number path bytes names.next_reader found.is;
                 })) (sym (size_told (given (slots old)) (contents_of at.all) size content found.told));
             renamed = refl;
-            alike = record { used = refl; digest_of = refl };
+            alike = record { used = refl; digest_of = refl; old_hosts = refl };
             sessions = AreSessions-reader_opened old.sessions new.sessions same n.holds (given (slots old)) (contents_of at.all)
                 (staging_of at.all names) office.volatile at.sessions content size digest none found.told items next;
             claimed = λ id.

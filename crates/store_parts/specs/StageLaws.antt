@@ -143,7 +143,7 @@ module _ {D N S : Type 0} {d : DiskGhosts D} {n : NamerGhosts N S} where
               ∙ ap (λ (k : ℕ). Ok (record { answer = StageAnswer k; after = with_opened office session names.next_stage }))
               (sym (number_is ∙ at.sessions.numbers.stage));
           renamed = refl;
-          alike = record { used = refl; digest_of = refl };
+          alike = record { used = refl; digest_of = refl; old_hosts = refl };
           sessions = AreSessions-stage_opened old.sessions new.sessions same n.holds (given (slots old)) (contents_of at.all)
               (staging_of at.all names) office.volatile at.sessions session digest none items next;
           claimed = claimed_same office names at;
