@@ -58,9 +58,12 @@ use Rattle.office_model.specs.laws.CleanLaws.{IsSound-cleaned}
 use Rattle.office_model.specs.laws.StateLaws.{AreSound-carried}
 use Rattle.office_files.specs.Pooled.{contents_of, IsListed, HasNoIndex}
 use Rattle.office_files.specs.Stands.{Stands}
+use Rattle.office_files.specs.TableLayouts.{WriteNoFirst}
+use Rattle.office_files.specs.TableLayoutLaws.{second_applied}
 use Rattle.office_changes.specs.BridgeLaws.{protected_counted}
 use Rattle.office_changes.specs.ChangeLaws.{is_of_index}
 use Rattle.office_changes.specs.CleanLaws.{IsCleanedIndex, clean_stands}
+use Rattle.office_changes.specs.LayoutLaws.{second_of_index}
 use Rattle.office_pool.specs.FitLaws.{given_one}
 use Rattle.store_parts.specs.declared.parts.StoreParts.{StoreParts}
 use Rattle.store_parts.specs.Held.{given, AreCountsOf, IsKeptView}
@@ -263,11 +266,16 @@ module _ {D N S : Type 0} {d : DiskGhosts D} {n : NamerGhosts N S} where
               (inr (leads.leads at.all at.tells))
               (IsSound-cleaned office inside at.sound.office).kept at.stands
 
+          second : WriteNoFirst cleaning.change.changes
+          second = second_of_index cleaning.change.changes
+              (λ file named. index_file_is old.pool.in_one_file (index_of (slots old)) (index_of relisted) file (leads.only file named))
+
           leads_to : LeadsTo n.digest_of (Clean bucket) cleaning.change.changes office names at.all
           leads_to = record {
             carried = carried_by inside office;
             judged = judged;
             stands = record { index = index_of relisted; shown = at.shown; stands = stands };
+            second = second;
           }
 
           -- ---- the parts behind the commit
@@ -341,6 +349,7 @@ module _ {D N S : Type 0} {d : DiskGhosts D} {n : NamerGhosts N S} where
                     near = λ id e. at.used.near id (sym (used id) ∙ e);
                   };
                   digest = at.digest;
+                  second = second_applied names.old_hosts at.all cleaning.change.changes second at.second;
                   catalog_is = catalog ∙ at.catalog_is;
                 };
                 counted = subst (λ (cs : List Items). AreCountsOf cs at.shown) (sym counts) at.counted;

@@ -57,6 +57,7 @@ use Rattle.store_commits.specs.Judged.{line_of, receipt_by, receipt_for}
 use Rattle.store_commits.specs.AcceptLaws.{with_added, claims_added}
 use Rattle.store_commits.specs.Planned.{IsPlanned}
 use Rattle.store_commits.specs.CommittedLaws.{number_is, planned_changes}
+use Rattle.store_commits.specs.LayoutLaws.{second_planned}
 use Rattle.store_commits.specs.RunningLaws.{running_committed}
 use Rattle.store_commits.specs.Ending.{EndsDump, AreSessions-dump_ended, claims_in-dump_ended}
 use Rattle.store_commits.specs.Committing.{office_ended, office_after, IsMeant, meant, IsStoredAfter}
@@ -133,6 +134,7 @@ module _ {D N S : Type 0} {d : DiskGhosts D} {n : NamerGhosts N S} where
       carried = record { answer = Committed s.m.host.next; after = office_after office place s.m.dump s.m.host now };
       judged = s.judged;
       stands = record { index = _; shown = s.stored.shown; stands = s.stored.stands };
+      second = second_planned old session now plan planned;
     }
 
     pub leads_committed : (office : Office) (names : Names) (at : IsRunning old office names)
@@ -247,7 +249,7 @@ module _ {D N S : Type 0} {d : DiskGhosts D} {n : NamerGhosts N S} where
           (subst (λ (v : Views). IsKeptView v.kept (office_after office place s.m.dump s.m.host now).hosts s.stored.shown)
           (sym (f.views ∙ w.views_same)) s.stored.view)
           (subst (λ (c : List Items). AreCountsOf c s.stored.shown) (sym (counts_after office names at s.m)) s.stored.counted)
-          (parked_after office names at s.m) s.sound f.journal
+          (parked_after office names at s.m) s.sound (second_planned old session now plan planned) f.journal
           (f.catalog ∙ ap (known_after plan.catalog) w.catalog_same ∙ catalog_after office names at s.m)
           f.halted
 

@@ -17,6 +17,7 @@ pub mod GatherLaws
 pub mod BuildLaws
 pub mod PlanLaws
 pub mod CommittedLaws
+pub mod LayoutLaws
 pub mod LineLaws
 pub mod Ending
 pub mod Committing

@@ -26,6 +26,8 @@ use Rattle.office_model.specs.Office.{Office, Names}
 use Rattle.office_model.specs.UsedNames.{AreSound}
 use Rattle.office_files.specs.Pooled.{contents_of}
 use Rattle.office_files.specs.Stands.{Stands}
+use Rattle.office_files.specs.TableLayouts.{WriteNoFirst}
+use Rattle.office_files.specs.TableLayoutLaws.{second_applied}
 use Rattle.office_known.specs.KnownLaws.{known_of_office}
 use Rattle.store_parts.specs.declared.parts.StoreParts.{StoreParts}
 use Rattle.store_parts.specs.Held.{given, AreCountsOf, heads_of, IsKeptView}
@@ -77,9 +79,9 @@ module _ {D N S : Type 0} {d : DiskGhosts D} {n : NamerGhosts N S} where
         → TellsIn false (index_of (with_added ids (slots old))) (applied changes at.all)
         → AreSessions n.holds (given (slots old)) (contents_of at.all) (staging_of at.all names) after.volatile new.sessions
         → IsKeptView new.views.kept after.hosts shown → AreCountsOf new.counts shown → new.partials ≡ heads_of after.hosts
-        → AreSound after names
+        → AreSound after names → WriteNoFirst changes
         → new.journal ≡ mid.journal → new.catalog ≡ known_of_office after.durable → new.halted ≡ mid.halted → IsRunning new after names
-    running_committed accepted form claims stands tells sessions view counted parked sound journal catalog halted = record {
+    running_committed accepted form claims stands tells sessions view counted parked sound second journal catalog halted = record {
       working = record {
         ready = halted ∙ written.stays (λ e. absurd cc) ∙ at.ready;
         stored = record {
@@ -100,6 +102,7 @@ module _ {D N S : Type 0} {d : DiskGhosts D} {n : NamerGhosts N S} where
             near = λ id e. at.used.near id (sym (used id) ∙ e);
           };
           digest = at.digest;
+          second = second_applied names.old_hosts at.all changes second at.second;
           catalog_is = catalog;
         };
         counted = counted;

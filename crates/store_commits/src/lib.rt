@@ -10,9 +10,9 @@
 //! one that isn't there is named. A dump that isn't open has the answer of its receipt, or is refused if it has none; either does
 //! nothing, and reads nothing.
 //!
-//! Its laws are those of what stands in the files afterwards (`specs/OfficeLaws`, `specs/HostLaws`, `specs/LineLaws`), of what is open
-//! without the dump and its stages (`specs/Ending`), of the parts that then hold the office (`specs/RunningLaws`), and of the steps to
-//! that (`specs/EventLaws`, `specs/HoldLaws`).
+//! Its laws are those of what stands in the files afterwards (`specs/OfficeLaws`, `specs/HostLaws`, `specs/LineLaws`), of the layout of
+//! the tables that are written (`specs/LayoutLaws`), of what is open without the dump and its stages (`specs/Ending`), of the parts that
+//! then hold the office (`specs/RunningLaws`), and of the steps to that (`specs/EventLaws`, `specs/HoldLaws`).
 //!
 //! What a commit has in common with other events that store rows is [`settle_rows`], [`ids_of`] and [`unpark`], and [`parked_rows`]
 //! for those that take a partial's rows from the counts.

@@ -3,6 +3,7 @@ pub mod Called
 pub mod Written
 pub mod Built
 pub mod WrittenLaws
+pub mod LayoutLaws
 pub mod LeftLaws
 pub mod BuildLaws
 pub mod PartLaws

@@ -30,6 +30,7 @@ use Rattle.office_catalog.specs.Known.{Known, IsCatalog, with_change, changed_at
 use Rattle.office_files.specs.Hosts.{index_of_host}
 use Rattle.office_files.specs.KeptLaws.{IsHostFile-same}
 use Rattle.office_files.specs.Pooled.{contents_of, IsListed}
+use Rattle.office_files.specs.TableLayouts.{WriteNoFirst}
 use Rattle.office_changes.specs.BoundLaws.{few_counted_in}
 use Rattle.office_known.specs.KnownLaws.{host_of_catalog}
 use Rattle.office_deletion.specs.DeletionLaws.{length_lines, length_rows, rows_of, left_backups, lines_left, as_backups, are_whole, IsChangedTo, IsDeletion}
@@ -40,6 +41,7 @@ use Rattle.store_deletions.specs.Planned.{left_index, left_host, left_shown, IsH
 use Rattle.store_deletions.specs.Built.{IsBuilt}
 use Rattle.store_deletions.specs.Written.{table_part, written}
 use Rattle.store_deletions.specs.WrittenLaws.{IsOne, one_change, are_tables, are_written, at_index, at_table, at_counts, at_partial, at_other}
+use Rattle.store_deletions.specs.LayoutLaws.{written_second}
 use Rattle.store_deletions.specs.LeftLaws.{left_numbered}
 use Rattle.store_deletions.specs.PartLaws.{part_tables, tables_of_host, rise_sound, rise_part}
 
@@ -209,6 +211,7 @@ module _ (catalog : Known) (told : Option Files) (old : Items) (number first end
     fits = b.fits;
     known = b.known;
     are = subst AreChanges (sym b.changes_are) (are_written b.listed number made plan.counts one once);
+    second = subst WriteNoFirst (sym b.changes_are) (written_second b.listed number made plan.counts b.leads.named);
     others = λ all file out.
         ap (λ (cs : List Change). applied cs all file) b.changes_are ∙ at_other b.listed number made plan.counts one once all file out;
     deletes = deletes;

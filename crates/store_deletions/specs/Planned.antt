@@ -22,6 +22,7 @@ use Rattle.office_catalog.specs.Held.{HoldsCatalog}
 use Rattle.office_catalog.specs.Changed.{after, IsFor}
 use Rattle.office_files.specs.Hosts.{index_of_host, StandsHost}
 use Rattle.office_files.specs.Pooled.{contents_of, IsListed}
+use Rattle.office_files.specs.TableLayouts.{WriteNoFirst}
 use Rattle.office_changes.specs.ChangeLaws.{is_of_host}
 use Rattle.office_deletion.specs.DeletionLaws.{left_backups, shortened, IsDeletion}
 use Rattle.store_parts.specs.Held.{AreCounts}
@@ -60,6 +61,8 @@ pub record IsPlanned (catalog : Known) (told : Option Files) (counts : Items) (n
   -- the changes name metadata files of the host, none twice
   pub are : AreChanges plan.changes
   pub others : (all : Files) (file : FileId) → is_of_host number file ≡ false → applied plan.changes all file ≡ all file
+  -- and write no table of the first layout
+  pub second : WriteNoFirst plan.changes
   -- if the files that are told stand for the host, they have the deletion after the changes
   pub deletes : (pool : Index) (all : Files) (host : Host) (of : StoredHost) → told ≡ Some all
       → IsHostAtWork pool catalog counts all number host of

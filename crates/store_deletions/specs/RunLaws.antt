@@ -29,6 +29,7 @@ use Rattle.office_model.specs.declared.refusal.Refusal.TheVariants as R
 use Rattle.office_model.specs.Office.{Office, Names, with_hosts}
 use Rattle.office_model.specs.Step.{IsAnswerTo, meaning_of}
 use Rattle.office_model.specs.UsedNames.{AreSound, AreNamesAfter}
+use Rattle.office_files.specs.TableLayoutLaws.{second_applied}
 use Rattle.office_known.specs.KnownLaws.{known_of_office}
 use Rattle.store_parts.specs.declared.parts.StoreParts.{StoreParts}
 use Rattle.store_parts.specs.Held.{IsKeptView, AreCountsOf}
@@ -152,6 +153,7 @@ module _ {D N S : Type 0} {d : DiskGhosts D} {n : NamerGhosts N S} where
             carried = record { answer = answer; after = office_then office names at };
             judged = (shortens office names at).judged;
             stands = record { index = index_of (slots old); shown = t.shown; stands = t.stands };
+            second = planned.second;
           }
 
       pub runs_write_failed : (new : StoreParts D N S d n) (refusal : Refusal) → Writes old plan.changes (Err refusal) new
@@ -211,6 +213,7 @@ module _ {D N S : Type 0} {d : DiskGhosts D} {n : NamerGhosts N S} where
             (f.partials ∙ w.partials_same ∙ at.parked ∙ sym (heads-stay office.hosts p s.host (left_host numbers s.host) s.is_host refl))
             (sound_then old p numbers items plan has_items planned office names at event answer s
             (shortening.stay office names (Ok answer)))
+            (second_applied names.old_hosts at.all plan.changes planned.second at.second)
             f.journal f.pool (f.catalog ∙ ap (after plan.catalog) w.catalog_same ∙ t.known) f.sessions refl f.halted
 
         holds_then : (office : Office) (names : Names) (at : IsRunning old office names)

@@ -89,6 +89,7 @@ module _ {D N S : Type 0} {d : DiskGhosts D} {n : NamerGhosts N S} where
       near = λ id e. at.used.near id (sym (go id).used ∙ e);
     };
     digest = at.digest;
+    second = at.second;
     catalog_is = at.catalog_is;
   }
     where
@@ -128,6 +129,7 @@ module _ {D N S : Type 0} {d : DiskGhosts D} {n : NamerGhosts N S} where
             all_used = stored.all_used;
             used = stored.used;
             digest = stored.digest;
+            second = at.second;
             catalog_is = catalog ∙ at.catalog_is ∙ ap known_of_office (sym same);
           };
           counted = subst (λ (cs : List Items). AreCountsOf cs at.shown) (sym counts) at.counted;

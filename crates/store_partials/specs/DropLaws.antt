@@ -46,6 +46,8 @@ use Rattle.office_files.specs.Pooled.{contents_of, IsListed}
 use Rattle.office_files.specs.Hosts.{StandsHost}
 use Rattle.office_files.specs.KeptLaws.{tells_kept, one_kept, pool_kept}
 use Rattle.office_files.specs.Stands.{Stands}
+use Rattle.office_files.specs.TableLayouts.{WriteNoFirst}
+use Rattle.office_files.specs.TableLayoutLaws.{second_applied}
 use Rattle.office_known.specs.KnownLaws.{known_of_office}
 use Rattle.office_known.specs.CatalogLaws.{named_host}
 use Rattle.office_changes.specs.ChangeLaws.{host_changed, is_of_host, is_of_index}
@@ -63,7 +65,7 @@ use Rattle.store_parts.specs.WriteLaws.{LeadsTo, LeavesIndex, Holds, runs_write_
 use Rattle.store_partials.specs.declared.plan.DropPlan.{DropPlan}
 use Rattle.store_partials.specs.Parked.{IsRecounted, IsDropPlanned, IsDropFault}
 use Rattle.store_partials.specs.Written.{host_part}
-use Rattle.store_partials.specs.WrittenLaws.{none_of_index, are_host_part, at_other, at_pool_index, at_pool_bucket}
+use Rattle.store_partials.specs.WrittenLaws.{none_of_index, are_host_part, second_part, at_other, at_pool_index, at_pool_bucket}
 use Rattle.store_partials.specs.AfterLaws.{host_parked, none_beyond}
 use Rattle.store_partials.specs.MemoryLaws.{catalog_same, view_same}
 use Rattle.store_partials.specs.HostLaws.{found, head_is, counted_then, told_then}
@@ -257,12 +259,16 @@ module _ {D N S : Type 0} {d : DiskGhosts D} {n : NamerGhosts N S} where
           (with_hosts office (slice_set office.hosts place (with_partial s.host None))).durable) (image_is at.all)
           (stands office names at s.host s.here s.sound)
 
+      second : WriteNoFirst plan.changes
+      second = subst WriteNoFirst (sym planned.built.changes) (second_part place (counts_file place planned.counts) None)
+
       leads_to : (office : Office) (names : Names) (at : IsRunning old office names) → IsStep office names at
           → LeadsTo n.digest_of (DropPartial name) plan.changes office names at.all
       leads_to office names at s = record {
         carried = record { answer = Done; after = with_hosts office (slice_set office.hosts place (with_partial s.host None)) };
         judged = s.judged;
         stands = record { index = _; shown = _; stands = stands_after office names at s };
+        second = second;
       }
 
       runs_write_failed : (new : StoreParts D N S d n) (refusal : Refusal) → Writes old plan.changes (Err refusal) new
@@ -298,7 +304,8 @@ module _ {D N S : Type 0} {d : DiskGhosts D} {n : NamerGhosts N S} where
             (subst (λ (c : List Items). AreCountsOf c (slice_set at.shown place (after office names at s.host s.here))) (sym counts_after)
             (pairs_set AreCounts old.counts at.shown at.counted place planned.counts (after office names at s.host s.here)
             (counted office names at s.host s.here)))
-            (partials_after office names at s.host) s.sound f.journal f.pool (catalog_after office names at s.host s.here) f.sessions f.views f.halted
+            (partials_after office names at s.host) s.sound (second_applied names.old_hosts at.all plan.changes second at.second) f.journal f.pool
+            (catalog_after office names at s.host s.here) f.sessions f.views f.halted
 
         holds_dropped : (office : Office) (names : Names) (at : IsRunning old office names)
             → Holds (DropPartial name) Done plan.changes office names at.all new

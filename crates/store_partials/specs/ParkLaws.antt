@@ -62,7 +62,7 @@ use Rattle.store_partials.specs.Parked.{IsRecounted, IsTold, IsPlanned, IsReady,
 use Rattle.store_partials.specs.RowLaws.{whole_unmarked}
 use Rattle.store_partials.specs.MemoryLaws.{catalog_same}
 use Rattle.store_partials.specs.HostLaws.{told_then}
-use Rattle.store_partials.specs.StoredLaws.{office_parked, planned_changes, stored_parked}
+use Rattle.store_partials.specs.StoredLaws.{office_parked, planned_changes, second_planned, stored_parked}
 
 -- no claim is let go
 nothing_lost : (id : PoolId) (slot : Option Slot) → Loses 0 id slot slot
@@ -144,6 +144,7 @@ module _ {D N S : Type 0} {d : DiskGhosts D} {n : NamerGhosts N S} where
       carried = record { answer = Done; after = office_parked office s.m.dump s.m.host };
       judged = s.judged;
       stands = record { index = _; shown = s.stored.shown; stands = s.stored.stands };
+      second = second_planned old session plan planned;
     }
 
     leads_parked : (office : Office) (names : Names) (at : IsRunning old office names)
@@ -219,7 +220,7 @@ module _ {D N S : Type 0} {d : DiskGhosts D} {n : NamerGhosts N S} where
           (subst (λ (v : Views). IsKeptView v.kept (office_parked office s.m.dump s.m.host).hosts s.stored.shown)
           (sym (f.views ∙ w.views_same)) s.stored.view)
           (subst (λ (c : List Items). AreCountsOf c s.stored.shown) (sym (counts_after office names at s.m)) s.stored.counted)
-          (partials_after office names at s.m) s.sound f.journal (catalog_after office names at s.m) f.halted
+          (partials_after office names at s.m) s.sound (second_planned old session plan planned) f.journal (catalog_after office names at s.m) f.halted
 
       holds_parked : (office : Office) (names : Names) (at : IsRunning old office names)
           → Holds (Park name) Done plan.changes office names at.all new

@@ -1,6 +1,7 @@
 -- The files after a planned park stand for the office after it.
 --     office_parked      the office after the park of an open dump
 --     planned_changes      the changes of a plan name metadata files, none twice
+--     second_planned      and write no table of the first layout
 --     stored_parked      for the office that the parts hold
 use Rattle.std.specs.Prelude.{◌≡◌, ℕ, true, false, List, ◌++◌, Option, Some, None, is_some, slice_set}
 use Rattle.std.proofs.Common.{refl, sym, ap, ◌∙◌, subst}
@@ -35,9 +36,12 @@ use Rattle.office_files.specs.Layouts.{parked_of}
 use Rattle.office_files.specs.Owners.{has_backup}
 use Rattle.office_files.specs.Pooled.{contents_of, IsListed}
 use Rattle.office_files.specs.Stands.{Stands}
+use Rattle.office_files.specs.TableLayouts.{WriteNoFirst}
+use Rattle.office_files.specs.TableLayoutLaws.{none_in_both}
 use Rattle.office_changes.specs.Commits.{IsListedWith}
 use Rattle.office_changes.specs.ChangeLaws.{is_of_host, is_of_index}
 use Rattle.office_changes.specs.PoolLaws.{listed_with, told_with}
+use Rattle.office_changes.specs.LayoutLaws.{second_of_index}
 use Rattle.store_parts.specs.declared.parts.StoreParts.{StoreParts}
 use Rattle.store_parts.specs.Held.{given, AreCounts}
 use Rattle.store_parts.specs.States.{slots, IsRunning}
@@ -51,7 +55,7 @@ use Rattle.store_commits.specs.Committing.{IsMeant, IsStoredAfter}
 use Rattle.store_partials.specs.declared.plan.ParkPlan.{ParkPlan}
 use Rattle.store_partials.specs.Parked.{dump_file, IsRecounted, IsPlanned}
 use Rattle.store_partials.specs.Written.{host_part}
-use Rattle.store_partials.specs.WrittenLaws.{are_written, at_other, at_pool_index, at_pool_bucket}
+use Rattle.store_partials.specs.WrittenLaws.{are_written, second_part, at_other, at_pool_index, at_pool_bucket}
 use Rattle.store_partials.specs.AfterLaws.{host_parked, none_beyond}
 use Rattle.store_partials.specs.MemoryLaws.{view_same}
 use Rattle.store_partials.specs.HostLaws.{found, counted_then}
@@ -72,6 +76,14 @@ module _ {D N S : Type 0} {d : DiskGhosts D} {n : NamerGhosts N S} where
         subst AreChanges (sym planned.built.changes)
         (are_written planned.built.pooled session.host (counts_file session.host planned.counts)
         (Some (partial_file session.host (dump_file session))) (λ file. None) pooled_are)
+
+    pub second_planned : WriteNoFirst plan.changes
+    second_planned =
+        subst WriteNoFirst (sym planned.built.changes)
+        (none_in_both planned.built.pooled
+        (host_part session.host (counts_file session.host planned.counts) (Some (partial_file session.host (dump_file session))))
+        (second_of_index planned.built.pooled pooled_are.only)
+        (second_part session.host (counts_file session.host planned.counts) (Some (partial_file session.host (dump_file session)))))
 
   module _ (parts : StoreParts D N S d n) (place : ℕ) (session : OpenDump) (plan : ParkPlan) (office : Office) (names : Names)
       (at : IsRunning parts office names) (planned : IsPlanned parts session plan) (m : IsMeant parts place session office names at)

@@ -1,6 +1,7 @@
 -- What stands in the files after the changes of a park, or of a drop of a partial.
 --     none_of_index      no change is one of the pool's index
 --     are_written      the changes name metadata files, none twice
+--     second_part      none of the host's is a table
 --     at_counts, at_partial      the host's counts and its partial have their new bytes
 --     at_host, at_table      its index and its tables stay
 --     at_other      another file of metadata stays, but those of the pool's index
@@ -15,6 +16,7 @@ use Rattle.disk_trait.specs.Files.{Files}
 use Rattle.intent_journal.specs.declared.changes.Change.{Change}
 use Rattle.intent_journal.specs.Changes.{applied, names, AreChanges}
 use Rattle.intent_journal.specs.ChangesLaws.{either, applied_other}
+use Rattle.office_files.specs.TableLayouts.{WriteNoFirst}
 use Rattle.office_changes.specs.AppliedLaws.{applied_here}
 use Rattle.office_changes.specs.ChangeLaws.{is_of_host, is_of_index}
 use Rattle.office_changes.specs.JoinedLaws.{applied_both, are_both, not_hosts}
@@ -41,6 +43,10 @@ module _ (host : ℕ) (counts : List ℕ) (partial : Option (List ℕ)) where
   pub are_host_part : AreChanges (host_part host counts partial)
   unfolding is_same_file
   are_host_part = (refl, refl, (refl, refl, tt))
+
+  -- none is a table
+  pub second_part : WriteNoFirst (host_part host counts partial)
+  second_part = (refl, (refl, tt))
 
   -- the host's index and its tables aren't named
   index_apart : names (host_part host counts partial) (F.Host host) ≡ false

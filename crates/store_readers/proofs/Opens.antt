@@ -196,7 +196,7 @@ module _ {D N S : Type 0} {d : DiskGhosts D} {n : NamerGhosts N S} where
               names' = record names { next_reader = names.next_reader + 1 };
               judged = judged;
               renamed = refl;
-              alike = record { used = refl; digest_of = refl };
+              alike = record { used = refl; digest_of = refl; old_hosts = refl };
               sessions = AreSessions-reader_opened mid.sessions new.sessions has.sessions.only n.holds (given (slots mid)) (contents_of kept.all)
                   (staging_of kept.all names) office.volatile kept.sessions file.content file.size has.sessions.digest has.sessions.of_nothing told
                   has.sessions.readers has.sessions.next;

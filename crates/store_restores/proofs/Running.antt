@@ -136,6 +136,7 @@ module _ {D N S : Type 0} {d : DiskGhosts D} {n : NamerGhosts N S} where
           near = λ id e. at.used.near id (sym (stays.names id).used ∙ e);
         };
         digest = at.digest;
+        second = at.second;
         catalog_is = stays.catalog ∙ at.catalog_is ∙ ap known_of_office (sym same);
       };
       counted = subst (λ (counts : List Items). AreCountsOf counts at.shown) (sym stays.counts) at.counted;
