@@ -1,6 +1,6 @@
 -- How an opening goes, of files that stand for one of two offices.
 use Rattle.std.specs.Prelude.{is_some, ◌⊎◌}
-use Rattle.std.proofs.Common.{◌≡◌, ℕ, ◌<◌, ◌≤◌, false, List, Option, Err, refl, sym, ap, ◌∙◌, subst, inl, inr}
+use Rattle.std.proofs.Common.{◌≡◌, ℕ, ◌<◌, ◌≤◌, false, List, Option, Some, Err, refl, sym, ap, ◌∙◌, subst, inl, inr}
 use Rattle.disk_trait.specs.declared.ids.PoolId.{PoolId}
 use Rattle.disk_trait.specs.declared.ids.FileId.{FileId}
 use Rattle.disk_trait.specs.declared.ids.FileId.TheVariants as F
@@ -10,7 +10,7 @@ use Rattle.disk_trait.specs.Images.{FileSet}
 use Rattle.pool_name.specs.declared.namer.Namer.{Ghosts as NamerGhosts}
 use Rattle.intent_journal.specs.declared.journal.Journal.{Journal}
 use Rattle.journal_view.specs.Found.{IsAlikeBut}
-use Rattle.journal_view.specs.View.{uncertain, Quiet, FindsOnly}
+use Rattle.journal_view.specs.View.{told, uncertain, Quiet, FindsNow, FindsOnly}
 use Rattle.journal_view.specs.ViewLaws.{FindsOnly-each, FindsOnly-then, FindsNow-each, working_finds, Quiet-then}
 use Rattle.pool_changes.specs.Kept.{slots_of, IsSame}
 use Rattle.pool_store.specs.Opened.{IsFresh}
@@ -23,8 +23,11 @@ use Rattle.store_parts.specs.StoredLaws.{alike_stands}
 use Rattle.store_opening.specs.declared.found.Found.{Found}
 use Rattle.store_opening.specs.declared.fault.OpenRefusal.{OpenRefusal}
 use Rattle.store_opening.specs.declared.fault.OpenRefusal.TheVariants.{Foreign, EpochsSpent, DiskFault, Memory}
+use Rattle.store_opening.specs.KeptTables.{HasTablesOf}
+use Rattle.store_opening.specs.KeptTablesLaws.{tables_told}
 use Rattle.store_opening.specs.Recovers.{Holds, IsHeld, Looks, Recovers}
 use Rattle.store_opening.specs.Begins.{MayLeave, IsPlain, IsSpent, Raised, Begins}
+use Rattle.store_opening.proofs.OldHosts.{older_raised}
 
 -- what stands for one of two offices, of which one was picked, stands for one of the two
 pub either_of : (digest_of : List ℕ → List ℕ) (a b office : Durable) → IsPicked a b office → (found : Files)
@@ -88,14 +91,17 @@ module _ {D N S : Type 0} {d : DiskGhosts D} (n : NamerGhosts N S) (old : Journa
         → IsSame (slots_of found.pool.names) (slots_of next.pool.names)
         → ((office : Durable) (names : Names) → IsHeld mid found.pool found.catalog found.counts found.partials office names
         → IsHeld new next.pool next.catalog next.counts next.partials (raised office) names)
-        → Raised new next a b
-    begins_raised new next epoch read room same held = record {
+        → ((all : Files) → told mid ≡ Some all → FindsNow new (HasTablesOf all)) → Raised new next a b
+    begins_raised new next epoch read room same held tables = record {
       office = recovers.office;
       is_one = recovers.is_one;
       room = subst (λ (e : ℕ). e < last_sequence) (read ∙ epoch_is) room;
       sound = recovers.stored.stands.sound;
       names = recovers.names;
       held = held recovers.office recovers.names recovers.held;
+      older = older_raised mid new recovers.stored.all recovers.stored.told_is
+          (held recovers.office recovers.names recovers.held).stored.journal_ready
+          (tables recovers.stored.all recovers.stored.told_is) recovers.names.old_hosts recovers.older;
       fresh = λ id. subst IsFresh (sym (same id)) (recovers.fresh id);
     }
 
@@ -117,6 +123,11 @@ module _ {D N S : Type 0} {d : DiskGhosts D} (n : NamerGhosts N S) (old : Journa
           FindsOnly-then (MayLeave n.digest_of a b) old mid new (crash_still n.digest_of old a b holds mid quiet)
           (FindsOnly-each (IsEither n.digest_of recovers.office (raised recovers.office)) (MayLeave n.digest_of a b) mid new
           (either_of n.digest_of a b recovers.office recovers.is_one) ours.crash)
+
+-- nothing was written, and no table
+pub tables_still : {D : Type 0} {d : DiskGhosts D} (old new : Journal D d) → old.halted ≡ false → Quiet old new → (all : Files)
+    → told old ≡ Some all → FindsNow new (HasTablesOf all)
+tables_still old new ready quiet all is = tables_told new all (quiet.halted_same ∙ ready) (quiet.told_same ∙ is)
 
 -- a fault of a commit that isn't plain, or that wrote nothing
 pub plain_quiet : {D : Type 0} {d : DiskGhosts D} (old mid new : Journal D d) (refusal : OpenRefusal)

@@ -1,5 +1,6 @@
 pub mod Strays
 pub mod UsedNames
+pub mod OldHosts
 pub mod Recovering
 pub mod Proposing
 pub mod Raising

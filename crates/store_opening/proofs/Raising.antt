@@ -17,7 +17,7 @@ use Rattle.intent_journal.specs.Changes.{applied, names as named_by, AreChanges}
 use Rattle.intent_journal.specs.Overlay.{intent_alone}
 use Rattle.intent_journal.specs.ChangesLaws.{with_bytes_other, applied_other, applied_alike}
 use Rattle.journal_view.specs.Found.{IsAlikeBut}
-use Rattle.journal_view.specs.View.{told, uncertain, Committed, IsOldOrNew}
+use Rattle.journal_view.specs.View.{told, uncertain, Committed, IsOldOrNew, FindsNow}
 use Rattle.journal_view.specs.ViewLaws.{FindsOnly-each, FindsOnly-still, FindsNow-each, working_finds}
 use Rattle.pool_index.specs.Index.{Index, TellsIn, TellsBuckets}
 use Rattle.pool_changes.specs.Slots.{Slots}
@@ -36,6 +36,7 @@ use Rattle.office_files.specs.Layouts.{IsHeadFile}
 use Rattle.office_files.specs.KeptLaws.{pool_kept}
 use Rattle.office_files.specs.Pooled.{contents_of}
 use Rattle.office_files.specs.Stands.{names_of, Stands}
+use Rattle.office_files.specs.TableLayoutLaws.{second_alike}
 use Rattle.office_changes.specs.ChangeLaws.{epoch_raised, is_of_index}
 use Rattle.office_changes.specs.CleanLaws.{relisted_stands}
 use Rattle.office_changes.specs.JoinedLaws.{applied_both, are_both}
@@ -48,6 +49,7 @@ use Rattle.store_parts.specs.Held.{AreCountsOf, AreUsed, heads_of, IsEither, IsS
 use Rattle.store_parts.specs.StoredLaws.{stored_found, either_left}
 use Rattle.store_parts.specs.WriteLaws.{tells_in_kept}
 use Rattle.store_opening.specs.declared.next.NextEpoch.{NextEpoch}
+use Rattle.store_opening.specs.KeptTables.{HasTablesOf}
 use Rattle.store_opening.specs.Recovers.{IsHeld, Looks}
 use Rattle.store_opening.specs.Next.{IsNext}
 
@@ -64,6 +66,10 @@ head_only (change ∷ next ∷ changes) files file named other = absurd cc
 pub content_apart : (id : PoolId) → is_same_file (F.Pool id) F.Head ≡ false
 unfolding is_same_file
 content_apart id = refl
+
+pub table_apart : (host number : ℕ) → is_same_file (F.Table host number) F.Head ≡ false
+unfolding is_same_file
+table_apart host number = refl
 
 pub index_apart : is_same_file F.PoolIndex F.Head ≡ false
 unfolding is_same_file
@@ -197,6 +203,21 @@ module _ {N S : Type 0} {n : NamerGhosts N S} (pool : Pool N S n) (catalog : Kno
       → told new ≡ option_map (applied (is.pooled ++ next.catalog.changes)) (told old)
   next_done old new done = done ∙ ap (λ (cs : List Change). option_map (applied cs) (told old)) is.changes_are
 
+  -- whatever the commit answers, the tables are those that were told
+  pub tables_raised : {D : Type 0} {d : DiskGhosts D} (old new : Journal D d) (result : Result (Unit {0}) JournalFault)
+      → Committed old (is.pooled ++ next.catalog.changes) result new → (all : Files) → told old ≡ Some all
+      → FindsNow new (HasTablesOf all)
+  tables_raised old new result committed all told_is =
+      FindsNow-each (IsOldOrNew all (uncertain old) (is.pooled ++ next.catalog.changes)) (HasTablesOf all) new step
+      (committed.now all told_is)
+    where
+      step : (found : Files) → IsOldOrNew all (uncertain old) (is.pooled ++ next.catalog.changes) found → HasTablesOf all found
+      step found (inl before) = λ host number. before.metadata (F.Table host number) refl
+      step found (inr after) = λ host number.
+          after.metadata (F.Table host number) refl
+          ∙ at_neither pool.in_one_file (index_of (slots_of pool.names)) is.pooled next.catalog.changes is.leads is.proposes.leads.named all
+          (F.Table host number) refl (table_apart host number)
+
   pub next_committed : {D : Type 0} {d : DiskGhosts D} (old new : Journal D d) (result : Result (Unit {0}) JournalFault)
       → Committed old next.changes result new → Committed old (is.pooled ++ next.catalog.changes) result new
   next_committed old new result committed = subst (λ (cs : List Change). Committed old cs result new) is.changes_are committed
@@ -240,6 +261,11 @@ module _ {D N S : Type 0} {d : DiskGhosts D} {n : NamerGhosts N S} (journal : Jo
         at_neither pool.in_one_file (index_of (slots_of pool.names)) is.pooled heads is.leads leads.named at.all (F.Pool id) refl
         (content_apart id)
 
+    table_same : (host number : ℕ) → applied changes at.all (F.Table host number) ≡ at.all (F.Table host number)
+    table_same host number =
+        at_neither pool.in_one_file (index_of (slots_of pool.names)) is.pooled heads is.leads leads.named at.all (F.Table host number) refl
+        (table_apart host number)
+
     module _ (new : Journal D d) (after_pool : Pool N S n) (same : IsSame (slots_of pool.names) (slots_of after_pool.names))
         (form : after_pool.in_one_file ≡ false) where
       slots_same : slots_of pool.names ≡ slots_of after_pool.names
@@ -267,6 +293,7 @@ module _ {D N S : Type 0} {d : DiskGhosts D} {n : NamerGhosts N S} (journal : Jo
             (λ id there. at.all_used id (ap is_some (sym (content_same id)) ∙ there));
         used = subst (λ (s : Slots). AreUsed s names.used) slots_same at.used;
         digest = at.digest;
+        second = second_alike names.old_hosts at.all (applied changes at.all) table_same at.second;
         catalog_is = known_is ∙ is.proposes.after_is ∙ ap (λ (k : Known). with_epoch k (k.epoch + 1)) at.catalog_is;
       }
 

@@ -33,9 +33,11 @@ use Rattle.office_pool.specs.FitLaws.{fits_stands}
 use Rattle.store_parts.specs.Held.{IsEither, IsStored}
 use Rattle.store_parts.specs.WriteLaws.{tells_in_kept}
 use Rattle.store_opening.specs.declared.found.Found.{Found}
+use Rattle.store_opening.specs.KeptTables.{AreOldIn}
 use Rattle.store_opening.specs.Strays.{IsStray}
 use Rattle.store_opening.specs.Recovers.{Holds, IsHeld, IsForeignToHosts, IsForeign, Recovers}
 use Rattle.store_opening.proofs.HostTotals.{counts_of_office, heads_of_office}
+use Rattle.store_opening.proofs.OldHosts.{old_hosts_of, are_old, older_of}
 use Rattle.store_opening.proofs.Strays.{never_stray}
 use Rattle.store_opening.proofs.UsedNames.{used_of, used_names}
 
@@ -67,15 +69,22 @@ fresh_live (Some Doomed) fresh given = absurd (false≢true given)
 
 -- ---- what was read is one of the two offices
 
--- the names that are in use; the numbers of the next stage and reader are not on the disk
-abbrev found_names : {N S : Type 0} {n : NamerGhosts N S} → Found N S n → Names
-found_names {n = n} found = record { digest_of = n.digest_of; used = used_of found.pool.names; next_stage = 0; next_reader = 0 }
+-- the names that are in use, and the hosts that have tables of the first layout; the numbers of the next stage and reader are not on the
+-- disk
+abbrev found_names : {N S : Type 0} {n : NamerGhosts N S} → Found N S n → Files → Durable → Names
+found_names {n = n} found all office = record {
+  digest_of = n.digest_of;
+  used = used_of found.pool.names;
+  next_stage = 0;
+  next_reader = 0;
+  old_hosts = old_hosts_of office.hosts all;
+}
 
 module _ {D N S : Type 0} {d : DiskGhosts D} {n : NamerGhosts N S} where
   read_one : (new : Journal D d) (found : Found N S n) (all raw : Files) (office : Durable) → new.halted ≡ false → told new ≡ Some all
       → seen raw ≡ all → ((id : PoolId) → uncertain new (F.Pool id) ≡ false) → Opens found.pool.in_one_file (slots_of found.pool.names) raw
       → AreFresh (slots_of found.pool.names) → HoldsCatalog all found.catalog → StandsFor n.digest_of all office
-      → IsStored new found.pool found.catalog office (found_names found)
+      → IsStored new found.pool found.catalog office (found_names found all office)
   read_one new found all raw office ready told_is same certain opens fresh holds s = record {
     journal_ready = ready;
     all = all;
@@ -88,6 +97,7 @@ module _ {D N S : Type 0} {d : DiskGhosts D} {n : NamerGhosts N S} where
     all_used = λ id there. opens.used id ∙ ap is_some (at_file raw all same (F.Pool id)) ∙ there;
     used = used_names found.pool.names;
     digest = refl;
+    second = (are_old office.hosts all s.stands.nothing_else).no_other;
     catalog_is = one_catalog n.digest_of s.index s.shown all office s.stands found.catalog holds;
   }
     where
@@ -111,7 +121,7 @@ module _ {D N S : Type 0} {d : DiskGhosts D} {n : NamerGhosts N S} where
       → seen raw ≡ all → ((id : PoolId) → uncertain new (F.Pool id) ≡ false) → Opens found.pool.in_one_file (slots_of found.pool.names) raw
       → AreFresh (slots_of found.pool.names) → HoldsCatalog all found.catalog
       → AreTold all (length found.catalog.hosts) found.counts → ArePartialsTold all (length found.catalog.hosts) found.partials
-      → StandsFor n.digest_of all office → IsHeld new found.pool found.catalog found.counts found.partials office (found_names found)
+      → StandsFor n.digest_of all office → IsHeld new found.pool found.catalog found.counts found.partials office (found_names found all office)
   unfolding read_one
   held_one new found all raw office ready told_is same certain opens fresh holds told parked s = record {
     stored = read_one new found all raw office ready told_is same certain opens fresh holds s;
@@ -131,25 +141,33 @@ module _ {D N S : Type 0} {d : DiskGhosts D} {n : NamerGhosts N S} where
       raw = told_raw (d.files old.disk) holds.all holds.told_is
 
       held : (office : Durable) → StandsFor n.digest_of holds.all office
-          → IsHeld new found.pool found.catalog found.counts found.partials office (found_names found)
+          → IsHeld new found.pool found.catalog found.counts found.partials office (found_names found holds.all office)
       held office s =
           held_one new found holds.all raw.0 office (quiet.halted_same ∙ ready) (quiet.told_same ∙ holds.told_is) raw.2
           (λ id. quiet.certain.each (F.Pool id) (holds.certain.each (F.Pool id) refl)) (opens raw.0 raw.1) fresh (catalog holds.all holds.told_is)
           (counts holds.all holds.told_is) (partials holds.all holds.told_is) s
 
+      older : (office : Durable) → StandsFor n.digest_of holds.all office
+          → AreOldIn (told new) (found_names found holds.all office).old_hosts
+      older office s =
+          older_of (old_hosts_of office.hosts holds.all) holds.all (told new) (quiet.told_same ∙ holds.told_is)
+          (are_old office.hosts holds.all s.stands.nothing_else)
+
       step : IsEither n.digest_of a b holds.all → Recovers new found a b
       step (inl s) = record {
         office = a;
         is_one = inl refl;
-        names = found_names found;
+        names = found_names found holds.all a;
         held = held a s;
+        older = older a s;
         fresh = fresh;
       }
       step (inr s) = record {
         office = b;
         is_one = inr refl;
-        names = found_names found;
+        names = found_names found holds.all b;
         held = held b s;
+        older = older b s;
         fresh = fresh;
       }
 

@@ -4,11 +4,14 @@ use Rattle.std.proofs.Common.{◌≡◌, ℕ, ◌+◌, ◌<◌, ◌≤◌, Bool,
 use Rattle.std.proofs.lemmas.Bool.Decides.{nat_tests}
 use Rattle.fault_counts.specs.Counts.{Counted}
 use Rattle.disk_trait.specs.declared.ids.FileId.{FileId}
+use Rattle.disk_trait.specs.declared.ids.FileId.TheVariants as F
 use Rattle.disk_trait.specs.declared.disk.Disk.{Ghosts as DiskGhosts}
 use Rattle.disk_trait.specs.Files.{Files}
 use Rattle.pool_name.specs.declared.namer.Namer.{Ghosts as NamerGhosts}
 use Rattle.intent_journal.specs.declared.journal.Journal.{Journal}
-use Rattle.journal_view.specs.View.{told, Quiet, FindsOnly}
+use Rattle.journal_view.specs.Found.{IsAlikeBut}
+use Rattle.journal_view.specs.View.{told, uncertain, Quiet, FindsNow, FindsOnly}
+use Rattle.journal_view.specs.ViewLaws.{FindsNow-each, working_finds}
 use Rattle.pool_changes.specs.declared.slot.Slot.{Slot}
 use Rattle.pool_changes.specs.declared.slot.Slot.TheVariants.{Live, Staged, Doomed}
 use Rattle.pool_changes.specs.Slots.{claims_of}
@@ -24,6 +27,8 @@ use Rattle.open_sessions.specs.Opened.{AreNumbers}
 use Rattle.open_sessions.specs.SessionLaws.{AreSessions-none, claims_in-none}
 use Rattle.office_catalog.specs.Known.{Known}
 use Rattle.office_files.specs.Pooled.{contents_of}
+use Rattle.office_files.specs.TableLayouts.{AreSecondBut}
+use Rattle.office_files.specs.TableLayoutLaws.{second_alike}
 use Rattle.office_model.specs.declared.answer.Answer.{Answer}
 use Rattle.office_model.specs.declared.answer.Answer.TheVariants.{Reopened as ReopenedAnswer}
 use Rattle.office_model.specs.declared.event.Event.TheVariants.{Reopen}
@@ -35,16 +40,19 @@ use Rattle.office_model.specs.Office.{Office, Durable, Host, Names, IsSoundDurab
 use Rattle.office_model.specs.Meaning.{Reply}
 use Rattle.office_model.specs.UsedNames.{OnlyUsed}
 use Rattle.office_model.specs.laws.ReopenLaws.{IsSound-reopened}
-use Rattle.office_model.specs.Step.{State, Running, Halted, IsPicked}
+use Rattle.office_model.specs.Step.{State, Running, Halted, IsPicked, names_of}
 use Rattle.office_model.specs.events.Reopen.{carried}
 use Rattle.store_parts.specs.declared.parts.StoreParts.{StoreParts}
 use Rattle.store_parts.specs.Held.{AreUsed, given, IsKeptView, IsStored, MayBe}
 use Rattle.store_parts.specs.States.{slots, staging_of, IsRunning, IsHalted, InState}
 use Rattle.store_parts.specs.Runs.{Steps, Reads}
 use Rattle.store_parts.specs.RunLaws.{running_reads}
+use Rattle.store_parts.specs.WriteLaws.{running_renamed}
 use Rattle.store_opening.specs.declared.found.Found.{Found}
 use Rattle.store_opening.specs.declared.fault.OpenRefusal.{OpenRefusal}
 use Rattle.store_opening.specs.declared.fault.OpenRefusal.TheVariants as O
+use Rattle.store_opening.specs.KeptTables.{HasTablesOf, HasTablesFound}
+use Rattle.store_opening.specs.KeptTablesLaws.{second_found, second_told}
 use Rattle.store_opening.specs.Recovers.{IsHeld, SaysWhy}
 use Rattle.store_opening.specs.Begins.{MayLeave, IsPlain, Raised, Begins}
 use Rattle.store_opening.specs.Reopens.{reply_of, halts, IsPlainReply, first_of, second_of, with_journal, IsOfFound, Reopened, Goes, GoesTo, Reopens}
@@ -84,6 +92,7 @@ module _ {D N S : Type 0} {d : DiskGhosts D} {n : NamerGhosts N S} where
     all_used = at.all_used;
     used = at.used;
     digest = at.digest;
+    second = at.second;
     catalog_is = at.catalog_is;
   }
 
@@ -165,7 +174,13 @@ module _ {D N S : Type 0} {d : DiskGhosts D} {n : NamerGhosts N S} where
     names = numbered_from 0 0 rose.names;
     numbers = is.numbers;
     running = found_running parts journal found a b 0 0 rose is same;
+    older = λ all told_is. rose.older all (ap (λ (j : Journal D d). told j) (sym same) ∙ told_is);
   }
+
+  -- the journal is that of the parts
+  pub tables_parts : (parts : StoreParts D N S d n) (journal : Journal D d) → parts.journal ≡ journal → (all : Files)
+      → FindsNow journal (HasTablesOf all) → FindsNow parts.journal (HasTablesOf all)
+  tables_parts parts journal same all tables = subst (λ (j : Journal D d). FindsNow j (HasTablesOf all)) (sym same) tables
 
   pub started_of : (old : D) (parts : StoreParts D N S d n) (journal : Journal D d) (found : Found N S n) (a b : Durable)
       → Ends a b (Ok found) old journal → IsOfFound parts found 0 0 → parts.journal ≡ journal
@@ -255,13 +270,18 @@ module _ {D N S : Type 0} {d : DiskGhosts D} {n : NamerGhosts N S} where
       → ((a b : Durable) → MayBe n.digest_of old.journal a b → FindsOnly old.journal journal (MayLeave n.digest_of a b))
       → Counted (d.fault_count old.journal.disk) (d.fault_count journal.disk) (IsErrOf (Ok found) O.DiskFault)
       → ((a b : Durable) → MayBe n.digest_of old.journal a b → Settles a b (Ok found) old.journal.disk journal)
+      → ((a b : Durable) → MayBe n.digest_of old.journal a b
+      → FindsNow journal (HasTablesFound (d.files old.journal.disk) (uncertain old.journal)))
       → IsAllOf (told journal) found → HasBucketsOf (told journal) found → AreThePoolFiles (d.files old.journal.disk) (slots_of found.pool.names)
       → IsOfFound new found old.sessions.stages.next old.sessions.readers.next → new.journal ≡ journal → epoch ≡ found.catalog.epoch
       → Reopens old (Ok (ReopenedAnswer epoch)) new
-  reopens_raised old new journal found epoch begins crash counted settles whole buckets listed is same epoch_is = record {
+  reopens_raised old new journal found epoch begins crash counted settles tables whole buckets listed is same epoch_is = record {
     goes = λ a b may. raised_running old new journal found a b epoch (begins a b may) is same epoch_is;
     crash = λ a b may. subst (λ (j : Journal D d). FindsOnly old.journal j (MayLeave n.digest_of a b)) (sym same) (crash a b may);
     settles = λ a b may. goes_to_raised old new journal found a b epoch (settles a b may) is same epoch_is;
+    tables = λ a b may.
+        subst (λ (j : Journal D d). FindsNow j (HasTablesFound (d.files old.journal.disk) (uncertain old.journal))) (sym same)
+        (tables a b may);
     stays = λ refusal e. absurd cc;
     halted_same = λ plain. absurd plain;
     quiet = λ plain. absurd plain;
@@ -285,12 +305,15 @@ module _ {D N S : Type 0} {d : DiskGhosts D} {n : NamerGhosts N S} where
       → Counted (d.fault_count old.journal.disk) (d.fault_count new.journal.disk) (IsErrOf {T = Found N S n} (Err refusal) O.DiskFault)
       → SaysWhy (d.files old.journal.disk) (d.files new.journal.disk) refusal → SaysSpent (told new.journal) refusal
       → ((a b : Durable) → MayBe n.digest_of old.journal a b → Settles {n = n} a b (Err refusal) old.journal.disk new.journal)
+      → ((a b : Durable) → MayBe n.digest_of old.journal a b
+      → FindsNow new.journal (HasTablesFound (d.files old.journal.disk) (uncertain old.journal)))
       → Reopens old (Err reply) new
-  reopens_refused old new refusal reply reply_is stays halted begins crash quiet counted says spent settles =
+  reopens_refused old new refusal reply reply_is stays halted begins crash quiet counted says spent settles tables =
       subst (λ (r : Refusal). Reopens old (Err r) new) (sym reply_is) (record {
         goes = λ a b may. goes_refused old new a b refusal (λ e. halted ∙ either_halts old.halted (halts refusal) e) (begins a b may);
         crash = crash;
         settles = settles;
+        tables = tables;
         stays = λ r e. stays;
         halted_same = λ plain. halted ∙ neither_halts old.halted (halts refusal) (calm_of refusal plain);
         quiet = λ plain. quiet (plain_of refusal plain);
@@ -319,11 +342,15 @@ carried_at office room = rw (room_is office.epoch room) refl
 spent_at : (office : Durable) → last_sequence ≤ office.epoch → carried office ≡ Err NumbersSpent
 spent_at office last = rw (last_is office.epoch last) refl
 
--- names of the same digest, and the same numbers
+-- the same names, but for those of hosts
+abbrev of_hosts : List ℕ → Names → Names
+of_hosts hosts names = record names { old_hosts = hosts }
+
+-- names of the same digest, the same numbers and the same old hosts
 only_used : (names names' : Names) → names'.digest_of ≡ names.digest_of → names'.next_stage ≡ names.next_stage
-    → names'.next_reader ≡ names.next_reader → OnlyUsed names names'
+    → names'.next_reader ≡ names.next_reader → OnlyUsed names (of_hosts names.old_hosts names')
 only_used names names' same stage reader =
-    λ i. record { digest_of = same i; used = names'.used; next_stage = stage i; next_reader = reader i }
+    λ i. record { digest_of = same i; used = names'.used; next_stage = stage i; next_reader = reader i; old_hosts = names.old_hosts }
 
 one_of : (x office : Durable) → IsPicked x x office → office ≡ x
 one_of x office (inl e) = e
@@ -351,29 +378,56 @@ module _ {D N S : Type 0} {d : DiskGhosts D} {n : NamerGhosts N S} where
       office.durable
   may_of parts (Halted a b names) at = at.may_be
 
+  -- no host but its old ones has a table of the first layout, and none gets one
+  second_in : (parts : StoreParts D N S d n) (state : State) → InState parts state
+      → FindsNow parts.journal (AreSecondBut (names_of state).old_hosts)
+  second_in parts (Running office names) at =
+      FindsNow-each (IsAlikeBut at.all (uncertain parts.journal)) (AreSecondBut names.old_hosts) parts.journal
+      (λ found alike. second_alike names.old_hosts at.all found (λ host number. alike.metadata (F.Table host number) refl) at.second)
+      (working_finds parts.journal at.all at.journal_ready at.told_is)
+  second_in parts (Halted a b names) at = at.second
+
+  second_after : (old new : StoreParts D N S d n) (reply : Reply) (state : State) → Reopens old reply new → InState old state
+      → FindsNow new.journal (AreSecondBut (names_of state).old_hosts)
+  second_after old new reply state reopens at =
+      second_found (names_of state).old_hosts (d.files old.journal.disk) (uncertain old.journal) (d.files new.journal.disk)
+      (uncertain new.journal) (second_in old state at)
+      (reopens.tables (first_of state) (second_of state) (may_of old state at))
+
+  -- parts at work, of which these are the old hosts
+  running_of : (parts : StoreParts D N S d n) (office : Office) (names : Names) (hosts : List ℕ) (at : IsRunning parts office names)
+      → FindsNow parts.journal (AreSecondBut hosts) → IsRunning parts office (of_hosts hosts names)
+  running_of parts office names hosts at second =
+      running_renamed parts office names hosts at
+      (λ all told_is. second_told parts.journal all at.journal_ready told_is hosts second)
+
   -- refused without a fault of the disk, the parts are in the state that they were in
   still_in : (old new : StoreParts D N S d n) (state : State) → InState old state → new ≡ with_journal old new.journal new.halted
       → new.halted ≡ old.halted → (old.journal.halted ≡ false → is_some (told old.journal) ≡ true → Quiet old.journal new.journal)
-      → MayBe n.digest_of new.journal (first_of state) (second_of state) → InState new state
-  still_in old new (Running office names) at stays halted quiet may =
+      → MayBe n.digest_of new.journal (first_of state) (second_of state)
+      → FindsNow new.journal (AreSecondBut (names_of state).old_hosts) → InState new state
+  still_in old new (Running office names) at stays halted quiet may second =
       running_reads old new office names at (reads_of old new stays halted (quiet at.journal_ready (ap is_some at.told_is)))
-  still_in old new (Halted a b names) at stays halted quiet may = record {
+  still_in old new (Halted a b names) at stays halted quiet may second = record {
     stuck = halted ∙ at.stuck;
     may_be = may;
     used = subst (λ (p : StoreParts D N S d n). AreUsed (slots p) names.used) (sym stays) at.used;
     digest = at.digest;
+    second = second;
     numbers = subst (λ (p : StoreParts D N S d n). AreNumbers names.next_stage names.next_reader p.sessions) (sym stays) at.numbers;
   }
 
   -- a fault of the disk: the parts are halted
   halted_in : (old new : StoreParts D N S d n) (state : State) (names : Names) (a b : Durable) → InState old state
       → AreUsed (slots old) names.used → names.digest_of ≡ n.digest_of → AreNumbers names.next_stage names.next_reader old.sessions
-      → new ≡ with_journal old new.journal new.halted → new.halted ≡ true → MayBe n.digest_of new.journal a b → IsHalted new a b names
-  halted_in old new state names a b at used digest numbers stays stuck may = record {
+      → new ≡ with_journal old new.journal new.halted → new.halted ≡ true → MayBe n.digest_of new.journal a b
+      → FindsNow new.journal (AreSecondBut names.old_hosts) → IsHalted new a b names
+  halted_in old new state names a b at used digest numbers stays stuck may second = record {
     stuck = stuck;
     may_be = may;
     used = subst (λ (p : StoreParts D N S d n). AreUsed (slots p) names.used) (sym stays) used;
     digest = digest;
+    second = second;
     numbers = subst (λ (p : StoreParts D N S d n). AreNumbers names.next_stage names.next_reader p.sessions) (sym stays) numbers;
   }
 
@@ -384,7 +438,7 @@ module _ {D N S : Type 0} {d : DiskGhosts D} {n : NamerGhosts N S} where
       let one = one_of office.durable r.office r.is_one in
       let room : office.epoch < last_sequence = subst (λ (o : Durable). o.epoch < last_sequence) one r.room in
       record {
-        next = Running (reopened r.office) r.names;
+        next = Running (reopened r.office) (of_hosts names.old_hosts r.names);
         step = (
           carried_at office.durable room ∙ (λ i. Ok (record { answer = answer_at i; after = reopened (one_back i) })),
           (
@@ -394,7 +448,8 @@ module _ {D N S : Type 0} {d : DiskGhosts D} {n : NamerGhosts N S} where
           ),
         );
         undamaged = tt;
-        in_state = r.running;
+        in_state = running_of new (reopened r.office) r.names names.old_hosts r.running
+            (second_after old new (Ok answer) (Running office names) reopens at);
       }
     where
       one_back : office.durable ≡ r.office
@@ -410,7 +465,7 @@ module _ {D N S : Type 0} {d : DiskGhosts D} {n : NamerGhosts N S} where
         step = ((spent_at office.durable last ∙ ap (λ (r : BrokenRule). Err r) (sym goes.0), refl), refl);
         undamaged = tt;
         in_state = still_in old new (Running office names) at (reopens.stays (Broken rule) refl) (reopens.halted_same tt)
-            (reopens.quiet tt) goes.1.now;
+            (reopens.quiet tt) goes.1.now (second_after old new (Err (Broken rule)) (Running office names) reopens at);
       }
   steps_running old new (Err HaltedReply) office names reopens at goes = absurd goes
   steps_running old new (Err (Damaged file found)) office names reopens at goes = absurd goes
@@ -418,7 +473,8 @@ module _ {D N S : Type 0} {d : DiskGhosts D} {n : NamerGhosts N S} where
     next = Running office names;
     step = (refl, refl);
     undamaged = tt;
-    in_state = still_in old new (Running office names) at (reopens.stays Memory refl) (reopens.halted_same tt) (reopens.quiet tt) goes;
+    in_state = still_in old new (Running office names) at (reopens.stays Memory refl) (reopens.halted_same tt) (reopens.quiet tt) goes
+        (second_after old new (Err Memory) (Running office names) reopens at);
   }
   steps_running old new (Err DiskFault) office names reopens at goes = elim goes.1 [
     | inl may ↦ record {
@@ -426,14 +482,14 @@ module _ {D N S : Type 0} {d : DiskGhosts D} {n : NamerGhosts N S} where
       step = ((refl, inl refl), refl);
       undamaged = tt;
       in_state = halted_in old new (Running office names) names office.durable office.durable at at.used at.digest at.sessions.numbers
-          (reopens.stays DiskFault refl) goes.0 may;
+          (reopens.stays DiskFault refl) goes.0 may (second_after old new (Err DiskFault) (Running office names) reopens at);
     }
     | inr w ↦ record {
       next = Halted w.0 (raised w.0) names;
       step = ((one_of office.durable w.0 w.1, inr (ap raised (one_of office.durable w.0 w.1))), refl);
       undamaged = tt;
       in_state = halted_in old new (Running office names) names w.0 (raised w.0) at at.used at.digest at.sessions.numbers
-          (reopens.stays DiskFault refl) goes.0 w.2;
+          (reopens.stays DiskFault refl) goes.0 w.2 (second_after old new (Err DiskFault) (Running office names) reopens at);
     }
   ]
 
@@ -441,7 +497,7 @@ module _ {D N S : Type 0} {d : DiskGhosts D} {n : NamerGhosts N S} where
   steps_halted : (old new : StoreParts D N S d n) (reply : Reply) (a b : Durable) (names : Names) → Reopens old reply new
       → IsHalted old a b names → Goes a b reply old new → Steps (Halted a b names) Reopen reply new
   steps_halted old new (Ok answer) a b names reopens at r = record {
-    next = Running (reopened r.office) r.names;
+    next = Running (reopened r.office) (of_hosts names.old_hosts r.names);
     step = (
       (r.office, r.is_one, carried_at r.office r.room ∙ (λ i. Ok (record { answer = sym r.answer_is i; after = reopened r.office }))),
       (
@@ -451,7 +507,8 @@ module _ {D N S : Type 0} {d : DiskGhosts D} {n : NamerGhosts N S} where
       ),
     );
     undamaged = tt;
-    in_state = r.running;
+    in_state = running_of new (reopened r.office) r.names names.old_hosts r.running
+        (second_after old new (Ok answer) (Halted a b names) reopens at);
   }
   steps_halted old new (Err (Broken rule)) a b names reopens at goes = record {
     next = Halted a b names;
@@ -461,7 +518,7 @@ module _ {D N S : Type 0} {d : DiskGhosts D} {n : NamerGhosts N S} where
     );
     undamaged = tt;
     in_state = still_in old new (Halted a b names) at (reopens.stays (Broken rule) refl) (reopens.halted_same tt)
-        (reopens.quiet tt) goes.1.now;
+        (reopens.quiet tt) goes.1.now (second_after old new (Err (Broken rule)) (Halted a b names) reopens at);
   }
   steps_halted old new (Err HaltedReply) a b names reopens at goes = absurd goes
   steps_halted old new (Err (Damaged file found)) a b names reopens at goes = absurd goes
@@ -469,21 +526,23 @@ module _ {D N S : Type 0} {d : DiskGhosts D} {n : NamerGhosts N S} where
     next = Halted a b names;
     step = ((refl, refl), refl);
     undamaged = tt;
-    in_state = still_in old new (Halted a b names) at (reopens.stays Memory refl) (reopens.halted_same tt) (reopens.quiet tt) goes;
+    in_state = still_in old new (Halted a b names) at (reopens.stays Memory refl) (reopens.halted_same tt) (reopens.quiet tt) goes
+        (second_after old new (Err Memory) (Halted a b names) reopens at);
   }
   steps_halted old new (Err DiskFault) a b names reopens at goes = elim goes.1 [
     | inl may ↦ record {
       next = Halted a b names;
       step = (inl (refl, refl), refl);
       undamaged = tt;
-      in_state = halted_in old new (Halted a b names) names a b at at.used at.digest at.numbers (reopens.stays DiskFault refl) goes.0 may;
+      in_state = halted_in old new (Halted a b names) names a b at at.used at.digest at.numbers (reopens.stays DiskFault refl) goes.0 may
+          (second_after old new (Err DiskFault) (Halted a b names) reopens at);
     }
     | inr w ↦ record {
       next = Halted w.0 (raised w.0) names;
       step = (inr (w.1, refl), refl);
       undamaged = tt;
       in_state = halted_in old new (Halted a b names) names w.0 (raised w.0) at at.used at.digest at.numbers
-          (reopens.stays DiskFault refl) goes.0 w.2;
+          (reopens.stays DiskFault refl) goes.0 w.2 (second_after old new (Err DiskFault) (Halted a b names) reopens at);
     }
   ]
 

@@ -14,7 +14,7 @@ use Rattle.intent_journal.specs.Calls.{Opens, Refuses}
 use Rattle.intent_journal.specs.Overlay.{Recovers as RecoversDisk}
 use Rattle.journal_view.specs.Found.{seen, FindsAll, IsOpenable, IsAlikeBut}
 use Rattle.journal_view.specs.FoundLaws.{itself, rest_told, finds_each, finds_whole, finds_wider}
-use Rattle.journal_view.specs.View.{told, uncertain, Quiet}
+use Rattle.journal_view.specs.View.{told, uncertain, Quiet, FindsNow}
 use Rattle.journal_view.specs.ViewLaws.{FindsOnly-each}
 use Rattle.pool_changes.specs.Kept.{slots_of, IsSame}
 use Rattle.pool_changes.specs.Listed.{index_of}
@@ -25,6 +25,7 @@ use Rattle.store_parts.specs.Held.{IsEither, IsStored}
 use Rattle.store_parts.specs.StoredLaws.{alike_stands}
 use Rattle.store_opening.specs.declared.found.Found.{Found}
 use Rattle.store_opening.specs.declared.fault.OpenRefusal.{OpenRefusal}
+use Rattle.store_opening.specs.KeptTables.{HasTablesOf}
 use Rattle.store_opening.specs.Recovers.{Holds, IsHeld, Looks, Recovers}
 use Rattle.store_opening.specs.Settles.{Synced, IsSynced, MayBeSynced, ComesToOne, IsStopped, IsOfOne, Ends}
 use Rattle.store_opening.specs.SettlesLaws.{only_after}
@@ -120,10 +121,10 @@ module _ {D N S : Type 0} {d : DiskGhosts D} (n : NamerGhosts N S) (old : Journa
           (room : epoch < last_sequence) (same : IsSame (slots_of found.pool.names) (slots_of next.pool.names))
           → ((office : Durable) (names : Names) → IsHeld mid found.pool found.catalog found.counts found.partials office names
           → IsHeld new next.pool next.catalog next.counts next.partials (raised office) names)
-          → Ends a b (Ok next) old.disk new
+          → ((all : Files) → told mid ≡ Some all → FindsNow new (HasTablesOf all)) → Ends a b (Ok next) old.disk new
       unfolding begins_raised
-      ends_raised ready next epoch read room same held =
-          (begins_raised n old a b holds ready mid found recovers quiet new next epoch read room same held, one_looks)
+      ends_raised ready next epoch read room same held tables =
+          (begins_raised n old a b holds ready mid found recovers quiet new next epoch read room same held tables, one_looks)
 
 -- ---- a disk
 

@@ -56,7 +56,7 @@ use Rattle.store_opening.specs.Tables.{HasTables}
 use Rattle.store_opening.specs.Reopens.{IsOfFound}
 use Rattle.store_opening.specs.Strays.{is_known, is_stray, HasNoStray}
 use Rattle.store_opening.specs.Whole.{IsWhole, IsInBuckets, IsLast, SaysSpent, KeepsData, IsAllOf, HasBucketsOf, HasAllOf, HasBuckets}
-use Rattle.store_opening.proofs.Raising.{content_apart, head_there, at_neither, both_tells, both_holds}
+use Rattle.store_opening.proofs.Raising.{content_apart, table_apart, head_there, at_neither, both_tells, both_holds}
 
 -- ---- what was read
 
@@ -100,10 +100,6 @@ counts_apart host = refl
 partial_apart : (host : ℕ) → is_same_file (F.Partial host) F.Head ≡ false
 unfolding is_same_file
 partial_apart host = refl
-
-table_apart : (host number : ℕ) → is_same_file (F.Table host number) F.Head ≡ false
-unfolding is_same_file
-table_apart host number = refl
 
 -- where Head is there, no fewer files are called for
 headed_calm : (known index headed : Bool) → (not known || (index && not headed)) ≡ false → (not known || (index && not true)) ≡ false

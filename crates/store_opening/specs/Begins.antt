@@ -6,6 +6,7 @@ use Rattle.disk_trait.specs.declared.disk.Disk.{Ghosts as DiskGhosts}
 use Rattle.disk_trait.specs.Files.{Files}
 use Rattle.pool_name.specs.declared.namer.Namer.{Ghosts as NamerGhosts}
 use Rattle.intent_journal.specs.declared.journal.Journal.{Journal}
+use Rattle.journal_view.specs.View.{told}
 use Rattle.pool_changes.specs.Kept.{slots_of}
 use Rattle.pool_store.specs.Opening.{AreFresh}
 use Rattle.office_model.specs.Office.{Durable, Names, IsSoundDurable, raised, last_sequence}
@@ -14,6 +15,7 @@ use Rattle.store_parts.specs.Held.{IsEither, MayBe}
 use Rattle.store_opening.specs.declared.found.Found.{Found}
 use Rattle.store_opening.specs.declared.fault.OpenRefusal.{OpenRefusal}
 use Rattle.store_opening.specs.declared.fault.OpenRefusal.TheVariants.{Foreign, EpochsSpent, DiskFault, Memory}
+use Rattle.store_opening.specs.KeptTables.{AreOldIn}
 use Rattle.store_opening.specs.Recovers.{IsHeld}
 
 abbrev pub MayLeave : (List ℕ → List ℕ) → Durable → Durable → Files → Type 0
@@ -39,7 +41,7 @@ module _ {D : Type 0} {d : DiskGhosts D} (digest_of : List ℕ → List ℕ) (a 
   IsBetween new = MayBe digest_of new a b ⊎ ((office : Durable) × IsPicked a b office × MayBe digest_of new office (raised office))
 
 module _ {D N S : Type 0} {d : DiskGhosts D} {n : NamerGhosts N S} where
-  -- one of the two is there, in its next epoch; nothing is staged or claimed
+  -- one of the two is there, in its next epoch, with the hosts that have tables of the first layout; nothing is staged or claimed
   pub record Raised (new : Journal D d) (found : Found N S n) (a b : Durable) : Type 0 where
     pub office : Durable
     pub is_one : IsPicked a b office
@@ -48,6 +50,7 @@ module _ {D N S : Type 0} {d : DiskGhosts D} {n : NamerGhosts N S} where
     pub names : Names
     pub held : IsHeld new found.pool found.catalog found.counts found.partials (raised office) names
     pub open held use *
+    pub older : AreOldIn (told new) names.old_hosts
     pub fresh : AreFresh (slots_of found.pool.names)
 
   abbrev pub Begins : Durable → Durable → Result (Found N S n) OpenRefusal → Journal D d → Type 0

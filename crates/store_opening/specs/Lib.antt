@@ -9,3 +9,5 @@ pub mod Opens
 pub mod Next
 pub mod Unlisted
 pub mod Tables
+pub mod KeptTables
+pub mod KeptTablesLaws

@@ -31,6 +31,7 @@ use Rattle.store_parts.specs.Held.{AreCountsOf, heads_of, IsEither, IsStored, Ma
 use Rattle.store_opening.specs.declared.found.Found.{Found}
 use Rattle.store_opening.specs.declared.fault.OpenRefusal.{OpenRefusal}
 use Rattle.store_opening.specs.declared.fault.OpenRefusal.TheVariants.{Foreign}
+use Rattle.store_opening.specs.KeptTables.{AreOldIn}
 use Rattle.store_opening.specs.Strays.{IsStray}
 use Rattle.store_opening.specs.Unlisted.{IsUnlisting}
 use Rattle.store_opening.specs.Tables.{IsMissingTable}
@@ -97,11 +98,12 @@ module _ {D N S : Type 0} {d : DiskGhosts D} {n : NamerGhosts N S} where
     pub counted : AreCountsOf counts stored.shown
     pub parked : partials ≡ heads_of office.hosts
 
-  -- one of the two offices was found; nothing is staged or claimed
+  -- one of the two offices was found, and the hosts that have tables of the first layout; nothing is staged or claimed
   pub record Recovers (journal : Journal D d) (found : Found N S n) (a b : Durable) : Type 0 where
     pub office : Durable
     pub is_one : IsPicked a b office
     pub names : Names
     pub held : IsHeld journal found.pool found.catalog found.counts found.partials office names
     pub open held use *
+    pub older : AreOldIn (told journal) names.old_hosts
     pub fresh : AreFresh (slots_of found.pool.names)

@@ -11,7 +11,7 @@ use Rattle.disk_trait.specs.declared.disk.Disk.{Ghosts as DiskGhosts}
 use Rattle.disk_trait.specs.Files.{Files}
 use Rattle.pool_name.specs.declared.namer.Namer.{Ghosts as NamerGhosts}
 use Rattle.intent_journal.specs.declared.journal.Journal.{Journal}
-use Rattle.journal_view.specs.View.{told, Quiet, FindsOnly}
+use Rattle.journal_view.specs.View.{told, uncertain, Quiet, FindsNow, FindsOnly}
 use Rattle.pool_changes.specs.Kept.{slots_of}
 use Rattle.pool_store.specs.Opening.{AreThePoolFiles}
 use Rattle.office_model.specs.declared.answer.Answer.{Answer}
@@ -31,6 +31,7 @@ use Rattle.store_parts.specs.States.{IsRunning}
 use Rattle.store_opening.specs.declared.fault.OpenRefusal.{OpenRefusal}
 use Rattle.store_opening.specs.declared.fault.OpenRefusal.TheVariants as O
 use Rattle.store_opening.specs.declared.found.Found.{Found}
+use Rattle.store_opening.specs.KeptTables.{HasTablesFound}
 use Rattle.store_opening.specs.Recovers.{IsForeignTo}
 use Rattle.store_opening.specs.Begins.{MayLeave, IsSpent, IsBetween}
 use Rattle.store_opening.specs.Settles.{ComesToOne, IsStopped}
@@ -115,6 +116,9 @@ module _ {D N S : Type 0} {d : DiskGhosts D} {n : NamerGhosts N S} where
     pub goes : (a b : Durable) → MayBe n.digest_of old.journal a b → Goes a b reply old new
     pub crash : (a b : Durable) → MayBe n.digest_of old.journal a b → FindsOnly old.journal new.journal (MayLeave n.digest_of a b)
     pub settles : (a b : Durable) → MayBe n.digest_of old.journal a b → GoesTo a b reply old new
+    -- no table was written
+    pub tables : (a b : Durable) → MayBe n.digest_of old.journal a b
+        → FindsNow new.journal (HasTablesFound (d.files old.journal.disk) (uncertain old.journal))
     pub stays : (refusal : Refusal) → reply ≡ Err refusal → new ≡ with_journal old new.journal new.halted
     pub halted_same : IsPlainReply reply → new.halted ≡ old.halted
     pub quiet : IsPlainReply reply → old.journal.halted ≡ false → is_some (told old.journal) ≡ true → Quiet old.journal new.journal

@@ -8,7 +8,7 @@ ghost use Rattle.disk_trait.specs.Files.{Files};
 ghost use Rattle.disk_trait.specs.Images.{Leaves};
 ghost use Rattle.intent_journal.specs.Overlay.{IsForeign as IsForeignIntent};
 ghost use Rattle.journal_view.specs.Found.{Finds, FindsAll, CanFind, IsOpenable, Reopened};
-ghost use Rattle.journal_view.specs.View.{told, Quiet, FindsOnly};
+ghost use Rattle.journal_view.specs.View.{told, uncertain, Quiet, FindsNow, FindsOnly};
 ghost use Rattle.pool_changes.specs.Kept.{slots_of};
 ghost use Rattle.pool_store.specs.Opening.{AreThePoolFiles};
 ghost use Rattle.office_model.specs.declared.event.Event.TheVariants.{Reopen};
@@ -17,6 +17,7 @@ ghost use Rattle.office_model.specs.Step.{State};
 ghost use Rattle.store_parts.specs.Held.{MayBe};
 ghost use Rattle.store_parts.specs.States.{InState};
 ghost use Rattle.store_parts.specs.Runs.{Steps};
+ghost use Rattle.store_opening.specs.KeptTables.{HasTablesFound};
 ghost use Rattle.store_opening.specs.Recovers.{SaysWhy};
 ghost use Rattle.store_opening.specs.Begins.{MayLeave, IsPlain, Begins};
 ghost use Rattle.store_opening.specs.Settles.{IsSynced, MayBeSynced, Settles};
@@ -77,6 +78,8 @@ fn begin_again<D: Disk, N: Namer>(
     ensures begins { (a b : Durable) → MayBe N.digest_of journal.old a b → Begins a b result journal.new }
     ensures crash { (a b : Durable) → MayBe N.digest_of journal.old a b → FindsOnly journal.old journal.new (MayLeave N.digest_of a b) }
     ensures settles { (a b : Durable) → MayBe N.digest_of journal.old a b → Settles a b result journal.old.disk journal.new }
+    ensures tables { (a b : Durable) → MayBe N.digest_of journal.old a b
+        → FindsNow journal.new (HasTablesFound (D.files journal.old.disk) (uncertain journal.old)) }
     ensures quiet { IfErr result (λ refusal. IsPlain refusal → journal.old.halted ≡ false → is_some (told journal.old) ≡ true → Quiet journal.old journal.new) }
     ensures foreign { IfErr result (SaysWhy (D.files journal.old.disk) (D.files journal.new.disk)) }
     ensures whole { IfOk result (IsAllOf (told journal.new)) }
@@ -180,7 +183,7 @@ fn reopen_parts<D: Disk, N: Namer>(
 /// the disk has; open dumps, restores, stages and readers are gone, and the numbers of stages and readers go on. After `Broken`
 /// and `Memory` it is as it was. After `DiskFault` it is
 /// halted, and the disk has the office as it was or in its next epoch; so after `Damaged`, which says what was found of a
-/// file, and never comes on a disk that a store left.
+/// file, and never comes on a disk that a store left. No table is written, so its old hosts stay those that they were.
 pub fn reopen<D: Disk, N: Namer>(
     parts: &mut StoreParts<D, N>,
     alloc: Global,

@@ -1,12 +1,14 @@
 //! Making the office that was found durable in its next epoch.
 
-ghost use Rattle.std.specs.Prelude.{◌≡◌, ◌<◌, false, List, ℕ, Option, IfOk, IfErr, OnOk, Err, IsErrOf};
+ghost use Rattle.std.specs.Prelude.{◌≡◌, ◌<◌, false, List, ℕ, Option, Some, IfOk, IfErr, OnOk, Err, IsErrOf};
 ghost use Rattle.fault_counts.specs.Counts.{Counted};
-ghost use Rattle.journal_view.specs.View.{told, Quiet, FindsOnly};
+ghost use Rattle.disk_trait.specs.Files.{Files};
+ghost use Rattle.journal_view.specs.View.{told, Quiet, FindsNow, FindsOnly};
 ghost use Rattle.pool_changes.specs.Kept.{slots_of, IsSame};
 ghost use Rattle.pool_store.specs.Opening.{AreThePoolFiles};
 ghost use Rattle.office_model.specs.Office.{Durable, Names, raised};
 ghost use Rattle.store_parts.specs.Held.{IsStored};
+ghost use Rattle.store_opening.specs.KeptTables.{HasTablesOf};
 ghost use Rattle.store_opening.specs.Recovers.{Holds, IsHeld, Looks, SaysForeign};
 ghost use Rattle.store_opening.specs.Begins.{MayLeave, Begins};
 ghost use Rattle.store_opening.specs.Settles.{Ends};
@@ -40,6 +42,7 @@ fn raise<D: Disk, N: Namer>(
     ensures buckets { OnOk result (found.new.pool.in_one_file ≡ false) }
     ensures looks { (office : Durable) (names : Names) → IsStored journal.old found.old.pool found.old.catalog office names
         → Looks N.digest_of journal.old journal.new office (raised office) }
+    ensures tables { (all : Files) → told journal.old ≡ Some all → FindsNow journal.new (HasTablesOf all) }
     ensures memory { result ≡ Err JournalFault.Memory → Quiet journal.old journal.new }
     ensures running { result ≡ Err JournalFault.Halted → ⊥ }
     ensures counted { Counted (D.fault_count journal.old.disk) (D.fault_count journal.new.disk) (result ≡ Err JournalFault.Disk) }
@@ -70,6 +73,7 @@ pub(crate) fn begin<D: Disk, N: Namer>(
     ensures begins { (a b : Durable) → Holds N.digest_of journal.old a b → Begins a b result journal.new }
     ensures crash { (a b : Durable) → Holds N.digest_of journal.old a b → FindsOnly journal.old journal.new (MayLeave N.digest_of a b) }
     ensures ends { (a b : Durable) → Holds N.digest_of journal.old a b → Ends a b result journal.old.disk journal.new }
+    ensures tables { (all : Files) → told journal.old ≡ Some all → FindsNow journal.new (HasTablesOf all) }
     ensures quiet { IfErr result (λ refusal. (refusal ≡ OpenRefusal.DiskFault → ⊥) → Quiet journal.old journal.new) }
     ensures foreign { IfErr result (SaysForeign (told journal.old)) }
     ensures whole { IfOk result (IsAllOf (told journal.new)) }

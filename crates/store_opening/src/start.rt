@@ -8,10 +8,12 @@ ghost use Rattle.disk_trait.specs.Files.{Files};
 ghost use Rattle.disk_trait.specs.Images.{Leaves};
 ghost use Rattle.intent_journal.specs.Overlay.{IsForeign as IsForeignIntent};
 ghost use Rattle.journal_view.specs.Found.{seen, Finds, FindsAll, CanFind, IsOpenable, Reopened};
+ghost use Rattle.journal_view.specs.View.{told, FindsNow};
 ghost use Rattle.pool_changes.specs.Kept.{slots_of};
 ghost use Rattle.pool_store.specs.Opening.{AreThePoolFiles};
 ghost use Rattle.office_model.specs.Office.{Durable};
 ghost use Rattle.office_model.specs.Step.{IsPicked};
+ghost use Rattle.store_opening.specs.KeptTables.{HasTablesOf, HasTablesFound};
 ghost use Rattle.store_opening.specs.Recovers.{Holds, SaysForeign, SaysWhy};
 ghost use Rattle.store_opening.specs.Reopens.{IsOfFound};
 ghost use Rattle.store_opening.specs.Opens.{IsOf, Opened, Left};
@@ -89,6 +91,9 @@ fn start<D: Disk, N: Namer>(
         → (office : Durable) × IsPicked a b office × IsOfOne ⟦<D as Disk>⟧ N.digest_of journal.disk refused.0 office) }
     ensures left { IfErr result (λ refused. (a b : Durable) → Holds N.digest_of journal a b
         → Left N.digest_of (D.files refused.0) (D.uncertain refused.0) a b refused.1) }
+    ensures tables { IfOk result (λ parts. (all : Files) → told journal ≡ Some all → FindsNow parts.journal (HasTablesOf all)) }
+    ensures left_tables { IfErr result (λ refused. (all : Files) → told journal ≡ Some all
+        → FindsAll (D.files refused.0) (D.uncertain refused.0) (HasTablesOf all)) }
     ensures foreign { IfErr result (λ refused. SaysForeign (option_map seen (D.files refused.0)) refused.1) }
     ensures whole { IfOk result HasAllOf }
     ensures buckets { IfOk result HasBuckets }
@@ -109,6 +114,7 @@ fn start<D: Disk, N: Namer>(
 /// After Ok the office that the disk had is at work in its next epoch, and durable so. The disk comes back with each
 /// refusal, and can be opened again: after `EpochsSpent` and `Memory` it has the office as it was, after `DiskFault` as it
 /// was or in its next epoch. `Foreign` says what was found of the file; it never comes on a disk that a store left.
+/// No table is written, whatever it answers; after Ok the old hosts are exactly those that have a table of the first layout.
 ///
 /// Over any disk that tells its files: after Ok they are those of a store, of which memory has what they hold, and the names in use
 /// are those of the Pool files; the index of the pool is in buckets there; `EpochsSpent` comes only over those of a store in its last epoch.
@@ -123,6 +129,10 @@ pub fn open<D: Disk, N: Namer>(
         → Left N.digest_of (D.files refused.0) (D.uncertain refused.0) a b refused.1) }
     ensures stops { IfErr result (λ refused. (a b : Durable) → IsOf N.digest_of (D.files disk) (D.uncertain disk) a b
         → IsStopped ⟦<D as Disk>⟧ N.digest_of disk refused.0 a b) }
+    ensures tables { IfOk result (λ parts. (a b : Durable) → IsOf N.digest_of (D.files disk) (D.uncertain disk) a b
+        → FindsNow parts.journal (HasTablesFound (D.files disk) (D.uncertain disk))) }
+    ensures left_tables { IfErr result (λ refused. (a b : Durable) → IsOf N.digest_of (D.files disk) (D.uncertain disk) a b
+        → FindsAll (D.files refused.0) (D.uncertain refused.0) (HasTablesFound (D.files disk) (D.uncertain disk))) }
     ensures foreign { IfErr result (λ refused. SaysWhy (D.files disk) (D.files refused.0) refused.1) }
     ensures whole { IfOk result HasAllOf }
     ensures buckets { IfOk result HasBuckets }

@@ -1,6 +1,7 @@
 use Rattle.std.proofs.Common.{inl, inr}
 use Rattle.journal_view.specs.ViewLaws.{FindsOnly-then, Quiet-then, seen_some}
 use Rattle.store_opening.specs.Begins.{MayLeave}
+use Rattle.store_opening.specs.KeptTablesLaws.{tables_can, tables_then}
 use Rattle.store_opening.proofs.Reopening.{openable, again_holds, again_crash, failed_each, failed_crash, some_files, seen_tells, plain_not, still_foreign, unknown_never, begins_unopened, plain_memory}
 use Rattle.store_opening.proofs.Settling.{settles_then, stops_then, stops_unopened}
 use Rattle.store_opening.proofs.Whole.{listed_before}
@@ -93,3 +94,20 @@ returns-in-Err-begin-clause-settles g c = λ a b may.
     (c.in-Ok.ensures.synced raw.0 raw.1)
     (c.in-Err-begin.ensures.ends a b
     (again_holds g.D.Disk _ c.args.journal.now.disk a b may.each raw c.reopen_journal.new.journal c.in-Ok.ensures.done))
+
+pub returns-in-Err-clause-tables : goal.returns-in-Err-clause-tables
+returns-in-Err-clause-tables g c = λ a b may.
+    let raw = some_files _ may.tells in
+    tables_can _ _ _ _ (c.in-Err.ensures.failed raw.0 raw.1 (openable g.D.Disk _ c.args.journal.now.disk a b may.each raw)).1
+
+pub returns-in-Ok-begin-clause-tables : goal.returns-in-Ok-begin-clause-tables
+returns-in-Ok-begin-clause-tables g c = λ a b may.
+    let raw = some_files _ may.tells in
+    let mid = c.in-Ok.ensures.done raw.0 raw.1 (openable g.D.Disk _ c.args.journal.now.disk a b may.each raw) in
+    tables_then _ _ _ _ mid.found mid.has (c.begin.ensures.tables mid.found mid.told_is)
+
+pub returns-in-Err-begin-clause-tables : goal.returns-in-Err-begin-clause-tables
+returns-in-Err-begin-clause-tables g c = λ a b may.
+    let raw = some_files _ may.tells in
+    let mid = c.in-Ok.ensures.done raw.0 raw.1 (openable g.D.Disk _ c.args.journal.now.disk a b may.each raw) in
+    tables_then _ _ _ _ mid.found mid.has (c.begin.ensures.tables mid.found mid.told_is)

@@ -1,7 +1,7 @@
 use Rattle.std.specs.Prelude.{is_some}
 use Rattle.std.proofs.Common.{Err, sym, ap, ◌∙◌}
 use Rattle.intent_journal.specs.declared.fault.JournalFault.{JournalFault}
-use Rattle.store_opening.proofs.Beginning.{crash_still, begins_not, begins_spent, begins_raised, begins_between, begins_crash}
+use Rattle.store_opening.proofs.Beginning.{crash_still, begins_not, begins_spent, begins_raised, begins_between, begins_crash, tables_still}
 use Rattle.store_opening.specs.declared.fault.OpenRefusal.TheVariants.{EpochsSpent}
 use Rattle.store_opening.proofs.Settling.{ends_still, ends_spent, ends_raised, ends_between}
 use Rattle.store_opening.proofs.Whole.{buckets_of, last_whole, not_spent}
@@ -28,7 +28,7 @@ pub returns-in-Ok-raise-clause-begins : goal.returns-in-Ok-raise-clause-begins
 returns-in-Ok-raise-clause-begins g c = λ a b holds.
     begins_raised g.N.Namer c.args.journal.now a b holds c.requires c.recover.new.journal c.in-Ok.found (c.in-Ok.ensures.recovers a b holds)
     c.in-Ok.ensures.quiet c.raise.new.journal c.raise.new.found c.epoch.result c.epoch.ensures c.if-epoch-ge18446744073709551615.false
-    c.raise.ensures.names c.in-Ok-raise.ensures.ok
+    c.raise.ensures.names c.in-Ok-raise.ensures.ok c.raise.ensures.tables
 
 pub returns-in-Ok-raise-clause-crash : goal.returns-in-Ok-raise-clause-crash
 returns-in-Ok-raise-clause-crash g c = λ a b holds.
@@ -84,9 +84,22 @@ pub returns-in-Ok-raise-clause-ends : goal.returns-in-Ok-raise-clause-ends
 returns-in-Ok-raise-clause-ends g c = λ a b holds.
     ends_raised g.N.Namer c.args.journal.now a b holds c.recover.new.journal c.in-Ok.found (c.in-Ok.ensures.recovers a b holds)
     c.in-Ok.ensures.quiet c.raise.new.journal c.raise.ensures.looks c.requires c.raise.new.found c.epoch.result c.epoch.ensures
-    c.if-epoch-ge18446744073709551615.false c.raise.ensures.names c.in-Ok-raise.ensures.ok
+    c.if-epoch-ge18446744073709551615.false c.raise.ensures.names c.in-Ok-raise.ensures.ok c.raise.ensures.tables
 
 pub returns-in-Err-raise-clause-ends : goal.returns-in-Err-raise-clause-ends
 returns-in-Err-raise-clause-ends g c = λ a b holds.
     ends_between g.N.Namer c.args.journal.now a b holds c.recover.new.journal c.in-Ok.found (c.in-Ok.ensures.recovers a b holds)
     c.in-Ok.ensures.quiet c.raise.new.journal c.raise.ensures.looks c.refusal_of.result
+
+pub returns-in-Err-clause-tables : goal.returns-in-Err-clause-tables
+returns-in-Err-clause-tables g c = λ all is. tables_still c.args.journal.now _ c.requires c.in-Err.ensures.quiet all is
+
+pub returns-then-epoch-ge18446744073709551615-clause-tables : goal.returns-then-epoch-ge18446744073709551615-clause-tables
+returns-then-epoch-ge18446744073709551615-clause-tables g c = λ all is.
+    tables_still c.args.journal.now c.recover.new.journal c.requires c.in-Ok.ensures.quiet all is
+
+pub returns-in-Ok-raise-clause-tables : goal.returns-in-Ok-raise-clause-tables
+returns-in-Ok-raise-clause-tables g c = λ all is. c.raise.ensures.tables all (c.in-Ok.ensures.quiet.told_same ∙ is)
+
+pub returns-in-Err-raise-clause-tables : goal.returns-in-Err-raise-clause-tables
+returns-in-Err-raise-clause-tables g c = λ all is. c.raise.ensures.tables all (c.in-Ok.ensures.quiet.told_same ∙ is)

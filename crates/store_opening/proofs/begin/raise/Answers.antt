@@ -1,7 +1,8 @@
 use Rattle.std.proofs.Common.{List, sym, subst, ◌∙◌}
 use Rattle.ref_counts.specs.Numbers.{Items}
 use Rattle.store_parts.specs.Held.{AreCountsOf}
-use Rattle.store_opening.proofs.Raising.{looks_still, held_raised, looks_raised, next_are, next_done, next_committed}
+use Rattle.store_opening.specs.KeptTablesLaws.{tables_told}
+use Rattle.store_opening.proofs.Raising.{looks_still, held_raised, looks_raised, next_are, next_done, next_committed, tables_raised}
 use Rattle.office_model.specs.Office.{raised}
 use Rattle.store_opening.proofs.Whole.{whole_raised}
 use Rattle.store_opening.proofs.begin.raise.Goals as goal
@@ -37,3 +38,16 @@ returns-in-Ok-commit-clause-whole g c = λ whole.
     whole_raised c.args.journal.now c.commit.new.journal c.args.found.now.pool c.accept.new.found.pool c.args.found.now.catalog
     c.args.found.now.counts c.accept.new.found.counts c.args.found.now.partials c.accept.new.found.partials c.in-Ok.next c.in-Ok.ensures
     c.accept.new.found.catalog c.accept.ensures.catalog c.accept.ensures.counts c.accept.ensures.partials c.accept.ensures.names c.accept.ensures.buckets c.in-Ok-commit.ensures.done whole
+
+pub returns-in-Err-clause-tables : goal.returns-in-Err-clause-tables
+returns-in-Err-clause-tables g c = λ all is. tables_told c.args.journal.now all c.requires.ready is
+
+pub returns-in-Ok-commit-clause-tables : goal.returns-in-Ok-commit-clause-tables
+returns-in-Ok-commit-clause-tables g c = λ all is.
+    tables_raised _ _ c.in-Ok.next c.in-Ok.ensures c.args.journal.now c.commit.new.journal c.commit.result
+    (next_committed _ _ c.in-Ok.next c.in-Ok.ensures _ _ _ c.commit.ensures) all is
+
+pub returns-in-Err-commit-clause-tables : goal.returns-in-Err-commit-clause-tables
+returns-in-Err-commit-clause-tables g c = λ all is.
+    tables_raised _ _ c.in-Ok.next c.in-Ok.ensures c.args.journal.now c.commit.new.journal c.commit.result
+    (next_committed _ _ c.in-Ok.next c.in-Ok.ensures _ _ _ c.commit.ensures) all is

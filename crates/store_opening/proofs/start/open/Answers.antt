@@ -1,4 +1,5 @@
 use Rattle.std.proofs.Common.{inl, inr}
+use Rattle.store_opening.specs.KeptTablesLaws.{tables_can, tables_then}
 use Rattle.store_opening.proofs.Reopening.{again_holds, failed_each, unknown_never, left_unopened, told_files, openable}
 use Rattle.store_opening.proofs.Settling.{settles_then, stops_then, stops_unopened}
 use Rattle.store_opening.proofs.Whole.{listed_before}
@@ -49,3 +50,20 @@ returns-in-Err-start-clause-stops g c = λ a b is.
     let raw = told_files _ is.tells in
     let w = c.in-Err-start.ensures.left_one a b (again_holds g.D.Disk _ c.args.disk a b is.each raw c.in-Ok.journal c.in-Ok.ensures.done) in
     stops_then g.D.Disk _ c.args.disk a b is.each c.in-Ok.journal.disk _ (c.in-Ok.ensures.synced raw.0 raw.1) w
+
+pub returns-in-Err-clause-left_tables : goal.returns-in-Err-clause-left_tables
+returns-in-Err-clause-left_tables g c = λ a b is.
+    let raw = told_files _ is.tells in
+    tables_can _ _ _ _ (c.in-Err.ensures.failed raw.0 raw.1 (openable g.D.Disk _ c.args.disk a b is.each raw)).1
+
+pub returns-in-Ok-start-clause-tables : goal.returns-in-Ok-start-clause-tables
+returns-in-Ok-start-clause-tables g c = λ a b is.
+    let raw = told_files _ is.tells in
+    let mid = c.in-Ok.ensures.done raw.0 raw.1 (openable g.D.Disk _ c.args.disk a b is.each raw) in
+    tables_then _ _ _ _ mid.found mid.has (c.in-Ok-start.ensures.tables mid.found mid.told_is)
+
+pub returns-in-Err-start-clause-left_tables : goal.returns-in-Err-start-clause-left_tables
+returns-in-Err-start-clause-left_tables g c = λ a b is.
+    let raw = told_files _ is.tells in
+    let mid = c.in-Ok.ensures.done raw.0 raw.1 (openable g.D.Disk _ c.args.disk a b is.each raw) in
+    tables_then _ _ _ _ mid.found mid.has (c.in-Err-start.ensures.left_tables mid.found mid.told_is)

@@ -1,4 +1,5 @@
-use Rattle.store_opening.proofs.Running.{started_of}
+use Rattle.store_opening.specs.KeptTablesLaws.{tables_closed}
+use Rattle.store_opening.proofs.Running.{started_of, tables_parts}
 use Rattle.store_opening.proofs.Reopening.{left_of, left_at, closed_foreign}
 use Rattle.store_opening.proofs.Settling.{closed_one}
 use Rattle.store_opening.proofs.Whole.{whole_parts, buckets_parts, listed_parts, spent_closed}
@@ -39,3 +40,11 @@ pub returns-in-Err-clause-left_one : goal.returns-in-Err-clause-left_one
 returns-in-Err-clause-left_one g c = λ a b holds.
     closed_one g.D.Disk g.N.Namer.digest_of c.args.journal.disk c.begin.new.journal.disk c.close.result a b c.close.ensures
     (c.in-Err.ensures.ends a b holds)
+
+pub returns-in-Ok-clause-tables : goal.returns-in-Ok-clause-tables
+returns-in-Ok-clause-tables g c = λ all is.
+    tables_parts c.parts_of.result c.begin.new.journal c.parts_of.ensures.journal all (c.begin.ensures.tables all is)
+
+pub returns-in-Err-clause-left_tables : goal.returns-in-Err-clause-left_tables
+returns-in-Err-clause-left_tables g c = λ all is.
+    tables_closed c.begin.new.journal c.close.result c.close.ensures all (c.begin.ensures.tables all is)
