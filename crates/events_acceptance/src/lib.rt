@@ -11,6 +11,8 @@ mod store_dumps_tests;
 #[cfg(test)]
 mod store_hosts_tests;
 #[cfg(test)]
+mod store_migrations_tests;
+#[cfg(test)]
 mod store_opening_tests;
 #[cfg(test)]
 mod store_reads_tests;

@@ -43,6 +43,7 @@ use Rattle.store_cleaning.specs.StageFiles.{OnlyOpen}
 use Rattle.store_commits.specs.Tables.{HeedsTables}
 use Rattle.store_deletions.specs.Called.{SaysOfTables, HasHost}
 use Rattle.store_deletions.specs.Shortens.{named_numbers}
+use Rattle.store_migrations.specs.Called.{SaysOfMigration}
 use Rattle.store_opening.specs.Recovers.{IsForeignTo}
 use Rattle.store_opening.specs.Whole.{HasAllOf}
 
@@ -113,6 +114,7 @@ module _ {D N S : Type 0} {d : DiskGhosts D} {n : NamerGhosts N S} where
       → slice_get old.catalog.hosts place ≡ Some index
       → SaysOfTables old new place (named_numbers index.rules now index.lines) reply)
       × IsStill (Expired 0) old reply new
+  SaysOfFiles old (E.Migrate host) reply new = SaysOfMigration old host reply new
   SaysOfFiles old (E.Clean bucket) reply new = IsUndamaged reply × IsStill (Cleaned 0 0 0) old reply new
   SaysOfFiles old E.Reopen reply new = ReopeningSays old reply new
   SaysOfFiles old event reply new = IsUndamaged reply

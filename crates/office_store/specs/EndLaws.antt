@@ -2,6 +2,7 @@
 --     is_halted state
 --     halted_rose      a store that was at work halts only if the disk's count rose
 --     left_of      the images of its disk stand for one of the two offices of its state
+--     second_left      no host but its old ones has a table of the first layout in any of them
 use Rattle.std.specs.Prelude.{◌≤◌, ◌||◌, Option, Some, None, is_some, option_map}
 use Rattle.std.proofs.Common.{◌≡◌, ℕ, Bool, true, false, List, [], ◌∷◌, Ok, Err, refl, sym, ap, ◌∙◌, subst, arith}
 use Rattle.std.proofs.lemmas.Bool.{false≢true}
@@ -9,12 +10,17 @@ use Rattle.fault_counts.specs.Counts.{Rose}
 use Rattle.disk_trait.specs.declared.disk.Disk.{Ghosts as DiskGhosts}
 use Rattle.disk_trait.specs.Files.{Files}
 use Rattle.pool_name.specs.declared.namer.Namer.{Ghosts as NamerGhosts}
-use Rattle.journal_view.specs.Found.{seen}
+use Rattle.disk_trait.specs.declared.ids.FileId.TheVariants.{Table}
+use Rattle.journal_view.specs.Found.{seen, IsAlikeBut}
+use Rattle.journal_view.specs.View.{uncertain, FindsNow}
+use Rattle.journal_view.specs.ViewLaws.{FindsNow-each, working_finds}
+use Rattle.office_files.specs.TableLayouts.{AreSecondBut}
+use Rattle.office_files.specs.TableLayoutLaws.{second_alike}
 use Rattle.office_model.specs.declared.event.Event.{Event}
 use Rattle.office_model.specs.declared.refusal.Refusal.TheVariants.{Broken, Halted as HaltedReply, DiskFault, Damaged, Memory}
 use Rattle.office_model.specs.Meaning.{Reply}
 use Rattle.office_model.specs.Office.{Office, Durable, Names}
-use Rattle.office_model.specs.Step.{State, Running, Halted, IsStep}
+use Rattle.office_model.specs.Step.{State, Running, Halted, IsStep, names_of}
 use Rattle.office_model.specs.History.{Entry, GoesOn, IsUndamaged, IsHistory, last_state, last_faults}
 use Rattle.store_parts.specs.States.{InState}
 use Rattle.store_opening.specs.Opens.{IsOf}
@@ -87,3 +93,11 @@ module _ {D N S : Type 0} {d : DiskGhosts D} {n : NamerGhosts N S} where
       record { each = found_either store (Running office names) at; tells = tells_files (d.files store.parts.journal.disk) at.all at.told_is }
   left_of store (Halted a b names) at =
       record { each = found_either store (Halted a b names) at; tells = seen_tells (d.files store.parts.journal.disk) at.may_be.tells }
+
+  pub second_left : (store : Store D N S d n) (state : State) → InState store.parts state
+      → FindsNow store.parts.journal (AreSecondBut (names_of state).old_hosts)
+  second_left store (Running office names) at =
+      FindsNow-each (IsAlikeBut at.all (uncertain store.parts.journal)) (AreSecondBut names.old_hosts) store.parts.journal
+      (λ found alike. second_alike names.old_hosts at.all found (λ host number. alike.metadata (Table host number) refl) at.second)
+      (working_finds store.parts.journal at.all at.journal_ready at.told_is)
+  second_left store (Halted a b names) at = at.second

@@ -1,3 +1,4 @@
+pub mod CrashLaws
 pub mod Damage
 pub mod EndLaws
 pub mod Moves

@@ -15,6 +15,7 @@ use store_commits::commit_dump;
 use store_deletions::{delete, expire};
 use store_dumps::{abort, open_dump, put, remove, resume};
 use store_hosts::{add_host, backups, contact, due, hosts, keep, set_rules, stats};
+use store_migrations::migrate;
 use store_partials::{drop_partial, park, partial_info};
 use store_parts::StoreParts;
 use store_readers::{close_file, open_file, read_part};
@@ -86,6 +87,7 @@ fn carry_out<D: Disk, N: Namer>(
         Event::Keep { host, number, on } => keep(parts, alloc, host, *number, *on),
         Event::Delete { host, number } => delete(parts, alloc, host, *number),
         Event::Expire { host, now } => expire(parts, alloc, host, *now),
+        Event::Migrate { host } => migrate(parts, alloc, host),
         Event::Contact { host, good } => contact(parts, alloc, host, *good),
         Event::Due { host, now, local } => due(parts, host, *now, local),
         Event::Clean { bucket } => clean(parts, alloc, *bucket),

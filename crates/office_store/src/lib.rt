@@ -24,7 +24,7 @@ mod opening;
 mod port;
 mod store;
 
-pub use laws::a_crash_leaves_what_the_event_may;
+pub use laws::{a_crash_leaves_what_one_of_the_events_may, a_crash_leaves_what_the_event_may};
 pub use port::DirectPort;
 pub use store::Store;
 pub use store_opening::OpenRefusal;

@@ -12,10 +12,12 @@ impl<D: Disk, N: Namer> Store<D, N> {
     ghost use Rattle.std.specs.Prelude.{IfOk, IfErr, option_map};
     ghost use Rattle.fault_counts.specs.Counts.{Counted};
     ghost use Rattle.journal_view.specs.Found.{seen};
+    ghost use Rattle.journal_view.specs.View.{FindsNow};
     ghost use Rattle.pool_changes.specs.Kept.{slots_of};
     ghost use Rattle.pool_store.specs.Opening.{AreThePoolFiles};
     ghost use Rattle.office_model.specs.Office.{Durable};
     ghost use Rattle.store_opening.specs.Recovers.{SaysWhy};
+    ghost use Rattle.store_opening.specs.KeptTables.{HasTablesFound};
     ghost use Rattle.store_opening.specs.Opens.{IsOf, Opened, Left};
     ghost use Rattle.store_opening.specs.Settles.{ComesToOne, IsStopped};
     ghost use Rattle.store_opening.specs.Whole.{HasAllOf, HasBuckets, SaysSpent};
@@ -27,10 +29,12 @@ impl<D: Disk, N: Namer> Store<D, N> {
     /// it was or in its next epoch. `Foreign` says what was found of the file; it never comes on a disk that a store left.
     ///
     /// Over any disk that tells its files: after Ok they are those of a store, of which memory has what they hold, and the names in
-    /// use are those of the Pool files; the index of the pool is in buckets there; `EpochsSpent` comes only over those of a store in its last epoch.
+    /// use are those of the Pool files; no table was written; the index of the pool is in buckets there; `EpochsSpent` comes only over those of a store in its last epoch.
     pub fn open(alloc: Global, disk: D, namer: N) -> Result<Store<D, N>, (D, OpenRefusal)>
         ensures opened { IfOk result (λ store. (a b : Durable) → IsOf N.digest_of (D.files disk) (D.uncertain disk) a b
             → (o : Opened a b store.parts) × ComesToOne ⟦<D as Disk>⟧ N.digest_of disk store.parts.journal.disk a b o.office) }
+        ensures tables { IfOk result (λ store. (a b : Durable) → IsOf N.digest_of (D.files disk) (D.uncertain disk) a b
+            → FindsNow store.parts.journal (HasTablesFound (D.files disk) (D.uncertain disk))) }
         ensures left { IfErr result (λ refused. (a b : Durable) → IsOf N.digest_of (D.files disk) (D.uncertain disk) a b
             → Left N.digest_of (D.files refused.0) (D.uncertain refused.0) a b refused.1) }
         ensures stops { IfErr result (λ refused. (a b : Durable) → IsOf N.digest_of (D.files disk) (D.uncertain disk) a b
