@@ -6,6 +6,7 @@ pub mod FolderStops
 pub mod ForeignLaws
 pub mod HeadlineLaws
 pub mod HostLaws
+pub mod MigrationLaws
 pub mod NightLaws
 pub mod RefusalLaws
 pub mod RunLaws

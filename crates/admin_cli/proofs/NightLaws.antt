@@ -17,6 +17,8 @@ use Rattle.office_model.specs.Office.{Durable, reopened}
 use Rattle.office_model.specs.Step.{Call}
 use Rattle.store_opening.specs.Opens.{IsOf, Opened}
 use Rattle.store_opening.specs.Settles.{ComesToOne}
+use Rattle.store_opening.specs.KeptTables.{HasTablesFound}
+use Rattle.journal_view.specs.View.{FindsNow}
 use Rattle.office_store.specs.declared.store.Store.{Store}
 use Rattle.office_store.specs.declared.port.DirectPort.{DirectPort}
 use Rattle.office_store.specs.Moves.{Moves}
@@ -78,7 +80,8 @@ has_cause d digest_of disk disk' calls halted a b N.Memory moment day period end
 
 module _ {D N S : Type 0} {d : DiskGhosts D} {n : NamerGhosts N S} (disk : D) (store store' : Store D N S d n)
     (settles : (a b : Durable) → IsOf n.digest_of (d.files disk) (d.uncertain disk) a b
-    → (o : Opened a b store.parts) × ComesToOne d n.digest_of disk store.parts.journal.disk a b o.office)
+    → (o : Opened a b store.parts) × ComesToOne d n.digest_of disk store.parts.journal.disk a b o.office
+    × FindsNow store.parts.journal (HasTablesFound (d.files disk) (d.uncertain disk)))
     (calm : d.fault_count store.parts.journal.disk ≡ d.fault_count disk)
     (listed : AreThePoolFiles (d.files disk) (slots_of store.parts.pool.names)) where
   pub does_night : (scheduled : Bool) (line : Option Line) (settings : List ℕ) (read : Settings) (port port' : DirectPort D N S d n)

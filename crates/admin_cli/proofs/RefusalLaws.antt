@@ -1,7 +1,7 @@
 -- What the words and the settings let a run say.
 --     file_of, refused_for_memory      settings that were read are a settings file, which is refused for want of memory alone
 --     refused_line      words that were refused
---     tells_served, tells_night, tells_dump, tells_restore, tells_doors, tells_nobody, tells_refused, tells_unopened      when the statuses 2 and 7 come
+--     tells_served, tells_night, tells_migration, tells_dump, tells_restore, tells_doors, tells_nobody, tells_refused, tells_unopened      when the statuses 2 and 7 come
 use Rattle.std.specs.Prelude.{IsSome, Result, ◌⊎◌}
 use Rattle.std.proofs.Common.{◌≡◌, ℕ, Bool, true, false, List, Option, None, Some, Ok, Err, refl, sym, ap, ◌∙◌, subst, inl, inr, arith}
 use Rattle.std.proofs.lemmas.Bool.{false≢true}
@@ -15,6 +15,8 @@ use Rattle.office_model.specs.declared.refusal.Refusal.{Refusal}
 use Rattle.office_model.specs.declared.refusal.Refusal.TheVariants as R
 use Rattle.night_work.specs.declared.ends.NightEnd.{NightEnd}
 use Rattle.night_work.specs.declared.ends.NightEnd.TheVariants as N
+use Rattle.migrate_work.specs.declared.ends.MigrationEnd.{MigrationEnd}
+use Rattle.migrate_work.specs.declared.ends.MigrationEnd.TheVariants as G
 use Rattle.demo_work.specs.declared.ends.DemoEnd.{DemoEnd}
 use Rattle.demo_work.specs.declared.ends.DemoEnd.TheVariants as M
 use Rattle.folder_walk.specs.declared.refusals.DumpRefusal.{DumpRefusal}
@@ -32,6 +34,7 @@ use Rattle.command_line.specs.Line.{Line, Task}
 use Rattle.admin_cli.specs.Command.{AsksFor}
 use Rattle.admin_cli.specs.Asked.{IsSettingsFile, note_of_settings, IsRefused, TellsRefusals}
 use Rattle.admin_cli.specs.Folders.{note_of_rule, note_of_call, note_of_dump, note_of_restore}
+use Rattle.admin_cli.specs.Migrations.{note_of_migration}
 use Rattle.admin_cli.specs.Demos.{note_of_demo}
 use Rattle.admin_cli.specs.Nights.{note_of_all, note_of_refused, note_of_night}
 use Rattle.admin_cli.specs.Run.{note_of, note_of_refusal}
@@ -141,6 +144,11 @@ restore_other (Err W.NotEmpty) failed halted = rule_other FolderNotEmpty halted 
 restore_other (Err W.Folder) failed halted = other FolderFailed 3 refl (λ e. omega (arith, e)) (λ e. omega (arith, e))
 restore_other (Err W.Memory) failed halted = other NoMemory 6 refl (λ e. omega (arith, e)) (λ e. omega (arith, e))
 
+migration_other : (end : MigrationEnd) (failed halted : Bool) → IsOther (note_of_migration end failed halted)
+migration_other (G.Done count) failed halted = all_other failed halted
+migration_other (G.Refused refusal) failed halted = call_other refusal halted
+migration_other G.Memory failed halted = other NoMemory 6 refl (λ e. omega (arith, e)) (λ e. omega (arith, e))
+
 demo_other : (end : DemoEnd) (failed halted : Bool) → IsOther (note_of_demo end failed halted)
 demo_other (M.Done summary) failed halted = all_other failed halted
 demo_other M.Occupied failed halted = rule_other StoreNotEmpty halted refl
@@ -188,6 +196,11 @@ pub tells_restore : (line : Option Line) (settings : List ℕ) (note : Note) (re
     → IsSome line → IsSettingsFile settings → note ≡ note_of_restore result failed halted → TellsRefusals line settings note
 tells_restore line settings note result failed halted said file note_is =
     tells_understood line settings note said file (subst IsOther (sym note_is) (restore_other result failed halted))
+
+pub tells_migration : (line : Option Line) (settings : List ℕ) (note : Note) (end : MigrationEnd) (failed halted : Bool)
+    → IsSome line → IsSettingsFile settings → note ≡ note_of_migration end failed halted → TellsRefusals line settings note
+tells_migration line settings note end failed halted said file note_is =
+    tells_understood line settings note said file (subst IsOther (sym note_is) (migration_other end failed halted))
 
 pub tells_demo : (line : Option Line) (settings : List ℕ) (note : Note) (end : DemoEnd) (failed halted : Bool)
     → IsSome line → IsSettingsFile settings → note ≡ note_of_demo end failed halted → TellsRefusals line settings note

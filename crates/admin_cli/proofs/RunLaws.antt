@@ -19,11 +19,14 @@ use Rattle.store_opening.specs.declared.fault.OpenRefusal.TheVariants as O
 use Rattle.store_opening.specs.Opens.{IsOf, HasLast, Opened}
 use Rattle.store_parts.specs.Held.{IsEither}
 use Rattle.store_opening.specs.Settles.{ComesToOne}
+use Rattle.store_opening.specs.KeptTables.{HasTablesFound}
+use Rattle.journal_view.specs.View.{FindsNow}
 use Rattle.store_opening.specs.SettlesLaws.{only_after}
 use Rattle.office_store.specs.declared.store.Store.{Store}
 use Rattle.office_store.specs.declared.port.DirectPort.{DirectPort}
 use Rattle.office_store.specs.Moves.{MayRecoverIn, Moves, Goes}
-use Rattle.office_store.specs.EndLaws.{is_halted, halted_rose, halted_as, left_of}
+use Rattle.office_store.specs.EndLaws.{is_halted, halted_rose, halted_as, left_of, second_left}
+use Rattle.store_opening.specs.KeptTablesLaws.{old_found}
 use Rattle.stream_traits.specs.Seen.{LinkSeen}
 use Rattle.request_events.specs.declared.defaults.Defaults.{Defaults}
 use Rattle.settings_file.specs.declared.read.Settings.{Settings}
@@ -43,7 +46,8 @@ use Rattle.admin_cli.proofs.RefusalLaws.{none_said, said_task, file_of, refused_
 
 module _ {D N S : Type 0} {d : DiskGhosts D} {n : NamerGhosts N S} (disk : D) (store store' : Store D N S d n)
     (settles : (a b : Durable) → IsOf n.digest_of (d.files disk) (d.uncertain disk) a b
-    → (o : Opened a b store.parts) × ComesToOne d n.digest_of disk store.parts.journal.disk a b o.office)
+    → (o : Opened a b store.parts) × ComesToOne d n.digest_of disk store.parts.journal.disk a b o.office
+    × FindsNow store.parts.journal (HasTablesFound (d.files disk) (d.uncertain disk)))
     (calm : d.fault_count store.parts.journal.disk ≡ d.fault_count disk)
     (listed : AreThePoolFiles (d.files disk) (slots_of store.parts.pool.names)) where
   pub is_served : (calls : List Call) → Moves store calls store' → (a b : Durable) → StandsForEither d n.digest_of disk a b
@@ -62,11 +66,14 @@ module _ {D N S : Type 0} {d : DiskGhosts D} {n : NamerGhosts N S} (disk : D) (s
           (λ among. sym (listed all is id) ∙ o.running.used.slot id among),
           (λ there. o.running.used.among id (listed all is id ∙ there)),
         );
+        older = old_found store.parts.journal o.running.all o.running.journal_ready o.running.told_is o.names.old_hosts (d.files disk)
+            (d.uncertain disk) o.older w.2;
         opening = d.fault_count store.parts.journal.disk;
         since = omega (arith, calm);
         last = g.next;
         history = g.leads;
         left = left_of store' g.next g.in_state;
+        second = second_left store' g.next g.in_state;
         halted_is = halted_as store' g.next g.in_state;
         rose = λ halted. rose_of o g halted;
         synced = w.1.synced;

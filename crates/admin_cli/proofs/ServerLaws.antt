@@ -13,6 +13,8 @@ use Rattle.pool_store.specs.Opening.{AreThePoolFiles}
 use Rattle.office_model.specs.Office.{Durable}
 use Rattle.store_opening.specs.Opens.{IsOf, Opened}
 use Rattle.store_opening.specs.Settles.{ComesToOne}
+use Rattle.store_opening.specs.KeptTables.{HasTablesFound}
+use Rattle.journal_view.specs.View.{FindsNow}
 use Rattle.office_store.specs.declared.store.Store.{Store}
 use Rattle.office_store.specs.Moves.{Moves}
 use Rattle.request_events.specs.declared.defaults.Defaults.{Defaults}
@@ -32,7 +34,8 @@ use Rattle.admin_cli.proofs.RunLaws.{is_served, EndsWell}
 
 module _ {D N S : Type 0} {d : DiskGhosts D} {n : NamerGhosts N S} (disk : D) (store store' : Store D N S d n)
     (settles : (a b : Durable) → IsOf n.digest_of (d.files disk) (d.uncertain disk) a b
-    → (o : Opened a b store.parts) × ComesToOne d n.digest_of disk store.parts.journal.disk a b o.office)
+    → (o : Opened a b store.parts) × ComesToOne d n.digest_of disk store.parts.journal.disk a b o.office
+    × FindsNow store.parts.journal (HasTablesFound (d.files disk) (d.uncertain disk)))
     (calm : d.fault_count store.parts.journal.disk ≡ d.fault_count disk)
     (listed : AreThePoolFiles (d.files disk) (slots_of store.parts.pool.names)) {T C G L : Type 0} (l : Ghosts L)
     (coming given_back : T → Option (List L)) (faults : T → ℕ) (moments_of : C → Option (List ℕ)) where

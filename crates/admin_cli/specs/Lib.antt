@@ -3,6 +3,7 @@ pub mod Command
 pub mod Demos
 pub mod FolderTexts
 pub mod Folders
+pub mod Migrations
 pub mod Nights
 pub mod Run
 pub mod Runs

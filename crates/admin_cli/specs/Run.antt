@@ -9,11 +9,12 @@ use Rattle.disk_trait.specs.declared.disk.Disk.{Ghosts as DiskGhosts}
 use Rattle.disk_trait.specs.Files.{Files}
 use Rattle.disk_trait.specs.Images.{Leaves, LeavesOnly}
 use Rattle.stream_traits.specs.Seen.{LinkSeen}
-use Rattle.journal_view.specs.Found.{seen, Finds}
+use Rattle.journal_view.specs.Found.{seen, Finds, FindsAll, CanFind}
 use Rattle.office_model.specs.Office.{Durable, Names, raised, reopened}
-use Rattle.office_model.specs.Step.{Call, State, Running, Halted, IsPicked}
+use Rattle.office_model.specs.Step.{Call, State, Running, Halted, IsPicked, names_of}
 use Rattle.office_model.specs.History.{Leads}
 use Rattle.office_model.specs.UsedNames.{AreSound}
+use Rattle.office_files.specs.TableLayouts.{AreSecondBut, AreOldHosts}
 use Rattle.store_parts.specs.Held.{IsEither}
 use Rattle.store_opening.specs.declared.fault.OpenRefusal.{OpenRefusal}
 use Rattle.store_opening.specs.declared.fault.OpenRefusal.TheVariants as O
@@ -61,7 +62,8 @@ module _ {D : Type 0} (d : DiskGhosts D) (digest_of : List ℕ → List ℕ) whe
   StandsForEither disk = IsOf digest_of (d.files disk) (d.uncertain disk)
 
   -- There is one legal history of these calls, from one of the two offices that the disk stood for, opened, to a last state. The names
-  -- that were in use at its beginning are those of the disk's Pool files. The
+  -- that were in use at its beginning are those of the disk's Pool files, and the old hosts those that have a table of the first layout;
+  -- at its end no other host has one, whatever a crash leaves. The
   -- disk handed back stands for the durable part of its office, or for one of its two if it is halted, for which a fault of the
   -- disk was counted. A crash up to the first sync that succeeded leaves one of the two, and from then on the one that was opened, as it
   -- was or in its next epoch, or what one of the events may leave.
@@ -72,11 +74,13 @@ module _ {D : Type 0} (d : DiskGhosts D) (digest_of : List ℕ → List ℕ) whe
     pub sound : AreSound (reopened office) names
     pub digest : names.digest_of ≡ digest_of
     pub listed : (all : Files) → d.files disk ≡ Some all → AreListed names.used all
+    pub older : (found : Files) × CanFind (d.files disk) (d.uncertain disk) found × AreOldHosts names.old_hosts found
     pub opening : ℕ
     pub since : d.fault_count disk ≤ opening
     pub last : State
     pub history : Leads (Running (reopened office) names) opening calls last (d.fault_count disk')
     pub left : StandsForEither disk' (first_of last) (second_of last)
+    pub second : FindsAll (d.files disk') (d.uncertain disk') (AreSecondBut (names_of last).old_hosts)
     pub halted_is : halted ≡ is_halted last
     pub rose : halted ≡ true → Rose (d.fault_count disk) (d.fault_count disk')
     pub synced : D

@@ -11,6 +11,7 @@ use crate::asked::{Asked, read_asked};
 use crate::demos::run_demo;
 use crate::done::Done;
 use crate::folders::{dump, restore};
+use crate::migrations::run_migration;
 use crate::nightly::run_night;
 use crate::pipe::serve_pipe;
 use crate::servers::serve_store;
@@ -28,7 +29,8 @@ use stream_traits::{Clock, Faults, Gate, Link};
 /// Does what the words ask. The first word is the program's name. From the store on the disk, which a disk without files is, too,
 /// `pipe --store DIR [--settings FILE]` serves one connection over the link; `serve --listen ADDR [--connections N]` has all workers
 /// serve the links of their doors beside each other, until each door is closed or failed; `night [--scheduled]` does a night's
-/// work on it, and says what came of it on the link; `dump-folder --host H --kind full|incr FOLDER` makes the folder the host's next
+/// work on it, and says what came of it on the link; `migrate` writes all tables that are of the first layout anew in the second, and says
+/// on the link how many hosts there are; `dump-folder --host H --kind full|incr FOLDER` makes the folder the host's next
 /// backup; and `restore-folder --host H --number N FOLDER` makes a backup in the folder, in which nothing lies. Both say so on the
 /// link, and tell `progress` how far they are; which real folder FOLDER is, is the caller's matter. `demo NUMBER` does a job of sixty days
 /// that is drawn from the number, in a store without hosts, and says on the link what came of it. The settings are the bytes of the file, and empty without one: a host
@@ -119,6 +121,7 @@ where
         Work::Night { scheduled } => run_night(
             alloc, &settings, *scheduled, disk, namer, clock, link,
         ).with_workers(workers),
+        Work::Migrate => run_migration(alloc, disk, namer, link).with_workers(workers),
         Work::DumpFolder {
             host,
             kind,

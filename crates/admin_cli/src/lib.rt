@@ -13,6 +13,7 @@ mod demos;
 mod done;
 mod folder_texts;
 mod folders;
+mod migrations;
 mod nightly;
 mod note;
 mod opening;

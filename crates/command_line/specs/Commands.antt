@@ -57,6 +57,10 @@ serve_app =
 abbrev pub night_app : App
 night_app = with_rule (common_app (codes "night")) (flag_rule (codes "scheduled"))
 
+-- `migrate`
+abbrev pub migrate_app : App
+migrate_app = common_app (codes "migrate")
+
 -- what each subcommand of a folder has beside them: `--host H`
 abbrev pub host_app : List ℕ → App
 host_app name = with_rule (common_app name) (required_rule (codes "host"))
@@ -90,9 +94,9 @@ top_app = record {
 abbrev pub links_app : App
 links_app = with_subcommand (with_subcommand top_app pipe_app.top) serve_app.top
 
--- with the night's, too
+-- with the night's and the migration's, too
 abbrev pub served_app : App
-served_app = with_subcommand links_app night_app.top
+served_app = with_subcommand (with_subcommand links_app night_app.top) migrate_app.top
 
 -- with those of a folder, too
 abbrev pub folders_app : App

@@ -29,6 +29,7 @@ pub data Task : Type 0 where
   Pipe : Task
   Serve : List ℕ → Option ℕ → Task
   Night : Bool → Task
+  Migrate : Task
   DumpFolder : List ℕ → Kind → List ℕ → Task
   RestoreFolder : List ℕ → ℕ → List ℕ → Task
   Demo : ℕ → Task
@@ -106,9 +107,10 @@ task_in name rows =
     if bytes_eq name (codes "pipe") then Some Pipe
     else (if bytes_eq name (codes "serve") then serve_in rows
     else (if bytes_eq name (codes "night") then Some (Night (flag_of (codes "scheduled") rows))
+    else (if bytes_eq name (codes "migrate") then Some Migrate
     else (if bytes_eq name (codes "dump-folder") then dump_folder_in rows
     else (if bytes_eq name (codes "restore-folder") then restore_folder_in rows
-    else (if bytes_eq name (codes "demo") then demo_in rows else None)))))
+    else (if bytes_eq name (codes "demo") then demo_in rows else None))))))
 
 -- the line of a subcommand with its matches
 abbrev pub line_in : List ℕ × List Row → Option Line
@@ -129,9 +131,10 @@ usage =
     codes "usage: backup_server pipe --store DIR [--settings FILE]\n"
     ++ (codes "       backup_server serve --listen ADDR [--connections N] --store DIR [--settings FILE]\n"
     ++ (codes "       backup_server night [--scheduled] --store DIR [--settings FILE]\n"
+    ++ (codes "       backup_server migrate --store DIR [--settings FILE]\n"
     ++ (codes "       backup_server dump-folder --host H --kind full|incr --store DIR [--settings FILE] FOLDER\n"
     ++ (codes "       backup_server restore-folder --host H --number N --store DIR [--settings FILE] FOLDER\n"
-    ++ codes "       backup_server demo --store DIR [--settings FILE] NUMBER"))))
+    ++ codes "       backup_server demo --store DIR [--settings FILE] NUMBER")))))
 
 -- the matches of a subcommand
 abbrev pub rows_in : ArgMatches → List Row
@@ -142,6 +145,7 @@ abbrev pub task_of : Work → Task
 task_of work.Pipe = Pipe
 task_of (work.Serve listen connections) = Serve (string_bytes listen) connections
 task_of (work.Night scheduled) = Night scheduled
+task_of work.Migrate = Migrate
 task_of (work.DumpFolder host kind folder) = DumpFolder host kind (string_bytes folder)
 task_of (work.RestoreFolder host number folder) = RestoreFolder host number (string_bytes folder)
 task_of (work.Demo number) = Demo number

@@ -1,7 +1,7 @@
 //! The command as clap takes it.
 ghost use Rattle.std.specs.Prelude.{◌≡◌, false, IfOk};
 ghost use Rattle.clap.specs.Walk.{rule_of};
-ghost use Rattle.command_line.specs.Commands.{IsCommandOf, option_rule, required_rule, number_rule, required_number_rule, flag_rule, word_rule, number_word_rule, common_app, pipe_app, serve_app, night_app, host_app, dump_folder_app, restore_folder_app, demo_app, top_app, links_app, served_app, folders_app, program_app};
+ghost use Rattle.command_line.specs.Commands.{IsCommandOf, option_rule, required_rule, number_rule, required_number_rule, flag_rule, word_rule, number_word_rule, common_app, pipe_app, serve_app, night_app, migrate_app, host_app, dump_folder_app, restore_folder_app, demo_app, top_app, links_app, served_app, folders_app, program_app};
 
 use clap::{Arg, ArgAction, Command, value_parser};
 use std::alloc::{AllocError, Global};
@@ -101,6 +101,13 @@ fn night<'a>(alloc: Global) -> Result<Command<'a>, AllocError>
     subcommand(alloc, "night")?.arg(flag(alloc, "scheduled"))
 }
 
+/// `migrate`.
+fn migrate<'a>(alloc: Global) -> Result<Command<'a>, AllocError>
+    ensures { IfOk result (λ c. IsCommandOf migrate_app c) }
+{
+    subcommand(alloc, "migrate")
+}
+
 /// A subcommand of a folder: with a host beside those options.
 fn host_subcommand<'a>(alloc: Global, name: &'a str) -> Result<Command<'a>, AllocError>
     ensures { IfOk result (λ c. IsCommandOf (host_app name.now) c) }
@@ -152,11 +159,13 @@ fn links<'a>(alloc: Global) -> Result<Command<'a>, AllocError>
         .subcommand(serve(alloc)?)
 }
 
-/// Those, and the night's.
+/// Those, the night's, and the migration's.
 fn served<'a>(alloc: Global) -> Result<Command<'a>, AllocError>
     ensures { IfOk result (λ c. IsCommandOf served_app c) }
 {
-    links(alloc)?.subcommand(night(alloc)?)
+    links(alloc)?
+        .subcommand(night(alloc)?)?
+        .subcommand(migrate(alloc)?)
 }
 
 /// Those, and the ones of a folder.

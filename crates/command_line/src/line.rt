@@ -30,6 +30,8 @@ pub enum Work {
     Night {
         scheduled: bool,
     },
+    /// Writes the tables of all hosts that are of the first layout anew in the second.
+    Migrate,
     /// Makes a backup of this kind out of a folder, the host's next one.
     DumpFolder {
         host: HostName,
@@ -127,6 +129,8 @@ fn work_in(alloc: Global, name: &str, found: &ArgMatches<'_>) -> Result<Work, Li
     } else if name == "night" {
         let scheduled = flag_in(found, "scheduled");
         Ok(Work::Night { scheduled })
+    } else if name == "migrate" {
+        Ok(Work::Migrate)
     } else if name == "dump-folder" {
         dump_folder_in(alloc, found)
     } else if name == "restore-folder" {

@@ -8,7 +8,7 @@ struct Taken {
     says: &'static str,
 }
 
-static TAKEN: [Taken; 30] = [
+static TAKEN: [Taken; 32] = [
     Taken {
         words: "b pipe --store S",
         says: "Pipe S None",
@@ -90,6 +90,14 @@ static TAKEN: [Taken; 30] = [
         says: "Night { scheduled: false } S Some(\"F\")",
     },
     Taken {
+        words: "b migrate --store S",
+        says: "Migrate S None",
+    },
+    Taken {
+        words: "b migrate --settings F --store S",
+        says: "Migrate S Some(\"F\")",
+    },
+    Taken {
         words: "b dump-folder --store S --host pc1 --kind full F",
         says: "DumpFolder { host: HostName { bytes: [112, 99, 49] }, kind: Full, folder: \"F\" } S None",
     },
@@ -131,7 +139,7 @@ static TAKEN: [Taken; 30] = [
     },
 ];
 
-static REFUSED: [&str; 82] = [
+static REFUSED: [&str; 85] = [
     "b",
     "b frob",
     "b frob --store S",
@@ -165,6 +173,9 @@ static REFUSED: [&str; 82] = [
     "b pipe -store S",
     "b --store S pipe",
     "b pipe night --store S",
+    "b migrate",
+    "b migrate --store S x",
+    "b migrate --store S --host a",
     "b serve --store S",
     "b serve --listen A",
     "b serve --store S --listen",

@@ -173,8 +173,30 @@ pub fn pipe<N: Namer + Send>(
 where
     N::State: Send,
 {
+    run_words(
+        rt,
+        disk,
+        namer,
+        "backup_server pipe --store store",
+        seconds,
+        input,
+    )
+}
+
+/// Runs the program with the words of a command line, with one space between two, on this input.
+pub fn run_words<N: Namer + Send>(
+    rt: &impl Machine,
+    disk: MemoryDisk,
+    namer: N,
+    line: &str,
+    seconds: &[u64],
+    input: Vec<u8>,
+) -> Result<Talked, Fail>
+where
+    N::State: Send,
+{
     let alloc = rt.alloc();
-    let words = words_of(alloc, "backup_server pipe --store store")?;
+    let words = words_of(alloc, line)?;
     let link = MemoryLink::new(alloc, input, 65_536, Vec::new(alloc))?;
     let mut clock = clock_of(alloc, seconds)?;
     let mut folder = MemoryFolder::new(alloc, Vec::new(alloc));

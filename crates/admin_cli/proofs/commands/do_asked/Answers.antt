@@ -2,7 +2,7 @@ use Rattle.std.proofs.Common.{◌≡◌, Option, refl, subst, inl, inr}
 use Rattle.command_line.specs.declared.line.Work.{Work}
 use Rattle.command_line.specs.Line.{Line, task_of}
 use Rattle.admin_cli.specs.Command.{AsksFor}
-use Rattle.admin_cli.proofs.HeadlineLaws.{runs_refused, runs_pipe, runs_night, runs_demo, runs_dump, runs_restore, runs_doors}
+use Rattle.admin_cli.proofs.HeadlineLaws.{runs_refused, runs_pipe, runs_night, runs_migration, runs_demo, runs_dump, runs_restore, runs_doors}
 use Rattle.admin_cli.proofs.NightLaws.{some_period}
 use Rattle.admin_cli.proofs.RunLaws.{refuses_early}
 use Rattle.admin_cli.proofs.commands.do_asked.Goals as goal
@@ -30,6 +30,14 @@ returns-in-Night g c =
     rw c.with_workers-in-Night.ensures (inl (
       runs_night _ _ _ _ _ _ _ _ _ _ _ _ _ _
           (c.run_night.ensures _ _ (asks _ _ _ c.in-Night.is c.in-Ok.ensures.ok.work) c.in-Ok.ensures.ok.settings_are) refl,
+      refl,
+    ))
+
+pub returns-in-Migrate : goal.returns-in-Migrate
+returns-in-Migrate g c =
+    rw c.with_workers-in-Migrate.ensures (inl (
+      runs_migration _ _ _ _ _ _ _ _ _ _ _ _ _ _
+          (c.run_migration.ensures _ _ _ _ (asks _ _ _ c.in-Migrate.is c.in-Ok.ensures.ok.work) c.in-Ok.ensures.ok.settings_are) refl,
       refl,
     ))
 

@@ -12,3 +12,7 @@ returns-in-Err-clause-refused g c = (
     crash = c.in-Err.ensures.stops;
   },
 )
+
+pub returns-in-Ok-clause-opened : goal.returns-in-Ok-clause-opened
+returns-in-Ok-clause-opened g c = λ a b is.
+    let w = c.in-Ok.ensures.opened a b is in (w.0, w.1, c.in-Ok.ensures.tables a b is)
