@@ -7,6 +7,7 @@
 //! | `HeadRead` | what reading a head comes to |
 //! | `add_bytes` | the next bytes of a body |
 //! | `Response` | what is written; without memory, too |
+//! | `write_both` | two runs of bytes, in one piece if they can be put together |
 //!
 //! ```text
 //! let mut wire = Wire::new(alloc, &mut link);
@@ -24,5 +25,5 @@ pub use body::add_bytes;
 pub use head::{HeadRead, read_head};
 pub use http_heads::{Head, HeadRefusal, Version};
 pub use response::{CONTINUE, NO_MEMORY, Response, bytes_head_text, head_text, sent_body};
-pub use sending::{write_bytes_head, write_no_memory, write_response};
+pub use sending::{write_both, write_bytes_head, write_no_memory, write_response};
 pub use wire::{Wire, WireFault};

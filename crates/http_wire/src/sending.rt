@@ -54,8 +54,9 @@ pub fn write_no_memory<L: Link>(wire: &mut Wire<L>) -> Result<(), Failed>
     }
 }
 
-/// Writes two runs of bytes, one after the other: in one piece, if they can be put together.
-fn write_both<L: Link>(wire: &mut Wire<L>, head: &[u8], body: &[u8]) -> Result<(), Failed>
+/// Writes two runs of bytes, one after the other: in one piece, if the second has at most 65,536 bytes and there is memory for both. If
+/// the link fails, a prefix of them may be written.
+pub fn write_both<L: Link>(wire: &mut Wire<L>, head: &[u8], body: &[u8]) -> Result<(), Failed>
     ensures all { OnOk result (written_of wire.new ≡ behind (written_of wire.old) (head.now ++ body.now)) }
     ensures front { OnErr result (WroteFront (written_of wire.old) (written_of wire.new) (head.now ++ body.now)) }
     ensures sent { sent_of wire.new ≡ sent_of wire.old }

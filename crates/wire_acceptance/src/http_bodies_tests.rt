@@ -1,6 +1,6 @@
-use crate::links::{SlowLink, link_of};
 use http_bodies::{Body, BodyStop, PIECE_SIZE, next_piece};
 use http_wire::Wire;
+use slow_links::{SlowLink, link_of};
 use std::alloc::Global;
 use std::test::Fail;
 use stream_traits::{Faults, Link, MemoryLink};

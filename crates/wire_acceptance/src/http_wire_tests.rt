@@ -1,6 +1,6 @@
-use crate::links::{SlowLink, link_of};
 use http::StatusCode;
 use http_wire::*;
+use slow_links::{SlowLink, link_of};
 use std::alloc::Global;
 use std::test::Fail;
 use stream_traits::{Failed, Faults, Link, MemoryLink, ReadFault, Sink, Source};

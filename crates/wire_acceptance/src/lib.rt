@@ -13,6 +13,4 @@ mod http_routes_tests;
 #[cfg(test)]
 mod http_wire_tests;
 #[cfg(test)]
-mod links;
-#[cfg(test)]
 mod restore_stream_tests;

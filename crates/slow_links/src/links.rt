@@ -1,5 +1,3 @@
-//! Links for tests.
-
 use std::alloc::Global;
 use std::test::Fail;
 use stream_traits::{Failed, Faults, Link, MemoryLink, Sink, Source};

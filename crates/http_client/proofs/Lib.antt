@@ -1,0 +1,4 @@
+pub mod AskLaws
+pub mod FieldLaws
+pub mod MessageLaws
+pub mod ResponseLemmas
