@@ -13,4 +13,6 @@ mod partial_files_tests;
 #[cfg(test)]
 mod receipts_tests;
 #[cfg(test)]
+mod tree_changes_tests;
+#[cfg(test)]
 mod tree_office_tests;
