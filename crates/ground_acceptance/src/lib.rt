@@ -5,6 +5,8 @@
 #[cfg(test)]
 mod caller_doors_tests;
 #[cfg(test)]
+mod certificate_judge_tests;
+#[cfg(test)]
 mod disk_trait_tests;
 #[cfg(test)]
 mod file_names_tests;

@@ -1,0 +1,5 @@
+pub mod Faults
+pub mod Verdicts
+pub mod Judging
+pub mod Right
+pub mod RightLaws
