@@ -66,6 +66,7 @@ hex() {
 usage='usage: backup_server pipe --store DIR [--settings FILE]
        backup_server serve --listen ADDR [--connections N] --store DIR [--settings FILE]
        backup_server night [--scheduled] --store DIR [--settings FILE]
+       backup_server migrate --store DIR [--settings FILE]
        backup_server dump-folder --host H --kind full|incr --store DIR [--settings FILE] FOLDER
        backup_server restore-folder --host H --number N --store DIR [--settings FILE] FOLDER
        backup_server demo --store DIR [--settings FILE] NUMBER'
@@ -79,7 +80,7 @@ Usage: backup_server <COMMAND>
 $usage"
 attempt
 judge 'no words' 2 "error: 'backup_server' requires a subcommand but one was not provided
-  [subcommands: pipe, serve, night, dump-folder, restore-folder, demo]
+  [subcommands: pipe, serve, night, migrate, dump-folder, restore-folder, demo]
 
 Usage: backup_server <COMMAND>
 $usage"
@@ -145,6 +146,11 @@ $usage"
 attempt demo --store made 18446744073709551616
 judge 'a demo of a number that is too large' 2 "error: invalid value '18446744073709551616' for '<number>': number too large to fit in target type
 $usage"
+attempt migrate --store made pc1
+judge 'a migration of one host' 2 "error: unexpected argument 'pc1' found
+
+Usage: backup_server migrate [OPTIONS] --store <store>
+$usage"
 attempt pipe --store "made$(printf '\377')"
 judge 'a word that is not UTF-8' 2 "$usage"
 [ -z "$(ls -d made* 2>/dev/null)" ]
@@ -190,6 +196,36 @@ attempt pipe --store unread --settings .
 judge 'a settings file that is a folder' 8 "the settings file . can't be read: Is a directory (os error 21)"
 [ ! -e unread ]
 expect 'settings that cannot be read make nothing'
+
+# Migrations: of an empty store, and of one that has a table of the first layout.
+echo 'migrated 0' >want
+attempt migrate --store olden
+judge 'a migration of an empty store' 0 ''
+{
+    ask PUT /hosts/pc1
+    ask POST '/hosts/pc1/dumps?kind=full'
+    ask PUT '/dumps/2-0/entry?path=a.txt&kind=file' hello
+    ask POST /dumps/2-0/commit
+} >in
+"$program" pipe --store olden <in >out 2>err
+cp olden/table-0-0 second
+{
+    printf 'RTB1\000\000\000\001\001\000\005a.txt\000\000\001\244'
+    printf '\000\000\000\000\000\000\000\000\000\000\000\000\000\000\000\000\000\000\000\000\000\000\000\005'
+    printf '\135\101\100\052\274\113\052\166\271\161\235\221\020\027\305\222\000\000'
+    printf '\364\125\344\003\242\234\021\342\046\174\262\031\070\322\001\377'
+} >olden/table-0-0
+ask GET '/hosts/pc1/backups/0/file?path=a.txt' >in
+"$program" pipe --store olden <in >out 2>err
+has hello
+expect 'a table of the first layout is read'
+: >in
+echo 'migrated 1' >want
+attempt migrate --store olden
+judge 'a migration' 0 ''
+cmp -s olden/table-0-0 second
+expect 'the table is of the second layout afterwards'
+: >want
 
 # Nights of an empty store.
 printf 'BackupPCNightlyPeriod = 4\n' >settings
