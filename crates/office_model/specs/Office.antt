@@ -51,10 +51,11 @@ pub record Dump : Type 0 where
   pub token : Option Token
   pub kept : List Token
 
--- an open restore; its position is the number of frames that were given
+-- an open restore, of what leads from the base, if it has one, to the tree; its position is the number of frames that were given
 pub record Restore : Type 0 where
   pub name : SessionName
   pub tree : Tree
+  pub base : Option Tree
   pub position : ℕ
 
 -- an open stage of the open dump of this name, with the bytes that came

@@ -3,7 +3,7 @@
 use Rattle.std.specs.Prelude.{◌≡◌, ℕ, List, [], ◌∷◌, ◌++◌, Some, Ok, slice_get}
 use Rattle.receipts.specs.declared.session.SessionName.{SessionName}
 use Rattle.office_model.specs.declared.event.Event.{Event}
-use Rattle.office_model.specs.declared.event.Event.TheVariants.{Commit, Park, DropPartial}
+use Rattle.office_model.specs.declared.event.Event.TheVariants.{Commit, Adopt, Park, DropPartial}
 use Rattle.office_model.specs.Office.{Office, Host, Dump, Names, Partial}
 use Rattle.office_model.specs.Meaning.{Carried}
 use Rattle.office_model.specs.Parts.{At, dump_at, backup_of}
@@ -23,9 +23,10 @@ pub record IsDumpOf (office : Office) (session : SessionName) (name : List ℕ) 
   pub is_host : slice_get office.hosts dump.value.host ≡ Some host
   pub named : host.name ≡ name
 
--- the event commits or parks a dump of the host, or drops its partial
+-- the event commits, adopts or parks a dump of the host, or drops its partial
 abbrev pub MayPart : Office → Event → List ℕ → Type 0
 MayPart office (Commit session now) name = IsDumpOf office session name
+MayPart office (Adopt session number start end kind) name = IsDumpOf office session name
 MayPart office (Park session) name = IsDumpOf office session name
 MayPart office (DropPartial dropped) name = dropped ≡ name
 MayPart office event name = ⊥

@@ -23,14 +23,17 @@ pub enum Node {
     Link(Link),
 }
 
-/// What a restore gives next: the paths of a tree in their order, behind each file its bytes in
-/// pieces of at most 65,536, and last the end.
+/// What a restore gives next: with a base first the paths that its tree lost, then the paths of its tree in their order,
+/// with a base those alone that the base has otherwise or lacks, behind each file its bytes in pieces of at most 65,536,
+/// and last the end.
 #[derive(Debug, Drop)]
 pub enum Frame {
+    /// A path of the base that the tree lost, with all below it.
+    Deleted(PathName),
     Entry { path: PathName, node: Node },
     /// Bytes of the last file that was given.
     Piece(Bytes),
-    /// How many paths the tree has.
+    /// How many entries there were.
     End(u32),
 }
 

@@ -10,6 +10,7 @@ use Rattle.office_model.specs.declared.answer.Answer.{Answer}
 use Rattle.office_model.specs.declared.answer.Answer.TheVariants.{Done}
 use Rattle.office_model.specs.declared.event.PutItem.{PutItem}
 use Rattle.office_model.specs.declared.event.PutItem.TheVariants.{Whole, Staged}
+use Rattle.office_model.specs.declared.refusal.BrokenRule.{BrokenRule}
 use Rattle.office_model.specs.Office.{Office, Host, Dump, Stage, with_dumps, with_stages, IsSound}
 use Rattle.office_model.specs.Meaning.{Carried, Judged, Reply, ◌>>=◌}
 use Rattle.office_model.specs.Parts.{At}
@@ -21,7 +22,7 @@ use Rattle.office_model.specs.laws.PutLaws.{may_put_stage, kept-with_put}
 use Rattle.office_model.specs.laws.RepeatLaws.{SameKept, IsSound-kept}
 use Rattle.office_model.specs.laws.StageLaws.{IsSound-stage_removed}
 use Rattle.tree_tokens.specs.Turns.{repeated_at, place_for, kept_by, turned, IsPlace}
-use Rattle.tree_tokens.specs.TurnLaws.{opening_turned, once_turned, may_keep, kept_is}
+use Rattle.tree_tokens.specs.TurnLaws.{opening_turned, opening_broken, once_turned, may_keep, kept_is}
 use Rattle.tree_office.specs.Steps.{IsMemoryStep, put_where}
 
 -- ---- openings
@@ -41,6 +42,16 @@ first_is name token hosts dumps inside old given h d same none is =
     (subst (λ (ds : List Dump). repeated_at name token inside.hosts ds ≡ Ok None) d
     (subst (λ (hs : List Host). repeated_at name token hs dumps ≡ Ok None) h
     (subst (λ (g : Option Answer). repeated_at name token hosts dumps ≡ Ok g) none is)))
+
+-- an opening whose token is judged to break a rule breaks it
+pub broken_opens : (name : List ℕ) (kind : Kind) (now : ℕ) (given : Option Token) (token : Token) (hosts : List Host) (dumps : List Dump)
+    (inside old : Office) (rule : BrokenRule) → given ≡ Some token → hosts ≡ inside.hosts → dumps ≡ inside.dumps → inside ≡ old
+    → repeated_at name token hosts dumps ≡ Err rule → carried name kind now given old ≡ Err rule
+broken_opens name kind now given token hosts dumps inside old rule some h d same is =
+    subst (λ (t : Option Token). carried name kind now t old ≡ Err rule) (sym some) (opening_broken name kind now token old rule
+    (subst (λ (o : Office). repeated_at name token o.hosts o.dumps ≡ Err rule) same
+    (subst (λ (ds : List Dump). repeated_at name token inside.hosts ds ≡ Err rule) d
+    (subst (λ (hs : List Host). repeated_at name token hs dumps ≡ Err rule) h is))))
 
 -- ---- puts and removals
 

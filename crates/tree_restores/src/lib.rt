@@ -5,11 +5,13 @@
 //! | Module | What it has |
 //! |---|---|
 //! | `restores` | an open restore: opened, read from, closed |
-//! | `frames` | the frames of a tree |
+//! | `frames` | the frames of a tree, and of what leads from a base to it |
+//! | `changes` | what leads from a base to a tree: the paths that it lost, and what it has otherwise |
 //!
 //! A call: `read_next(alloc, &mut restores, &name)?` gives the next frame.
 #![tactic(auto)]
 
+mod changes;
 mod frames;
 mod restores;
 

@@ -1,15 +1,18 @@
 -- A commit, as the parts of an office in memory make it, and that it keeps an office sound.
-use Rattle.std.specs.Prelude.{◌≡◌, ◌≢◌, ◌<◌, ◌≤◌, ℕ, Bool, true, false, not, List, Option, None, Some, Ok, is_some, slice_get, slice_set, if◌then◌else◌, ◌⊎◌}
+use Rattle.std.specs.Prelude.{◌≡◌, ◌≢◌, ◌<◌, ◌≤◌, ◌&&◌, nat_le, nat_lt, ℕ, Bool, true, false, not, List, Option, None, Some, Ok, is_some, slice_get, slice_set, if◌then◌else◌, ◌⊎◌}
 use Rattle.std.specs.Option.{option_map}
 use Rattle.std.specs.List.{remove}
 use Rattle.std.proofs.Common.{refl, sym, ap, ◌∙◌, subst, inl, inr, arith}
+use Rattle.std.proofs.lemmas.Bool.{leb-true, ltb-true}
 use Rattle.attr_records.specs.Items.{Tree}
 use Rattle.backup_rules.specs.Values.{RuleSet}
+use Rattle.backup_rules.specs.declared.lines.Kind.{Kind}
+use Rattle.backup_rules.specs.declared.lines.Line.{Line}
 use Rattle.receipts.specs.declared.session.SessionName.{SessionName}
 use Rattle.office_model.specs.declared.answer.Answer.{Answer}
 use Rattle.office_model.specs.declared.answer.Answer.TheVariants.{Committed}
 use Rattle.office_model.specs.declared.answer.AnswerKind.TheVariants as K
-use Rattle.office_model.specs.declared.refusal.BrokenRule.TheVariants.{NoSession}
+use Rattle.office_model.specs.declared.refusal.BrokenRule.TheVariants.{NoSession, NumberBehind}
 use Rattle.office_model.specs.Places.{AtEach, AtEach-set, AtEach-longer, slice_get-set_other, slice_get-remove, place_before, place_before-other}
 use Rattle.office_model.specs.Pool.{Pool, is_pooled, holds, with_tree}
 use Rattle.receipts.specs.declared.receipt.Receipt.{Receipt}
@@ -21,8 +24,10 @@ use Rattle.office_model.specs.UsedNames.{AreSound}
 use Rattle.office_model.specs.Repeats.{receipt_named}
 use Rattle.office_model.specs.Parts.{dump_at, with_last, with_newest, filled_as}
 use Rattle.backup_rules.specs.Fill.{stays_filled}
-use Rattle.office_model.specs.events.Commit.{Committing, committed, after, new_backup, with_commit, ended, repeated, meaning}
-use Rattle.office_model.specs.laws.Judging.{bound, at_is, found_is}
+use Rattle.office_model.specs.events.Commit.{Ending, new_line, at_time, Committing, committed, after, new_backup, with_commit, ended, repeated, ends, meaning}
+use Rattle.office_model.specs.events.Adopt.{adopted_line, is_free, as_there}
+use Rattle.office_model.specs.events.Adopt as Adopt
+use Rattle.office_model.specs.laws.Judging.{bound, passed, at_is, found_is}
 use Rattle.office_model.specs.laws.ReceiptLaws.{AreReceipts-more, AreEnded-more, AtEachReceipt-more}
 use Rattle.office_model.specs.laws.RepeatLaws.{given_as, again_is}
 use Rattle.office_model.specs.laws.DurableLaws.{AreHosts-set, partial_more}
@@ -34,16 +39,41 @@ use Rattle.office_model.specs.laws.Lawful.{IsLawful, Does, judged, does, does_no
 use Rattle.office_model.specs.laws.PoolLaws.{tree_keeps, tree_has, tree_order}
 use Rattle.office_model.specs.laws.BackupLaws.{numbered_refilled, numbered_longer, last_longer, with_last-at}
 
-IsSoundHost-commit : (host : Host) (dump : Dump) (now : ℕ) → IsSoundHost host → host.next < number_limit → IsTree dump.tree
-    → IsUnspent host.receipts dump.token → IsSoundHost (with_commit host dump now)
-IsSoundHost-commit host dump now sound room tree unspent = record {
-  numbers = omega (arith, room);
+-- what a soundly ended dump's line is: filled, of a number that the host has not used, below the limit
+pub record IsLineOf (host : Host) (line : Line) : Type 0 where
+  pub filled : line.filled ≡ true
+  pub free : host.next ≤ line.number
+  pub below : line.number < number_limit
+
+abbrev pub EndsWell : Ending → Type 0
+EndsWell ending = (host : Host) (dump : Dump) (line : Line) → host.next < number_limit → ending host dump ≡ Ok line → IsLineOf host line
+
+at_time_well : (now : ℕ) → EndsWell (at_time now)
+at_time_well now host dump line room e =
+    let same : new_line host dump now ≡ line = cc in
+    subst (IsLineOf host) same (record { filled = refl; free = omega arith; below = room })
+
+as_there_well : (there : Line) → there.filled ≡ true → EndsWell (as_there there)
+as_there_well there filled host dump line room e =
+    let a = passed NumberBehind (not (is_free host.next there.number)) (Ok there) line e in
+    let same : there ≡ line = let f = a.1 in cc in
+    subst (IsLineOf host) same (free (nat_le host.next there.number) (nat_lt there.number number_limit) refl refl a.0)
+  where
+    free : (a b : Bool) → nat_le host.next there.number ≡ a → nat_lt there.number number_limit ≡ b → not (a && b) ≡ false → IsLineOf host there
+    free true true e f g = record { filled = filled; free = leb-true host.next there.number e; below = ltb-true there.number number_limit f }
+    free true false e f g = absurd (cc)
+    free false b e f g = absurd (cc)
+
+IsSoundHost-commit : (host : Host) (dump : Dump) (line : Line) → IsSoundHost host → IsLineOf host line → IsTree dump.tree
+    → IsUnspent host.receipts dump.token → IsSoundHost (with_commit host dump line)
+IsSoundHost-commit host dump line sound is tree unspent = record {
+  numbers = omega (arith, is.below);
   backups = record {
-    numbered = numbered_longer host.next _ (new_backup host dump now) (numbered_refilled host.next (λ last. stays_filled host.rules last.line) host.backups sound.backups.numbered) refl tree;
-    last_filled = λ last e. ap (λ (x : Backup). x.line.filled) (last_longer (with_last (λ last. filled_as (stays_filled host.rules last.line) last) host.backups) (new_backup host dump now) last e);
+    numbered = numbered_longer host.next _ (new_backup dump line) (numbered_refilled host.next (λ last. stays_filled host.rules last.line) host.backups sound.backups.numbered) is.free tree;
+    last_filled = λ last e. ap (λ (x : Backup). x.line.filled) (last_longer (with_last (λ last. filled_as (stays_filled host.rules last.line) last) host.backups) (new_backup dump line) last e) ∙ is.filled;
   };
   partial = tt;
-  receipts = AreReceipts-more dump.token dump.name host.next host.receipts sound.receipts unspent;
+  receipts = AreReceipts-more dump.token dump.name line.number host.receipts sound.receipts unspent;
 }
 
 -- another open dump is of another host
@@ -83,10 +113,10 @@ pooled_newest pool pool' rules backups new more each pooled = AtEach-longer (λ 
         let w = with_last-at (λ (b : Backup). b.tree) (λ last. filled_as (stays_filled rules last.line) last) (λ last. refl) backups i backup at in
         subst (IsPooledTree pool') (sym w.2) (more w.0.tree (each i w.0 w.1))
 
-pub IsSound-committed : (office : Office) (session : SessionName) (now : ℕ) (parts : Committing) → IsSound office
-    → committed session now office.hosts office.pool office.dumps ≡ Ok parts
+pub IsSound-committed : (office : Office) (session : SessionName) (ending : Ending) (parts : Committing) → EndsWell ending → IsSound office
+    → committed session ending office.hosts office.pool office.dumps ≡ Ok parts
     → IsSound (after session office parts)
-IsSound-committed office session now parts sound e =
+IsSound-committed office session ending parts well sound e =
     let a = bound (dump_at office.dumps session) _ parts e in
     let dump : Dump = a.0.value in
     let is_dump : slice_get office.dumps a.0.index ≡ Some dump = (at_is _ office.dumps _ a.0 a.1).1 in
@@ -97,32 +127,34 @@ IsSound-committed office session now parts sound e =
     let same_host : has.host ≡ host = let h = has.is_host in cc in
     let room : host.next < number_limit = subst (λ (h : Host). h.next < number_limit) same_host has.has_number in
     let unspent : IsUnspent host.receipts dump.token = subst (λ (h : Host). IsUnspent h.receipts dump.token) same_host has.unspent in
+    let l = bound (ending host dump) _ parts b.2 in
+    let line : Line = l.0 in
     let more : (tree : Tree) → IsPooledTree office.pool tree → IsPooledTree (with_tree office.pool dump.tree) tree = λ tree pooled content h. tree_keeps office.pool dump.tree content (pooled content h) in
     let made : Committing = record {
-      number = host.next;
-      hosts = slice_set office.hosts dump.host (with_commit host dump now);
+      number = line.number;
+      hosts = slice_set office.hosts dump.host (with_commit host dump line);
       pool = with_tree office.pool dump.tree;
       dumps = remove office.dumps a.0.index;
     } in
-    let same : made ≡ parts = let f = b.2 in cc in
+    let same : made ≡ parts = let f = l.2 in cc in
     subst (λ (p : Committing). IsSound (after session office p)) same (record {
       kept = record {
-        hosts = AreHosts-set office.hosts dump.host host (with_commit host dump now) is_host refl
-            (IsSoundHost-commit host dump now (sound.hosts.each dump.host host is_host) room (sound.dumps.trees a.0.index dump is_dump) unspent) sound.hosts;
+        hosts = AreHosts-set office.hosts dump.host host (with_commit host dump line) is_host refl
+            (IsSoundHost-commit host dump line (sound.hosts.each dump.host host is_host) (well host dump line room l.1) (sound.dumps.trees a.0.index dump is_dump) unspent) sound.hosts;
         pool_order = tree_order office.pool dump.tree sound.pool_order;
-        of_backups = AtEach-set (λ (h : Host). AtEach (λ (backup : Backup). IsPooledTree (with_tree office.pool dump.tree) backup.tree) h.backups) office.hosts dump.host (with_commit host dump now)
+        of_backups = AtEach-set (λ (h : Host). AtEach (λ (backup : Backup). IsPooledTree (with_tree office.pool dump.tree) backup.tree) h.backups) office.hosts dump.host (with_commit host dump line)
             (λ i h at n backup at_backup. more backup.tree (sound.of_backups i h at n backup at_backup))
-            (pooled_newest office.pool (with_tree office.pool dump.tree) host.rules host.backups (new_backup host dump now) more (sound.of_backups dump.host host is_host) (tree_has office.pool dump.tree));
-        of_partials = AtEach-set (IsPooledPartial (with_tree office.pool dump.tree)) office.hosts dump.host (with_commit host dump now)
+            (pooled_newest office.pool (with_tree office.pool dump.tree) host.rules host.backups (new_backup dump line) more (sound.of_backups dump.host host is_host) (tree_has office.pool dump.tree));
+        of_partials = AtEach-set (IsPooledPartial (with_tree office.pool dump.tree)) office.hosts dump.host (with_commit host dump line)
             (λ i h at. partial_more office.pool (with_tree office.pool dump.tree) h more (sound.of_partials i h at)) tt;
-        ended = AreEnded-more office.hosts dump.host host (with_commit host dump now) dump.token dump.name host.next is_host refl office.epoch sound.ended
+        ended = AreEnded-more office.hosts dump.host host (with_commit host dump line) dump.token dump.name line.number is_host refl office.epoch sound.ended
             (λ i n r at same. (sound.over i n r at).no_dump a.0.index dump is_dump (sym same))
             (no_later dump.name.epoch office.epoch (sound.sessions.dumps_given a.0.index dump is_dump).this_epoch);
       };
       now = dump_removed office.epoch office.volatile sound.now a.0.index dump session is_dump (named office.dumps session a.0.index dump (at_is _ office.dumps _ a.0 a.1).0 is_dump);
       tied = record {
-        hosted = hosted-commit office.hosts office.dumps a.0.index dump (with_commit host dump now) sound.dumps sound.hosted is_dump;
-        over = AtEachReceipt-more office.hosts dump.host host (with_commit host dump now) dump.token dump.name host.next is_host refl
+        hosted = hosted-commit office.hosts office.dumps a.0.index dump (with_commit host dump line) sound.dumps sound.hosted is_dump;
+        over = AtEachReceipt-more office.hosts dump.host host (with_commit host dump line) dump.token dump.name line.number is_host refl
             (IsOver office.epoch office.sequence (remove office.dumps a.0.index) office.restores)
             (λ i n r at. over_dump_removed office.epoch office.sequence office.dumps office.restores r (sound.over i n r at) a.0.index)
             (over_committed office a.0.index dump sound is_dump);
@@ -132,20 +164,21 @@ IsSound-committed office session now parts sound e =
       };
     })
 
-held-committed : (content : List ℕ) (office : Office) (session : SessionName) (now : ℕ) (parts : Committing)
-    → committed session now office.hosts office.pool office.dumps ≡ Ok parts
+held-committed : (content : List ℕ) (office : Office) (session : SessionName) (ending : Ending) (parts : Committing)
+    → committed session ending office.hosts office.pool office.dumps ≡ Ok parts
     → is_held parts.pool parts.dumps content ≡ true → Reason content office Same
-held-committed content office session now parts e h =
+held-committed content office session ending parts e h =
     let a = bound (dump_at office.dumps session) _ parts e in
     let was : slice_get office.dumps a.0.index ≡ Some a.0.value = (at_is _ office.dumps _ a.0 a.1).1 in
     let b = bound (found NoSession (slice_get office.hosts a.0.value.host)) _ parts a.2 in
+    let l = bound (ending b.0 a.0.value) _ parts b.2 in
     let made : Committing = record {
-      number = b.0.next;
-      hosts = slice_set office.hosts a.0.value.host (with_commit b.0 a.0.value now);
+      number = l.0.number;
+      hosts = slice_set office.hosts a.0.value.host (with_commit b.0 a.0.value l.0);
       pool = with_tree office.pool a.0.value.tree;
       dumps = remove office.dumps a.0.index;
     } in
-    let same : made ≡ parts = let f = b.2 in cc in
+    let same : made ≡ parts = let f = l.2 in cc in
     held_by content office Same (with_tree office.pool a.0.value.tree) (remove office.dumps a.0.index)
     (λ g. step a.0.index a.0.value was (pooled-with_tree content office.pool a.0.value.tree g)) (λ g. was_in_dumps content office Same (removed_held content office.dumps a.0.index g))
     (ap (λ (p : Committing). is_held p.pool p.dumps content) same ∙ h)
@@ -155,18 +188,19 @@ held-committed content office session now parts e h =
     step i dump at (inl f) = was_pooled content office Same f
     step i dump at (inr f) = was_in_dumps content office Same (one_holds content office.dumps i dump at f)
 
-ended_does : (session : SessionName) (now : ℕ) (office : Office) (names : Names) (c : Carried) → AreSound office names → ended session now office ≡ Ok c
-    → Does (meaning session now) office names c
-ended_does session now office names c sound e =
-    let a = bound (committed session now office.hosts office.pool office.dumps) _ c e in
+ended_does : (session : SessionName) (ending : Ending) (office : Office) (names : Names) (c : Carried) → EndsWell ending → AreSound office names
+    → ended session ending office ≡ Ok c
+    → Does (ends session ending) office names c
+ended_does session ending office names c well sound e =
+    let a = bound (committed session ending office.hosts office.pool office.dumps) _ c e in
     does _ office names sound _ c a.2 (record {
       in_kind = refl;
-      sound = IsSound-committed office session now a.0 sound.office a.1;
+      sound = IsSound-committed office session ending a.0 well sound.office a.1;
       numbers = record {
         stages = AtEach-filter (λ (s : Stage). s.number < names.next_stage) (λ (s : Stage). not (is_same_session s.dump session)) office.stages sound.names.given.stages;
         readers = sound.names.given.readers;
       };
-      held = λ content h. held-committed content office session now a.0 a.1 h;
+      held = λ content h. held-committed content office session ending a.0 a.1 h;
     })
 
 -- ---- repeated
@@ -181,10 +215,17 @@ repeated_kind session hosts dumps answer e = step (is_some (dump_index dumps ses
     step false None f = absurd (cc)
     step false (Some receipt) f = let same : Committed receipt.number ≡ answer = cc in ap kind_of (sym same)
 
-pub lawful : (session : SessionName) (now : ℕ) → IsLawful (meaning session now)
-lawful session now office names c sound e = step (again_is office (repeated session office.hosts office.dumps) (ended session now office) c e)
+ending_lawful : (session : SessionName) (ending : Ending) → EndsWell ending → IsLawful (ends session ending)
+ending_lawful session ending well office names c sound e =
+    step (again_is office (repeated session office.hosts office.dumps) (ended session ending office) c e)
   where
     step : ((answer : Answer) × (repeated session office.hosts office.dumps ≡ Some answer) × (judged (given_as answer office) ≡ judged c))
-        ⊎ ((repeated session office.hosts office.dumps ≡ None) × (ended session now office ≡ Ok c)) → Does (meaning session now) office names c
+        ⊎ ((repeated session office.hosts office.dumps ≡ None) × (ended session ending office ≡ Ok c)) → Does (ends session ending) office names c
     step (inl f) = does _ office names sound _ c f.2 (does_nothing _ office names sound f.0 (repeated_kind session office.hosts office.dumps f.0 f.1))
-    step (inr f) = ended_does session now office names c sound f.1
+    step (inr f) = ended_does session ending office names c well sound f.1
+
+pub lawful : (session : SessionName) (now : ℕ) → IsLawful (meaning session now)
+lawful session now = ending_lawful session (at_time now) (at_time_well now)
+
+pub adopt : (session : SessionName) (number start end : ℕ) (kind : Kind) → IsLawful (Adopt.meaning session number start end kind)
+adopt session number start end kind = ending_lawful session (as_there (adopted_line number start end kind)) (as_there_well (adopted_line number start end kind) refl)

@@ -9,7 +9,7 @@ use Rattle.receipts.specs.declared.session.Token.{Token}
 use Rattle.office_model.specs.declared.answer.Answer.{Answer}
 use Rattle.office_model.specs.declared.answer.Answer.TheVariants.{Done, Reopened}
 use Rattle.office_model.specs.declared.event.Event.{Event}
-use Rattle.office_model.specs.declared.event.Event.TheVariants.{AddHost, SetRules, OpenDump, Put, Remove, StageOpen, StagePiece, StageDrop, Commit, Abort, Park, Resume, DropPartial, PartialInfo, List as ListEvent, Lookup, ReadFile, OpenFile, ReadPart, CloseFile, OpenRead, ReadNext, CloseRead, Keep, Delete, Expire, Migrate, Contact, Due, Clean, Sweep, Stats, Hosts, Backups, Reopen}
+use Rattle.office_model.specs.declared.event.Event.TheVariants.{AddHost, SetRules, OpenDump, Put, Remove, StageOpen, StagePiece, StageDrop, Commit, Adopt, Abort, Park, Resume, DropPartial, PartialInfo, List as ListEvent, Lookup, ReadFile, OpenFile, ReadPart, CloseFile, OpenRead, ReadNext, CloseRead, Keep, Delete, Expire, Migrate, Contact, Due, Clean, Sweep, Stats, Hosts, Backups, Reopen}
 use Rattle.office_model.specs.declared.event.PutItem.{PutItem}
 use Rattle.office_model.specs.declared.event.PutItem.TheVariants.{Whole, Staged}
 use Rattle.office_model.specs.declared.refusal.BrokenRule.TheVariants.{BadBucket, NumbersSpent, NoSession, TokensFull}
@@ -237,13 +237,14 @@ remove_follows session path office c e =
           (follow_set (next_session office) office.dumps b.0.index b.0.value (events.Remove.with_removed b.0.value path) was refl (λ token h. h));
     })
 
-ended_follows : (session : SessionName) (now : ℕ) (office : Office) (c : Carried) → events.Commit.ended session now office ≡ Ok c
+ended_follows : (session : SessionName) (ending : events.Commit.Ending) (office : Office) (c : Carried) → events.Commit.ended session ending office ≡ Ok c
     → Follows office c.after
-ended_follows session now office c e =
-    let a = bound (events.Commit.committed session now office.hosts office.pool office.dumps) _ c e in
+ended_follows session ending office c e =
+    let a = bound (events.Commit.committed session ending office.hosts office.pool office.dumps) _ c e in
     let b = bound (dump_at office.dumps session) _ a.0 a.1 in
     let d = bound (found NoSession (slice_get office.hosts b.0.value.host)) _ a.0 b.2 in
-    let dumps_are : remove office.dumps b.0.index ≡ a.0.dumps = let f = d.2 in cc in
+    let l = bound (ending d.0 b.0.value) _ a.0 d.2 in
+    let dumps_are : remove office.dumps b.0.index ≡ a.0.dumps = let f = l.2 in cc in
     follows_as office _ c a.2 (record {
       epoch = refl;
       sequence = no_less office.sequence;
@@ -279,6 +280,11 @@ repeat_follows : (session : SessionName) (item : PutItem) (office : Office) → 
 repeat_follows session (Whole item) office = itself office
 repeat_follows session (Staged file) office = record { epoch = refl; sequence = no_less office.sequence; dumps = follow_same (next_session office) office.dumps }
 
+ending_follows : (session : SessionName) (ending : events.Commit.Ending) (office : Office) (c : Carried) → events.Commit.carried session ending office ≡ Ok c
+    → Follows office c.after
+ending_follows session ending office c e =
+    again_follows office (events.Commit.repeated session office.hosts office.dumps) (events.Commit.ended session ending office) c (ended_follows session ending office c) e
+
 abbrev is_reopen : Event → Bool
 is_reopen Reopen = true
 is_reopen event = false
@@ -302,7 +308,9 @@ follows (StagePiece number bytes) office names c reopen e =
 follows (StageDrop number) office names c reopen e =
     let a = bound (events.StageDrop.without_stage number office.stages) _ c e in alike office _ c a.2 refl (no_less office.sequence) refl
 follows (Commit session now) office names c reopen e =
-    again_follows office (events.Commit.repeated session office.hosts office.dumps) (events.Commit.ended session now office) c (ended_follows session now office c) e
+    ending_follows session (events.Commit.at_time now) office c e
+follows (Adopt session number start end kind) office names c reopen e =
+    ending_follows session (events.Adopt.as_there (events.Adopt.adopted_line number start end kind)) office c e
 follows (Abort session) office names c reopen e = abort_follows session office c e
 follows (Park session) office names c reopen e =
     let a = bound (events.Park.parked session office.hosts office.pool office.dumps) _ c e in alike office _ c a.2 refl (no_less office.sequence) refl
@@ -323,8 +331,8 @@ follows (ReadPart number) office names c reopen e =
     let a = bound (events.ReadPart.given piece_limit number office.readers) _ c e in alike office _ c a.2 refl (no_less office.sequence) refl
 follows (CloseFile number) office names c reopen e =
     let a = bound (events.CloseFile.without_reader number office.readers) _ c e in alike office _ c a.2 refl (no_less office.sequence) refl
-follows (OpenRead name number) office names c reopen e =
-    let a = bound (events.OpenRead.with_restore name number (next_session office) office.hosts office.restores) _ c e in alike office _ c a.2 refl (one_more office.sequence) refl
+follows (OpenRead name number base) office names c reopen e =
+    let a = bound (events.OpenRead.with_restore name number base (next_session office) office.hosts office.restores) _ c e in alike office _ c a.2 refl (one_more office.sequence) refl
 follows (ReadNext session) office names c reopen e =
     let a = bound (events.ReadNext.given session office.restores) _ c e in alike office _ c a.2 refl (no_less office.sequence) refl
 follows (CloseRead session) office names c reopen e =

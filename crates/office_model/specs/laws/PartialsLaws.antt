@@ -9,7 +9,7 @@ use Rattle.office_model.specs.declared.answer.Answer.{Answer}
 use Rattle.office_model.specs.declared.answer.Answer.TheVariants.{Done, Reopened, Dump as Opened}
 use Rattle.backup_rules.specs.declared.lines.Kind.{Kind}
 use Rattle.office_model.specs.declared.event.Event.{Event}
-use Rattle.office_model.specs.declared.event.Event.TheVariants.{AddHost, SetRules, OpenDump, Put, Remove, StageOpen, StagePiece, StageDrop, Commit, Abort, Park, Resume, DropPartial, PartialInfo, List as ListEvent, Lookup, ReadFile, OpenFile, ReadPart, CloseFile, OpenRead, ReadNext, CloseRead, Keep, Delete, Expire, Migrate, Contact, Due, Clean, Sweep, Stats, Hosts, Backups, Reopen}
+use Rattle.office_model.specs.declared.event.Event.TheVariants.{AddHost, SetRules, OpenDump, Put, Remove, StageOpen, StagePiece, StageDrop, Commit, Adopt, Abort, Park, Resume, DropPartial, PartialInfo, List as ListEvent, Lookup, ReadFile, OpenFile, ReadPart, CloseFile, OpenRead, ReadNext, CloseRead, Keep, Delete, Expire, Migrate, Contact, Due, Clean, Sweep, Stats, Hosts, Backups, Reopen}
 use Rattle.office_model.specs.declared.event.PutItem.TheVariants.{Whole, Staged}
 use Rattle.office_model.specs.declared.refusal.BrokenRule.TheVariants.{NoHost, NoBackup, NoSession, NoPartial, NumbersSpent, BadBucket, TokensFull}
 use Rattle.office_model.specs.declared.refusal.Refusal.TheVariants.{Broken, Halted as HaltedReply, DiskFault, Damaged, Memory}
@@ -141,26 +141,33 @@ contact_keeps name good hosts made e i host at =
     kept_by (λ (x : events.Contact.Contacted). x.hosts) _ made a.2 i host
     (set_same hosts a.0.index a.0.value (events.Contact.with_contact a.0.value good) i host (at_is _ hosts _ a.0 a.1).1 same.0 same.1 at)
 
-commit_keeps : (office : Office) (session : SessionName) (now : ℕ) (parts : events.Commit.Committing)
-    → events.Commit.committed session now office.hosts office.pool office.dumps ≡ Ok parts → (i : ℕ) (host : Host)
+commit_keeps : (office : Office) (session : SessionName) (ending : events.Commit.Ending) (parts : events.Commit.Committing)
+    → events.Commit.committed session ending office.hosts office.pool office.dumps ≡ Ok parts → (i : ℕ) (host : Host)
     → slice_get office.hosts i ≡ Some host → (IsDumpOf office session host.name → ⊥) → SameHost parts.hosts i host
-commit_keeps office session now parts e i host at other =
+commit_keeps office session ending parts e i host at other =
     let a = bound (dump_at office.dumps session) _ parts e in
     let b = bound (found NoSession (slice_get office.hosts a.0.value.host)) _ parts a.2 in
     let is_host : slice_get office.hosts a.0.value.host ≡ Some b.0 = found_is _ _ _ b.1 in
-    kept_by (λ (x : events.Commit.Committing). x.hosts) _ parts b.2 i host
-    (set_other office.hosts a.0.value.host b.0 (events.Commit.with_commit b.0 a.0.value now) i host is_host
+    let l = bound (ending b.0 a.0.value) _ parts b.2 in
+    kept_by (λ (x : events.Commit.Committing). x.hosts) _ parts l.2 i host
+    (set_other office.hosts a.0.value.host b.0 (events.Commit.with_commit b.0 a.0.value l.0) i host is_host
     (λ same. other (record { dump = a.0; is_dump = a.1; host = b.0; is_host = is_host; named = ap (λ (h : Host). h.name) same })) at)
 
-commit_step : (office : Office) (session : SessionName) (now : ℕ) (c : Carried) (i : ℕ) (host : Host) → slice_get office.hosts i ≡ Some host
+commit_step : (office : Office) (session : SessionName) (ending : events.Commit.Ending) (c : Carried) (i : ℕ) (host : Host) → slice_get office.hosts i ≡ Some host
     → (IsDumpOf office session host.name → ⊥)
     → ((answer : Answer) × (events.Commit.repeated session office.hosts office.dumps ≡ Some answer) × (judged (given_as answer office) ≡ judged c))
-    ⊎ ((events.Commit.repeated session office.hosts office.dumps ≡ None) × (events.Commit.ended session now office ≡ Ok c))
+    ⊎ ((events.Commit.repeated session office.hosts office.dumps ≡ None) × (events.Commit.ended session ending office ≡ Ok c))
     → SameHost c.after.hosts i host
-commit_step office session now c i host at other (inl f) = stays (given_as f.0 office) c f.2 i host at
-commit_step office session now c i host at other (inr f) =
-    let a = bound (events.Commit.committed session now office.hosts office.pool office.dumps) _ c f.1 in
-    kept_by (λ (x : Carried). x.after.hosts) _ c a.2 i host (commit_keeps office session now a.0 a.1 i host at other)
+commit_step office session ending c i host at other (inl f) = stays (given_as f.0 office) c f.2 i host at
+commit_step office session ending c i host at other (inr f) =
+    let a = bound (events.Commit.committed session ending office.hosts office.pool office.dumps) _ c f.1 in
+    kept_by (λ (x : Carried). x.after.hosts) _ c a.2 i host (commit_keeps office session ending a.0 a.1 i host at other)
+
+ending_keeps : (office : Office) (session : SessionName) (ending : events.Commit.Ending) (c : Carried) → events.Commit.carried session ending office ≡ Ok c
+    → (i : ℕ) (host : Host) → slice_get office.hosts i ≡ Some host → (IsDumpOf office session host.name → ⊥) → SameHost c.after.hosts i host
+ending_keeps office session ending c e i host at other =
+    commit_step office session ending c i host at other
+    (again_is office (events.Commit.repeated session office.hosts office.dumps) (events.Commit.ended session ending office) c e)
 
 park_keeps : (office : Office) (session : SessionName) (parts : Parking)
     → events.Park.parked session office.hosts office.pool office.dumps ≡ Ok parts → (i : ℕ) (host : Host)
@@ -266,8 +273,9 @@ keeps (StagePiece number bytes) office names c e i host at other =
 keeps (StageDrop number) office names c e i host at other =
     let a = bound (events.StageDrop.without_stage number office.stages) _ c e in stays _ c a.2 i host at
 keeps (Commit session now) office names c e i host at other =
-    commit_step office session now c i host at other
-    (again_is office (events.Commit.repeated session office.hosts office.dumps) (events.Commit.ended session now office) c e)
+    ending_keeps office session (events.Commit.at_time now) c e i host at other
+keeps (Adopt session number start end kind) office names c e i host at other =
+    ending_keeps office session (events.Adopt.as_there (events.Adopt.adopted_line number start end kind)) c e i host at other
 keeps (Abort session) office names c e i host at other =
     let a = bound (events.Abort.without_dump session office.dumps) _ c e in stays _ c a.2 i host at
 keeps (Park session) office names c e i host at other =
@@ -292,8 +300,8 @@ keeps (ReadPart number) office names c e i host at other =
     let a = bound (events.ReadPart.given piece_limit number office.readers) _ c e in stays _ c a.2 i host at
 keeps (CloseFile number) office names c e i host at other =
     let a = bound (events.CloseFile.without_reader number office.readers) _ c e in stays _ c a.2 i host at
-keeps (OpenRead name number) office names c e i host at other =
-    let a = bound (events.OpenRead.with_restore name number (next_session office) office.hosts office.restores) _ c e in stays _ c a.2 i host at
+keeps (OpenRead name number base) office names c e i host at other =
+    let a = bound (events.OpenRead.with_restore name number base (next_session office) office.hosts office.restores) _ c e in stays _ c a.2 i host at
 keeps (ReadNext session) office names c e i host at other =
     let a = bound (events.ReadNext.given session office.restores) _ c e in stays _ c a.2 i host at
 keeps (CloseRead session) office names c e i host at other =

@@ -1,5 +1,5 @@
 -- An office stays sound where a restore is opened, goes on, and is dropped.
-use Rattle.std.specs.Prelude.{◌≡◌, ℕ, ◌+◌, false, List, [], ◌∷◌, ◌++◌, Some, Ok, nat_le, slice_get, slice_set}
+use Rattle.std.specs.Prelude.{◌≡◌, ℕ, ◌+◌, false, List, [], ◌∷◌, ◌++◌, Option, Some, Ok, nat_le, slice_get, slice_set}
 use Rattle.std.specs.List.{remove}
 use Rattle.std.proofs.Common.{refl, ap, ◌∙◌, subst}
 use Rattle.receipts.specs.declared.session.SessionName.{SessionName}
@@ -36,16 +36,17 @@ backup_found hosts name number backup e =
       is_backup = (at_is _ a.0.value.backups _ b.0 b.1).1 ∙ ap Some same;
     }
 
-pub IsSound-with_restore : (office : Office) (name : List ℕ) (number : ℕ) (hosts : List Host) (restores : List Restore) → IsSound office
+pub IsSound-with_restore : (office : Office) (name : List ℕ) (number : ℕ) (base : Option ℕ) (hosts : List Host) (restores : List Restore) → IsSound office
     → hosts ≡ office.hosts
-    → OpenRead.with_restore name number (next_session office) hosts office.restores ≡ Ok restores
+    → OpenRead.with_restore name number base (next_session office) hosts office.restores ≡ Ok restores
     → IsSound (numbered (with_restores office restores))
-IsSound-with_restore office name number hosts restores sound slice e =
-    let e : OpenRead.with_restore name number (next_session office) office.hosts office.restores ≡ Ok restores = subst (λ hs. OpenRead.with_restore name number (next_session office) hs office.restores ≡ Ok restores) slice e in
+IsSound-with_restore office name number base hosts restores sound slice e =
+    let e : OpenRead.with_restore name number base (next_session office) office.hosts office.restores ≡ Ok restores = subst (λ hs. OpenRead.with_restore name number base (next_session office) hs office.restores ≡ Ok restores) slice e in
     let a = bound (backup_of office.hosts name number) _ restores e in
     let at = backup_found office.hosts name number a.0 a.1 in
-    let restore : Restore = OpenRead.new_restore (next_session office) a.0.tree in
-    let c : (nat_le last_sequence office.sequence ≡ false) × (Ok (office.restores ++ restore ∷ []) ≡ Ok restores) = passed _ _ _ _ a.2 in
+    let b = bound (OpenRead.base_of office.hosts name base) _ restores a.2 in
+    let restore : Restore = OpenRead.new_restore (next_session office) a.0.tree b.0 in
+    let c : (nat_le last_sequence office.sequence ≡ false) × (Ok (office.restores ++ restore ∷ []) ≡ Ok restores) = passed _ _ _ _ b.2 in
     let same : office.restores ++ restore ∷ [] ≡ restores = let f = c.1 in cc in
     let host : IsSoundHost at.host = sound.hosts.each at.place at.host at.is_host in
     subst (λ rs. IsSound (numbered (with_restores office rs))) same (record {
@@ -59,10 +60,10 @@ IsSound-with_restore office name number hosts restores sound slice e =
       };
     })
 
-pub open_read : (name : List ℕ) (number : ℕ) → IsLawful (OpenRead.meaning name number)
-open_read name number office names c sound e =
-    let a = bound (OpenRead.with_restore name number (next_session office) office.hosts office.restores) _ c e in
-    does _ office names sound _ c a.2 (does_restores _ office names sound a.0 (office.sequence + 1) (A.Restore (next_session office)) refl (IsSound-with_restore office name number office.hosts a.0 sound.office refl a.1))
+pub open_read : (name : List ℕ) (number : ℕ) (base : Option ℕ) → IsLawful (OpenRead.meaning name number base)
+open_read name number base office names c sound e =
+    let a = bound (OpenRead.with_restore name number base (next_session office) office.hosts office.restores) _ c e in
+    does _ office names sound _ c a.2 (does_restores _ office names sound a.0 (office.sequence + 1) (A.Restore (next_session office)) refl (IsSound-with_restore office name number base office.hosts a.0 sound.office refl a.1))
 
 pub IsSound-given : (office : Office) (session : SessionName) (next : ReadNext.Given) → IsSound office
     → ReadNext.given session office.restores ≡ Ok next → IsSound (with_restores office next.restores)

@@ -134,7 +134,7 @@ commit_by_receipt office names now i n receipt sound at =
     let closed : is_some (dump_index office.dumps receipt.name) ≡ false = not_open office.dumps receipt.name (sound.office.over i n receipt at).no_dump in
     let its : receipt_named office.hosts receipt.name ≡ Some receipt = named_alone office.hosts i n receipt
     (λ j m other at_j same. sound.office.ended.differ j i m n other receipt at_j at same) at in
-    answered office (Committed receipt.number) (Commit.ended receipt.name now office) (Commit.repeated receipt.name office.hosts office.dumps)
+    answered office (Committed receipt.number) (Commit.ended receipt.name (Commit.at_time now) office) (Commit.repeated receipt.name office.hosts office.dumps)
     (ap (λ (b : Bool). if b then None else option_map (λ (x : Receipt). Committed x.number) (receipt_named office.hosts receipt.name)) closed
     ∙ ap (option_map (λ (x : Receipt). Committed x.number)) its)
 
