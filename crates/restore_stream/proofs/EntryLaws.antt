@@ -11,7 +11,7 @@ use Rattle.tree_frames.specs.declared.nodes.Node.TheVariants as N
 use Rattle.restore_stream.specs.Cuts.{Layout, chosen, seen_as}
 use Rattle.restore_stream.specs.Layouts.{kind_of}
 use Rattle.restore_stream.specs.Reading.{Finds, Refuses}
-use Rattle.restore_stream.specs.Streams.{u8_field, u32_field, u64_field, i64_field, text_field16, bytes_field_of, attr_layout, file_layout, dir_layout, link_layout, node_layout, entry_layout, piece_layout, file_made, dir_made, link_made, IsKind, IsNextPath, IsTarget}
+use Rattle.restore_stream.specs.Streams.{u8_field, u32_field, u64_field, i64_field, text_field16, bytes_field_of, attr_layout, file_layout, dir_layout, link_layout, node_layout, entry_of, piece_layout, file_made, dir_made, link_made, IsKind, IsTarget}
 use Rattle.restore_stream.proofs.ReadingLaws.{limited_refuses, limited_fits, first_refuses, then_refuses, then_finds, seen_refuses, seen_finds}
 
 pub same_start : (start : ℕ) → start ≡ start + 0
@@ -119,21 +119,21 @@ node_is_link kind e f =
 
 -- ---- entries
 
-module _ (start : ℕ) (fault : ReadStreamFault) (tree : Tree) where
-  pub kind_refuses : {old : Option (List ℕ)} → Refuses (u8_field IsKind) start old fault → Refuses (entry_layout tree) start old fault
-  unfolding entry_layout
+module _ (start : ℕ) (fault : ReadStreamFault) (P : List ℕ → Type 0) where
+  pub kind_refuses : {old : Option (List ℕ)} → Refuses (u8_field IsKind) start old fault → Refuses (entry_of P) start old fault
+  unfolding entry_of
   kind_refuses r = seen_refuses _ _ _ (first_refuses _ _ r)
 
   pub path_refuses : {old a : Option (List ℕ)} {kind : ℕ} → Finds (u8_field IsKind) old kind a
-      → Refuses (text_field16 (IsNextPath tree)) start a fault
-      → Refuses (entry_layout tree) start old fault
-  unfolding entry_layout
+      → Refuses (text_field16 P) start a fault
+      → Refuses (entry_of P) start old fault
+  unfolding entry_of
   path_refuses k r = seen_refuses _ _ _ (then_refuses _ _ k (same_start start) (first_refuses _ _ r))
 
   pub node_refuses : {old a b : Option (List ℕ)} {kind : ℕ} {path : List ℕ} → Finds (u8_field IsKind) old kind a
-      → Finds (text_field16 (IsNextPath tree)) a path b → Refuses (node_layout kind) start b fault
-      → Refuses (entry_layout tree) start old fault
-  unfolding entry_layout
+      → Finds (text_field16 P) a path b → Refuses (node_layout kind) start b fault
+      → Refuses (entry_of P) start old fault
+  unfolding entry_of
   node_refuses k p r = seen_refuses _ _ _ (then_refuses _ _ k (same_start start) (then_refuses _ _ p (same_start start) r))
 
 -- ---- pieces
@@ -190,10 +190,10 @@ link_kind (N.Dir dir) h = absurd h
 link_kind (N.Link link) h = refl
 
 -- an entry that came: its kind is that of the node
-pub entry_came : {old a b new : Option (List ℕ)} {kind : ℕ} {path : List ℕ} {node : Node} (tree : Tree) → Finds (u8_field IsKind) old kind a
-    → Finds (text_field16 (IsNextPath tree)) a path b → Finds (node_layout kind) b node new → Finds (entry_layout tree) old (path, node) new
-unfolding entry_layout
-entry_came {old} {a} {b} {new} {kind} {path} {node} tree k p f =
+pub entry_came : {old a b new : Option (List ℕ)} {kind : ℕ} {path : List ℕ} {node : Node} (P : List ℕ → Type 0) → Finds (u8_field IsKind) old kind a
+    → Finds (text_field16 P) a path b → Finds (node_layout kind) b node new → Finds (entry_of P) old (path, node) new
+unfolding entry_of
+entry_came {old} {a} {b} {new} {kind} {path} {node} P k p f =
     let is : kind_of node ≡ kind = kind_is kind node (limited_fits _ _ _ _ k).1 f.fits in
     seen_finds _ _ _ (path, node) (λ i. Some (is i, (path, node))) (then_finds _ _ k (then_finds _ _ p f))
   where

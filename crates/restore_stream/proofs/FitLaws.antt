@@ -25,7 +25,7 @@ use Rattle.restore_stream.specs.Trees.{IsMadeTree, IsAttr, IsItem, IsInRange, ma
 use Rattle.tree_frames.specs.Frames.{node_of, bytes_of, pieces_of, pieces}
 use Rattle.restore_stream.specs.Cuts.{Layout, field, nothing, followed_by, seen_as}
 use Rattle.restore_stream.specs.Sequences.{AreAll, sequence}
-use Rattle.restore_stream.specs.Streams.{limited, attr_layout, node_layout, entry_layout, piece_layout, piece_step, pieces_layout, size_of, row_layout, row_step, end_layout, rows_layout, stream_layout}
+use Rattle.restore_stream.specs.Streams.{limited, attr_layout, node_layout, entry_of, entry_layout, piece_layout, piece_step, pieces_layout, size_of, row_layout, row_step, end_layout, rows_layout, stream_layout}
 use Rattle.restore_stream.specs.Layouts.{kind_of}
 use Rattle.restore_stream.proofs.PieceReading.{step_more, step_done, concat-snoc}
 use Rattle.restore_stream.proofs.PrintLaws.{size_is, fewer, sums, some}
@@ -97,7 +97,7 @@ follows_there front row more is =
 
 -- ---- ranges
 
-attr_fits : (attr : Attributes) → IsAttr attr → attr_layout.Fits attr
+pub attr_fits : (attr : Attributes) → IsAttr attr → attr_layout.Fits attr
 unfolding attr_layout seen_as followed_by limited field
 attr_fits attr is = (
   (omega (arith, is.mode), is.mode),
@@ -113,7 +113,7 @@ node_fits (I.Link link) is =
 
 entry_fits : (front : Tree) (row : List ℕ × Item) → IsInRange row → may_follow front row.0 ≡ true
     → (entry_layout front).Fits (row.0, node_of row.1)
-unfolding entry_layout seen_as followed_by limited field
+unfolding entry_of seen_as followed_by limited field
 entry_fits front row is may =
     let n : length row.0 ≤ 4096 = short_path row.0 is.path in
     (kind (node_of row.1), ((omega (arith, n), (is.path, may)), node_fits row.1 is.item))

@@ -10,3 +10,4 @@ pub mod RowReading
 pub mod StreamLaws
 pub mod PrintLaws
 pub mod FitLaws
+pub mod OneFrameLaws

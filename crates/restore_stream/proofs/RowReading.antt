@@ -17,7 +17,7 @@ use Rattle.tree_frames.specs.Frames.{node_of, bytes_of, pieces}
 use Rattle.restore_stream.specs.Layouts.{attr_bytes, kind_of, node_bytes, entry_bytes, tail_length, magic}
 use Rattle.restore_stream.specs.Cuts.{Layout, field, followed_by, seen_as}
 use Rattle.restore_stream.specs.Sequences.{items_print}
-use Rattle.restore_stream.specs.Streams.{u8_field, u32_field, bytes_field_of, limited, attr_layout, node_layout, entry_layout, pieces_layout, size_of, item_of, row_layout, one_more, behind_tag, end_layout, row_step, rows_layout, stream_layout}
+use Rattle.restore_stream.specs.Streams.{u8_field, u32_field, bytes_field_of, limited, attr_layout, node_layout, entry_of, entry_layout, pieces_layout, IsNextPath, size_of, item_of, row_layout, one_more, behind_tag, end_layout, row_step, rows_layout, stream_layout}
 use Rattle.restore_stream.specs.Reading.{Finds, Refuses, ReadSoFar}
 use Rattle.restore_stream.proofs.ReadingLaws.{limited_fits, first_refuses, then_refuses, then_finds, seen_refuses, seen_finds}
 use Rattle.restore_stream.proofs.SequenceLaws.{none_read, more_read, all_read, stop_refuses, print-snoc}
@@ -78,11 +78,14 @@ entry_length path node = omega (
 )
 
 -- the print of an entry by the layout
+pub print_of_entry : (P : List ℕ → Type 0) (path : List ℕ) (node : Node) → (entry_of P).print (path, node) ≡ entry_bytes (path, node)
+unfolding entry_of node_layout attr_layout seen_as followed_by limited field entry_bytes attr_bytes
+print_of_entry P path (N.File file) = refl
+print_of_entry P path (N.Dir dir) = refl
+print_of_entry P path (N.Link link) = refl
+
 pub entry_print : (tree : Tree) (path : List ℕ) (node : Node) → (entry_layout tree).print (path, node) ≡ entry_bytes (path, node)
-unfolding entry_layout node_layout attr_layout seen_as followed_by limited field entry_bytes attr_bytes
-entry_print tree path (N.File file) = refl
-entry_print tree path (N.Dir dir) = refl
-entry_print tree path (N.Link link) = refl
+entry_print tree = print_of_entry (IsNextPath tree)
 
 -- ---- a path with what stands at it
 

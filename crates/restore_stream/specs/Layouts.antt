@@ -1,6 +1,6 @@
 -- The bytes of frames and of streams. Numbers are big-endian.
---     frame_bytes      an Entry is 45, kind u8, path t16, the attributes, and by kind a group and a size, or a target; a Piece is 44, its
---         length u32, its bytes; the End is 5A, the number of paths u32
+--     frame_bytes      a Deleted is 58, path t16; an Entry is 45, kind u8, path t16, the attributes, and by kind a group and a size, or a
+--         target; a Piece is 44, its length u32, its bytes; the End is 5A, the number of paths u32
 --     stream_bytes      RST2, and the frames of a tree
 use Rattle.std.specs.Prelude.{ℕ, ◌+◌, ◌<◌, ◌≤◌, List, [], ◌∷◌, ◌++◌, length}
 use Rattle.std.specs.Int.{w8, w16, w32, w64}
@@ -11,7 +11,7 @@ use Rattle.attr_records.specs.Items.{Tree}
 use Rattle.tree_frames.specs.declared.nodes.Node.{Node}
 use Rattle.tree_frames.specs.declared.nodes.Node.TheVariants.{File, Dir, Link}
 use Rattle.tree_frames.specs.declared.nodes.Frame.{Frame}
-use Rattle.tree_frames.specs.declared.nodes.Frame.TheVariants.{Entry, Piece, End}
+use Rattle.tree_frames.specs.declared.nodes.Frame.TheVariants.{Deleted, Entry, Piece, End}
 use Rattle.tree_frames.specs.Frames.{frames}
 
 -- mode, uid, gid, mtime, nanos
@@ -41,14 +41,16 @@ tail_length (Link link) = 2 + length link.target
 unfoldable pub entry_bytes : List ℕ × Node → List ℕ
 entry_bytes entry = number_bytes w8 (kind_of entry.1) ++ (text_bytes w16 entry.0 ++ node_bytes entry.1)
 
--- a frame begins with E, D or Z
+-- a frame begins with X, E, D or Z
 abbrev pub frame_bytes : Frame → List ℕ
+frame_bytes (Deleted path) = number_bytes w8 88 ++ text_bytes w16 path
 frame_bytes (Entry path node) = number_bytes w8 69 ++ entry_bytes (path, node)
 frame_bytes (Piece bytes) = number_bytes w8 68 ++ text_bytes w32 bytes
 frame_bytes (End count) = number_bytes w8 90 ++ number_bytes w32 count
 
 -- a piece has 1 to 65,536 bytes
 abbrev pub IsFrame : Frame → Type 0
+IsFrame (Deleted path) = Unit {0}
 IsFrame (Entry path node) = Unit {0}
 IsFrame (Piece bytes) = (0 < length bytes) × (length bytes ≤ 65536)
 IsFrame (End count) = Unit {0}

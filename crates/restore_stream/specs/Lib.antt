@@ -1,5 +1,6 @@
 pub mod Cuts
 pub mod Layouts
+pub mod OneFrame
 pub mod Reading
 pub mod Sequences
 pub mod Streams

@@ -154,11 +154,15 @@ IsKind kind = (1 ≤ kind) × (kind ≤ 3)
 abbrev pub IsNextPath : Tree → List ℕ → Type 0
 IsNextPath tree path = (broken_path_rule path ≡ None) × (may_follow tree path ≡ true)
 
--- kind, path, and what stands behind it
-unfoldable pub entry_layout : Tree → Layout (List ℕ × Node)
-entry_layout tree =
-    seen_as (then_ (u8_field IsKind) (λ kind. then_ (text_field16 (IsNextPath tree)) (λ _. node_layout kind)))
+-- kind, path of which P holds, and what stands behind it
+unfoldable pub entry_of : (List ℕ → Type 0) → Layout (List ℕ × Node)
+entry_of P =
+    seen_as (then_ (u8_field IsKind) (λ kind. then_ (text_field16 P) (λ _. node_layout kind)))
     (λ entry. Some (kind_of entry.1, (entry.0, entry.1))) (λ p. p.1) (λ entry p e. ap (λ q. q.1) (inside _ _ e))
+
+-- the same of a path that may follow those of a tree
+abbrev pub entry_layout : Tree → Layout (List ℕ × Node)
+entry_layout tree = entry_of (IsNextPath tree)
 
 -- ---- pieces
 

@@ -155,7 +155,7 @@ fn read_link<S: Source>(
 }
 
 /// Reads what stands behind the path of a node of a kind: 1 File, 2 Dir, 3 Link.
-fn read_node<S: Source>(
+pub fn read_node<S: Source>(
     alloc: Global,
     source: &mut S,
     start: usize,
@@ -177,7 +177,7 @@ fn read_node<S: Source>(
 }
 
 /// Reads the kind of a node.
-fn read_kind<S: Source>(source: &mut S, start: usize) -> Result<u8, ReadStreamFault>
+pub fn read_kind<S: Source>(source: &mut S, start: usize) -> Result<u8, ReadStreamFault>
     requires sent { S.sent source.old ≡ S.written source.old }
     ensures read { Reads (u8_field IsKind) start (λ kind. kind) (S.left source.old) result (S.left source.new) }
     ensures written { S.written source.new ≡ S.written source.old }

@@ -74,13 +74,20 @@ fn kind_of(node: &Node) -> u8
     }
 }
 
+/// Writes a path behind its length.
+fn put_path(out: &mut Vec<u8>, path: &PathName) -> Result<(), AllocError>
+    ensures { OnOk result (out.new.items ≡ out.old.items ++ text_bytes w16 path.now) }
+{
+    put_text16(out, path.as_slice())
+}
+
 /// Writes an entry behind its first byte: kind, path, and what stands behind it.
 #[tactic(auto, unfolding(crate::specs::Layouts::entry_bytes))]
 fn put_entry(out: &mut Vec<u8>, path: &PathName, node: &Node) -> Result<(), AllocError>
     ensures { OnOk result (out.new.items ≡ out.old.items ++ entry_bytes (path.now, node.now)) }
 {
     put_u8(out, kind_of(node))?;
-    put_text16(out, path.as_slice())?;
+    put_path(out, path)?;
     put_node(out, node)?;
     Ok(())
 }
@@ -91,6 +98,10 @@ fn put_frame(out: &mut Vec<u8>, frame: &Frame) -> Result<(), AllocError>
     ensures { OnOk result (out.new.items ≡ out.old.items ++ frame_bytes frame.now) }
 {
     match frame {
+        Frame::Deleted(path) => {
+            put_u8(out, b'X')?;
+            put_path(out, path)
+        }
         Frame::Entry { path, node } => {
             put_u8(out, b'E')?;
             put_entry(out, path, node)
