@@ -13,7 +13,7 @@ use Rattle.office_model.specs.declared.event.Event.{Event}
 use Rattle.office_model.specs.declared.event.PutItem.TheVariants.{Whole, Staged}
 use Rattle.office_model.specs.declared.answer.Answer.TheVariants as A
 use Rattle.tree_frames.specs.declared.nodes.Frame.{Frame}
-use Rattle.tree_frames.specs.declared.nodes.Frame.TheVariants.{Entry, Piece, End}
+use Rattle.tree_frames.specs.declared.nodes.Frame.TheVariants.{Deleted, Entry, Piece, End}
 use Rattle.tree_frames.specs.Frames.{pieces}
 use Rattle.office_model.specs.Step.{Call}
 
@@ -88,12 +88,13 @@ next_call restore frame = (E.ReadNext restore, Ok (A.Next frame))
 -- a restore: it is opened, its frames are asked for up to the end, and it is closed
 abbrev pub restore_calls : List ℕ → ℕ → SessionName → List Frame → ℕ → List Call
 restore_calls host number restore frames count =
-    (E.OpenRead host number, Ok (A.Restore restore))
+    (E.OpenRead host number None, Ok (A.Restore restore))
     ∷ (map (next_call restore) frames ++ next_call restore (End count) ∷ (E.CloseRead restore, Ok A.Done) ∷ [])
 
 -- no frame is the end
 abbrev pub ArePlain : List Frame → Type 0
 ArePlain [] = Unit {0}
+ArePlain (Deleted path ∷ frames) = ArePlain frames
 ArePlain (Entry path node ∷ frames) = ArePlain frames
 ArePlain (Piece bytes ∷ frames) = ArePlain frames
 ArePlain (End count ∷ frames) = ⊥

@@ -210,18 +210,18 @@ committed_is m n e = cc
 
 -- the commit of an open dump repeats none
 unrepeated : (session : SessionName) (now i : ℕ) (office : Office) → dump_index office.dumps session ≡ Some i
-    → CommitEvent.carried session now office ≡ CommitEvent.ended session now office
+    → CommitEvent.carried session (CommitEvent.at_time now) office ≡ CommitEvent.ended session (CommitEvent.at_time now) office
 unrepeated session now i office is = ap (λ (place : Option ℕ). again office
     (if is_some place then None else option_map (λ (receipt : Receipt). A.Committed receipt.number) (receipt_named office.hosts session))
-    (CommitEvent.ended session now office)) is
+    (CommitEvent.ended session (CommitEvent.at_time now) office)) is
 
 pub commit_step : (office : Office) (session : SessionName) (name : List ℕ) (tree : Tree) (now number : ℕ) (after : Office)
     → IsSound office → IsSound after → HasDump office session name tree
-    → CommitEvent.carried session now office ≡ Ok (record { answer = A.Committed number; after = after })
+    → CommitEvent.carried session (CommitEvent.at_time now) office ≡ Ok (record { answer = A.Committed number; after = after })
     → Shows after name number tree
 commit_step office session name tree now number after sound sound' has e =
     let at_index = dump_index-at office.dumps session has.index has.dump sound.sessions.dumps_differ has.is_dump has.name_is in
-    let w = bound (CommitEvent.committed session now office.hosts office.pool office.dumps)
+    let w = bound (CommitEvent.committed session (CommitEvent.at_time now) office.hosts office.pool office.dumps)
     (λ parts. Ok (record { answer = A.Committed parts.number; after = CommitEvent.after session office parts })) _
     (sym (unrepeated session now has.index office at_index) ∙ e) in
     let a = bound (dump_at office.dumps session) _ w.0 w.1 in
@@ -232,17 +232,17 @@ commit_step office session name tree now number after sound sound' has e =
     let host_is : b.0 ≡ has.host = some_is b.0 has.host (sym is_host ∙ ap (slice_get office.hosts) place_is ∙ has.is_host) in
     let made : CommitEvent.Committing = record {
       number = b.0.next;
-      hosts = slice_set office.hosts a.0.value.host (CommitEvent.with_commit b.0 a.0.value now);
+      hosts = slice_set office.hosts a.0.value.host (CommitEvent.with_commit b.0 a.0.value (CommitEvent.new_line b.0 a.0.value now));
       pool = with_tree office.pool a.0.value.tree;
       dumps = remove office.dumps a.0.index;
     } in
     let made_is : made ≡ w.0 = let f : Ok made ≡ Ok w.0 = b.2 in cc in
     let after_is : CommitEvent.after session office w.0 ≡ after = after_of _ (A.Committed number) _ after w.2 in
     let number_is : b.0.next ≡ number = ap (λ (c : CommitEvent.Committing). c.number) made_is ∙ committed_is _ _ (answer_of _ (A.Committed number) _ after w.2) in
-    let host' : Host = CommitEvent.with_commit b.0 a.0.value now in
+    let host' : Host = CommitEvent.with_commit b.0 a.0.value (CommitEvent.new_line b.0 a.0.value now) in
     let hosts_are : slice_set office.hosts a.0.value.host host' ≡ after.hosts =
     ap (λ (c : CommitEvent.Committing). c.hosts) made_is ∙ ap (λ (o : Office). o.hosts) after_is in
-    let backup : Backup = CommitEvent.new_backup b.0 a.0.value now in
+    let backup : Backup = CommitEvent.new_backup a.0.value (CommitEvent.new_line b.0 a.0.value now) in
     let earlier : List Backup = with_last (λ last. filled_as (stays_filled b.0.rules last.line) last) b.0.backups in
     let is_host' : slice_get after.hosts a.0.value.host ≡ Some host' =
     ap (λ hs. slice_get hs a.0.value.host) (sym hosts_are)

@@ -1,5 +1,5 @@
 -- In each legal history of its calls a restore gives the frames of the backup's tree.
-use Rattle.std.specs.Prelude.{◌≡◌, ℕ, ◌+◌, ◌-◌, min, List, [], ◌∷◌, ◌++◌, length, map, Some, Ok, unwrap_or, slice_get, slice_set, nat_le}
+use Rattle.std.specs.Prelude.{◌≡◌, ℕ, ◌+◌, ◌-◌, min, List, [], ◌∷◌, ◌++◌, length, map, Option, Some, None, Ok, unwrap_or, slice_get, slice_set, nat_le}
 use Rattle.std.specs.List.{flat_map}
 use Rattle.std.proofs.Common.{refl, sym, ap, ◌∙◌, subst, arith, append_assoc, length-append}
 use Rattle.std.proofs.lemmas.Option.{slice_get_within}
@@ -7,13 +7,13 @@ use Rattle.attr_records.specs.declared.nodes.Item.{Item}
 use Rattle.attr_records.specs.Items.{Tree}
 use Rattle.receipts.specs.declared.session.SessionName.{SessionName}
 use Rattle.tree_frames.specs.declared.nodes.Frame.{Frame}
-use Rattle.tree_frames.specs.declared.nodes.Frame.TheVariants.{Entry, Piece, End}
+use Rattle.tree_frames.specs.declared.nodes.Frame.TheVariants.{Deleted, Entry, Piece, End}
 use Rattle.office_model.specs.declared.event.Event.TheVariants as E
 use Rattle.office_model.specs.declared.answer.Answer.TheVariants as A
 use Rattle.receipts.specs.Session.{is_same_session}
 use Rattle.office_model.specs.Places.{slice_get-set_same, position-found}
 use Rattle.office_model.specs.Office.{Office, Backup, Restore, Names, IsSound, last_sequence, with_restores, numbered}
-use Rattle.tree_frames.specs.Frames.{frames, node_of, bytes_of, pieces}
+use Rattle.tree_frames.specs.Frames.{frames, entries_of, frames_since, node_of, bytes_of, pieces}
 use Rattle.office_model.specs.Parts.{At, restore_at, backup_of}
 use Rattle.office_model.specs.History.{Leads}
 use Rattle.office_model.specs.Step.{Call, State, Running}
@@ -26,13 +26,14 @@ use Rattle.folder_laws.specs.Calls.{next_call, restore_calls, ArePlain}
 use Rattle.folder_laws.specs.OfficeLaws.{at_end, after_of, answer_of, some_is}
 use Rattle.call_scripts.specs.FirstCalls.{answered}
 
--- a restore is open: its name, its tree, and how many frames were given
+-- a restore without a base is open: its name, its tree, and how many frames were given
 pub record HasRestore (office : Office) (session : SessionName) (tree : Tree) (position : ℕ) : Type 0 where
   pub index : ℕ
   pub restore : Restore
   pub is_restore : slice_get office.restores index ≡ Some restore
   pub name_is : restore.name ≡ session
   pub tree_is : restore.tree ≡ tree
+  pub base_is : restore.base ≡ None
   pub position_is : restore.position ≡ position
 
 restore_is : (a b : SessionName) → A.Restore a ≡ A.Restore b → a ≡ b
@@ -42,13 +43,13 @@ frame_is : (a b : Frame) → A.Next a ≡ A.Next b → a ≡ b
 frame_is a b e = cc
 
 pub opened_restore : (office : Office) (name : List ℕ) (number : ℕ) (session : SessionName) (after : Office)
-    → OpenReadEvent.carried name number office ≡ Ok (record { answer = A.Restore session; after = after })
+    → OpenReadEvent.carried name number None office ≡ Ok (record { answer = A.Restore session; after = after })
     → (backup : Backup) × (backup_of office.hosts name number ≡ Ok backup) × HasRestore after session backup.tree 0
 opened_restore office name number session after e =
-    let w = bound (OpenReadEvent.with_restore name number (next_session office) office.hosts office.restores)
+    let w = bound (OpenReadEvent.with_restore name number None (next_session office) office.hosts office.restores)
     (λ restores. Ok (record { answer = A.Restore (next_session office); after = numbered (with_restores office restores) })) _ e in
     let a = bound (backup_of office.hosts name number) _ w.0 w.1 in
-    let new : Restore = OpenReadEvent.new_restore (next_session office) a.0.tree in
+    let new : Restore = OpenReadEvent.new_restore (next_session office) a.0.tree None in
     let c : (nat_le last_sequence (next_session office).sequence ≡ _) × (Ok (office.restores ++ new ∷ []) ≡ Ok w.0) = passed _ _ _ _ a.2 in
     let restores_are : office.restores ++ new ∷ [] ≡ w.0 = let g : Ok (office.restores ++ new ∷ []) ≡ Ok w.0 = c.1 in cc in
     let named : next_session office ≡ session = restore_is _ _ (answer_of _ (A.Restore session) _ after w.2) in
@@ -59,6 +60,7 @@ opened_restore office name number session after e =
       is_restore = at_end office.restores new;
       name_is = refl;
       tree_is = refl;
+      base_is = refl;
       position_is = refl;
     } in (
       a.0,
@@ -88,6 +90,13 @@ frame_at tree position = unwrap_or (slice_get (frames tree) position) (End (leng
 abbrev pub next_position : Tree → ℕ → ℕ
 next_position tree position = min (position + 1) (length (frames tree) - 1)
 
+-- the same with a base, if there is one
+abbrev frame_since : Option Tree → Tree → ℕ → Frame
+frame_since base tree position = unwrap_or (slice_get (frames_since base tree) position) (End (length (entries_of base tree)))
+
+abbrev next_since : Option Tree → Tree → ℕ → ℕ
+next_since base tree position = min (position + 1) (length (frames_since base tree) - 1)
+
 pub next_step : (office : Office) (session : SessionName) (tree : Tree) (position : ℕ) (frame : Frame) (after : Office)
     → IsSound office → HasRestore office session tree position
     → ReadNextEvent.carried session office ≡ Ok (record { answer = A.Next frame; after = after })
@@ -101,7 +110,7 @@ next_step office session tree position frame after sound has e =
     let after_is : with_restores office w.0.restores ≡ after = after_of _ (A.Next frame) _ after w.2 in
     let frame_here : w.0.frame ≡ frame = frame_is _ _ (answer_of _ (A.Next frame) _ after w.2) in
     let value_frame : ReadNextEvent.frame_of a.0.value ≡ frame_at tree position =
-    ap ReadNextEvent.frame_of same.1 ∙ (λ i. frame_at (has.tree_is i) (has.position_is i)) in
+    ap ReadNextEvent.frame_of same.1 ∙ (λ i. frame_since (has.base_is i) (has.tree_is i) (has.position_is i)) in
     let here : slice_set office.restores has.index (ReadNextEvent.moved_on has.restore) ≡ w.0.restores =
     (λ i. slice_set office.restores (sym same.0 i) (ReadNextEvent.moved_on (sym same.1 i))) ∙ ap (λ (g : ReadNextEvent.Given). g.restores) made_is in
     let moved : HasRestore (with_restores office (slice_set office.restores has.index (ReadNextEvent.moved_on has.restore))) session tree (next_position tree position) = record {
@@ -110,7 +119,8 @@ next_step office session tree position frame after sound has e =
       is_restore = slice_get-set_same office.restores has.index (ReadNextEvent.moved_on has.restore) (slice_get_within office.restores has.index has.restore has.is_restore);
       name_is = has.name_is;
       tree_is = has.tree_is;
-      position_is = λ i. next_position (has.tree_is i) (has.position_is i);
+      base_is = has.base_is;
+      position_is = λ i. next_since (has.base_is i) (has.tree_is i) (has.position_is i);
     } in (
       sym frame_here ∙ sym (ap (λ (g : ReadNextEvent.Given). g.frame) made_is) ∙ value_frame,
       subst (λ (o : Office). HasRestore o session tree (next_position tree position)) after_is
@@ -135,6 +145,7 @@ given_of (frame ∷ list) office names faults session tree position more state' 
 
 plain_append : (xs ys : List Frame) → ArePlain xs → ArePlain ys → ArePlain (xs ++ ys)
 plain_append [] ys a b = b
+plain_append (Deleted path ∷ xs) ys a b = plain_append xs ys a b
 plain_append (Entry path node ∷ xs) ys a b = plain_append xs ys a b
 plain_append (Piece bytes ∷ xs) ys a b = plain_append xs ys a b
 plain_append (End count ∷ xs) ys a b = absurd a
@@ -183,6 +194,7 @@ all_given tree before (frame ∷ rest) (given ∷ list) count are plain_rest pla
     (subst (λ p. Gives tree p (list ++ End count ∷ [])) next gives.1) i
   where
     plain_tail : (f : Frame) (fs : List Frame) → ArePlain (f ∷ fs) → ArePlain fs
+    plain_tail (Deleted path) fs h = h
     plain_tail (Entry path node) fs h = h
     plain_tail (Piece bytes) fs h = h
     plain_tail (End n) fs h = absurd h
@@ -200,7 +212,7 @@ pub restored_frames : (office : Office) (names : Names) (faults : ℕ) (host : L
     → Leads (Running office names) faults (restore_calls host number restore list count) state' faults'
     → (backup : Backup) × (backup_of office.hosts host number ≡ Ok backup) × (list ++ End count ∷ [] ≡ frames backup.tree)
 restored_frames office names faults host number restore list count state' faults' sound plain leads =
-    let a = answered office names faults (E.OpenRead host number) (A.Restore restore) _ state' faults' leads in
+    let a = answered office names faults (E.OpenRead host number None) (A.Restore restore) _ state' faults' leads in
     let b = opened_restore office host number restore a.after a.carried in
     let close : Call = (E.CloseRead restore, Ok A.Done) in
     let calls_are : map (next_call restore) list ++ next_call restore (End count) ∷ close ∷ [] ≡ map (next_call restore) (list ++ End count ∷ []) ++ close ∷ [] =

@@ -16,7 +16,7 @@ use Rattle.tree_frames.specs.declared.nodes.FileNode.{FileNode}
 use Rattle.tree_frames.specs.declared.nodes.Node.{Node}
 use Rattle.tree_frames.specs.declared.nodes.Node.TheVariants as N
 use Rattle.tree_frames.specs.declared.nodes.Frame.{Frame}
-use Rattle.tree_frames.specs.declared.nodes.Frame.TheVariants.{Piece}
+use Rattle.tree_frames.specs.declared.nodes.Frame.TheVariants.{Deleted, Piece}
 use Rattle.folder_trait.specs.Folders.{with_appended}
 use Rattle.folder_making.specs.declared.dirs.OpenDir.{OpenDir}
 use Rattle.folder_making.specs.declared.noted.Noted.{Noted}
@@ -251,6 +251,13 @@ pub piece_taken : (made : Made) (more left : Tree) (told : Option Tree) (making'
 piece_taken made more left told making' frame bytes is h =
     subst (λ (f : Frame). made.rows ++ more ≡ (taken made f).rows ++ left → Holds (taken made f) left told making') (sym is)
     (λ split. subst (λ later. Holds (taken made (Piece bytes)) later told making') (more_is made.rows more left split) h)
+
+-- a path that was lost came
+pub deleted_taken : (made : Made) (more left : Tree) (told : Option Tree) (making : Making) (frame : Frame) (path : List ℕ) → frame ≡ Deleted path
+    → Holds made more told making → made.rows ++ more ≡ (taken made frame).rows ++ left → Holds (taken made frame) left told making
+deleted_taken made more left told making frame path is h =
+    subst (λ (f : Frame). made.rows ++ more ≡ (taken made f).rows ++ left → Holds (taken made f) left told making) (sym is)
+    (λ split. subst (λ later. Holds made later told making) (more_is made.rows more left split) h)
 
 -- what is still to come behind the file whose bytes are all there
 pub begun_next : (made : Made) (more left : Tree) (path : List ℕ) (node : Node) → made.rows ++ more ≡ (begun_at (ended made) path node).rows ++ left

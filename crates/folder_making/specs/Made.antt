@@ -9,7 +9,7 @@ use Rattle.tree_frames.specs.declared.nodes.FileNode.{FileNode}
 use Rattle.tree_frames.specs.declared.nodes.Node.{Node}
 use Rattle.tree_frames.specs.declared.nodes.Node.TheVariants as N
 use Rattle.tree_frames.specs.declared.nodes.Frame.{Frame}
-use Rattle.tree_frames.specs.declared.nodes.Frame.TheVariants.{Entry, Piece, End}
+use Rattle.tree_frames.specs.declared.nodes.Frame.TheVariants.{Deleted, Entry, Piece, End}
 
 -- a file with the bytes of the pieces that came so far
 pub record Coming : Type 0 where
@@ -47,8 +47,9 @@ abbrev pub extended : Option Coming → List ℕ → Option Coming
 extended None bytes = None
 extended (Some coming) bytes = Some (with_piece coming bytes)
 
--- what one more frame makes
+-- what one more frame makes; nothing is lost where a tree is made from nothing, so a path that was lost leaves all as it is
 abbrev pub taken : Made → Frame → Made
+taken made (Deleted path) = made
 taken made (Entry path node) = begun_at (ended made) path node
 taken made (Piece bytes) = record { rows = made.rows; file = extended made.file bytes }
 taken made (End count) = record { rows = ended made; file = None }

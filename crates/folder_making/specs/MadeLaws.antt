@@ -11,7 +11,7 @@ use Rattle.attr_records.specs.Items.{Tree}
 use Rattle.tree_frames.specs.declared.nodes.Node.{Node}
 use Rattle.tree_frames.specs.declared.nodes.Node.TheVariants as N
 use Rattle.tree_frames.specs.declared.nodes.Frame.{Frame}
-use Rattle.tree_frames.specs.declared.nodes.Frame.TheVariants.{Entry, Piece, End}
+use Rattle.tree_frames.specs.declared.nodes.Frame.TheVariants.{Deleted, Entry, Piece, End}
 use Rattle.tree_frames.specs.Frames.{pieces_of, pieces, row_frames, frames}
 use Rattle.folder_making.specs.Made.{Coming, Made, with_file, ended, begun_at, taken, made_from, nothing_made, made_of}
 
@@ -97,6 +97,7 @@ both_grow rows middle last first second =
     (first.0 ++ second.0, second.1 ∙ ap (λ r. r ++ second.0) first.1 ∙ append_assoc rows first.0 second.0)
 
 taken_grows : (made : Made) (frame : Frame) → (more : Tree) × ((taken made frame).rows ≡ made.rows ++ more)
+taken_grows made (Deleted path) = ([], sym (append-nil made.rows))
 taken_grows made (Entry path node) =
     both_grow made.rows (ended made) (begun_at (ended made) path node).rows (ended_grows made.rows made.file) (begun_grows (ended made) path node)
 taken_grows made (Piece bytes) = ([], sym (append-nil made.rows))

@@ -165,7 +165,7 @@ impl Making {
         }
     }
 
-    /// Takes the next frame of a tree.
+    /// Takes the next frame of a tree. A path that was lost, which no tree's frames have, leaves all as it is.
     pub fn take<F: Folder>(
         &mut self,
         alloc: Global,
@@ -176,6 +176,7 @@ impl Making {
         ensures counted { Counted (F.fault_count folder.old) (F.fault_count folder.new) (IsErrOf result FolderFault.Failed) }
     {
         match frame {
+            Frame::Deleted(_) => Ok(()),
             Frame::Entry { path, node } => self.begin(alloc, folder, path, node),
             Frame::Piece(bytes) => self.extend(alloc, folder, bytes),
             Frame::End(_) => self.end_file(alloc, folder),

@@ -12,7 +12,7 @@ use Rattle.fault_counts.specs.Counts.{Counted}
 use Rattle.attr_records.specs.Items.{Tree, is_dir}
 use Rattle.attr_records.specs.Trees.{IsTree}
 use Rattle.tree_frames.specs.declared.nodes.Frame.{Frame}
-use Rattle.tree_frames.specs.declared.nodes.Frame.TheVariants.{Entry, Piece, End}
+use Rattle.tree_frames.specs.declared.nodes.Frame.TheVariants.{Deleted, Entry, Piece, End}
 use Rattle.tree_frames.specs.Frames.{frames}
 use Rattle.folder_trait.specs.declared.folder.FolderFault.{FolderFault}
 use Rattle.folder_trait.specs.declared.folder.FolderFault.TheVariants as F
@@ -42,6 +42,7 @@ use Rattle.folder_restore.specs.Turns.{end_of, Turned, ReadStops, TurnStops, Mak
 read_behind : (restore : SessionName) (list : List Frame) (more : List Call) → ArePlain list
     → read_script restore (map (next_call restore) list ++ more) ≡ read_script restore more
 read_behind restore [] more h = refl
+read_behind restore (Deleted path ∷ list) more h = read_behind restore list more h
 read_behind restore (Entry path node ∷ list) more h = read_behind restore list more h
 read_behind restore (Piece bytes ∷ list) more h = read_behind restore list more h
 read_behind restore (End count ∷ list) more h = absurd h
@@ -49,6 +50,7 @@ read_behind restore (End count ∷ list) more h = absurd h
 begins_behind : (restore : SessionName) (list : List Frame) (more : List Call) → ArePlain list → Begins (read_script restore) more
     → Begins (read_script restore) (map (next_call restore) list ++ more)
 begins_behind restore [] more h begins = begins
+begins_behind restore (Deleted path ∷ list) more h begins = (refl, begins_behind restore list more h begins)
 begins_behind restore (Entry path node ∷ list) more h begins = (refl, begins_behind restore list more h begins)
 begins_behind restore (Piece bytes ∷ list) more h begins = (refl, begins_behind restore list more h begins)
 begins_behind restore (End count ∷ list) more h begins = absurd h
@@ -91,6 +93,7 @@ fault_cuts restore F.Memory calls h = h
 
 -- behind one frame it goes on
 frame_cut : (restore : SessionName) (frame : Frame) → IsCutOff (read_script restore) (next_call restore frame ∷ [])
+frame_cut restore (Deleted path) = record { begins = (refl, tt); answered = tt; left = refl }
 frame_cut restore (Entry path node) = record { begins = (refl, tt); answered = tt; left = refl }
 frame_cut restore (Piece bytes) = record { begins = (refl, tt); answered = tt; left = refl }
 frame_cut restore (End count) = record { begins = (refl, tt); answered = tt; left = refl }
@@ -138,14 +141,17 @@ counted_on {failed} before mid now same h = subst (λ count. Counted count now f
 -- ---- turn by turn
 
 plain_more : (list : List Frame) (frame : Frame) → ArePlain list → None ≡ end_of frame → ArePlain (list ++ frame ∷ [])
+plain_more [] (Deleted path) h e = tt
 plain_more [] (Entry path node) h e = tt
 plain_more [] (Piece bytes) h e = tt
 plain_more [] (End count) h e = let clash : ⊥ = cc in clash
+plain_more (Deleted path ∷ list) frame h e = plain_more list frame h e
 plain_more (Entry path node ∷ list) frame h e = plain_more list frame h e
 plain_more (Piece bytes ∷ list) frame h e = plain_more list frame h e
 plain_more (End count ∷ list) frame h e = absurd h
 
 is_end : (frame : Frame) (count : ℕ) → Some count ≡ end_of frame → frame ≡ End count
+is_end (Deleted path) count e = let clash : ⊥ = cc in absurd clash
 is_end (Entry path node) count e = let clash : ⊥ = cc in absurd clash
 is_end (Piece bytes) count e = let clash : ⊥ = cc in absurd clash
 is_end (End other) count e = let same : count ≡ other = cc in ap End (sym same)
@@ -248,9 +254,9 @@ module _ {P : Type 0} (moves : P → List Call → P → Type 0)
   -- ---- the calls of the restore itself
 
   module _ (old opened mid new : P) (host : List ℕ) (number : ℕ) (restore : SessionName)
-      (o : moves old ((E.OpenRead host number, Ok (A.Restore restore)) ∷ []) opened) where
+      (o : moves old ((E.OpenRead host number None, Ok (A.Restore restore)) ∷ []) opened) where
     abbrev open_call : Call
-    open_call = (E.OpenRead host number, Ok (A.Restore restore))
+    open_call = (E.OpenRead host number None, Ok (A.Restore restore))
 
     -- all was made, and it was closed
     pub closed : (told told' : Option Tree) (count : ℕ) → ForSome told (λ all. IsEmptiness all true) → MakesAll moves opened mid restore told told' count
@@ -331,10 +337,10 @@ module _ {P : Type 0} (moves : P → List Call → P → Type 0)
         step R.Memory s = cut s
 
   -- it wasn't opened
-  pub unopened : (old new : P) (host : List ℕ) (number : ℕ) (refusal : Refusal) → moves old ((E.OpenRead host number, Err refusal) ∷ []) new
+  pub unopened : (old new : P) (host : List ℕ) (number : ℕ) (refusal : Refusal) → moves old ((E.OpenRead host number None, Err refusal) ∷ []) new
       → Stopped moves old new host number (R.Refused refusal)
   unopened old new host number refusal o = record {
-    calls = (E.OpenRead host number, Err refusal) ∷ [];
+    calls = (E.OpenRead host number None, Err refusal) ∷ [];
     moved = o;
     stops = ((refl, refl), (refl, refl));
   }

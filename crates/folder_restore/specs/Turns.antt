@@ -3,7 +3,7 @@ use Rattle.std.specs.Prelude.{◌≡◌, ℕ, List, [], ◌∷◌, ◌++◌, map
 use Rattle.attr_records.specs.Items.{Tree, is_dir}
 use Rattle.attr_records.specs.Trees.{IsTree}
 use Rattle.tree_frames.specs.declared.nodes.Frame.{Frame}
-use Rattle.tree_frames.specs.declared.nodes.Frame.TheVariants.{Entry, Piece, End}
+use Rattle.tree_frames.specs.declared.nodes.Frame.TheVariants.{Deleted, Entry, Piece, End}
 use Rattle.tree_frames.specs.Frames.{frames}
 use Rattle.receipts.specs.declared.session.SessionName.{SessionName}
 use Rattle.office_model.specs.Step.{Call}
@@ -19,6 +19,7 @@ use Rattle.folder_restore.specs.Restores.{IsCutOff}
 
 -- the number of entries, if a frame is the end
 abbrev pub end_of : Frame → Option ℕ
+end_of (Deleted path) = None
 end_of (Entry path node) = None
 end_of (Piece bytes) = None
 end_of (End count) = Some count

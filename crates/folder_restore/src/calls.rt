@@ -1,6 +1,6 @@
 //! The calls of a restore.
 
-ghost use Rattle.std.specs.Prelude.{◌∷◌, [], Ok, Err, IfOk, IfErr, OnOk};
+ghost use Rattle.std.specs.Prelude.{◌∷◌, [], None, Ok, Err, IfOk, IfErr, OnOk};
 ghost use Rattle.office_model.specs.declared.event.Event.TheVariants as E;
 ghost use Rattle.office_model.specs.declared.answer.Answer.TheVariants as A;
 
@@ -15,10 +15,15 @@ pub(crate) fn open_read<P: Port>(
     host: HostName,
     number: u32,
 ) -> Result<SessionName, Refusal>
-    ensures ok { IfOk result (λ restore. P.moves port.old ((E.OpenRead host number, Ok (A.Restore restore)) ∷ []) port.new) }
-    ensures err { IfErr result (λ refusal. P.moves port.old ((E.OpenRead host number, Err refusal) ∷ []) port.new) }
+    ensures ok { IfOk result (λ restore. P.moves port.old ((E.OpenRead host number None, Ok (A.Restore restore)) ∷ []) port.new) }
+    ensures err { IfErr result (λ refusal. P.moves port.old ((E.OpenRead host number None, Err refusal) ∷ []) port.new) }
 {
-    match port.call(alloc, &Event::OpenRead { host, number }) {
+    let event = Event::OpenRead {
+        host,
+        number,
+        base: None,
+    };
+    match port.call(alloc, &event) {
         Ok(Answer::Restore(restore)) => Ok(restore),
         Ok(_) => unreachable!(),
         Err(refusal) => Err(refusal),

@@ -20,6 +20,7 @@ fn told_end<G: Progress>(frame: &Frame, count: &mut Count<'_, G>) -> Option<u32>
     ensures { result ≡ end_of frame.now }
 {
     match frame {
+        Frame::Deleted(_) => None,
         Frame::Entry { .. } => {
             count.add(1, 0);
             None
