@@ -1,9 +1,10 @@
 -- From what the parts of a store do to what the store promises.
-use Rattle.std.specs.Prelude.{◌||◌}
-use Rattle.std.proofs.Common.{◌≡◌, ℕ, Bool, false, true, List, Option, None, Some, Ok, Err, refl, sym, ap, ◌∙◌, subst}
+use Rattle.std.specs.Prelude.{◌||◌, ◌⊎◌}
+use Rattle.std.proofs.Common.{◌≡◌, ℕ, Bool, false, true, List, Option, None, Some, Ok, Err, refl, sym, ap, ◌∙◌, subst, inl, inr}
 use Rattle.std.proofs.lemmas.Bool.{false≢true, or_parts}
 use Rattle.disk_trait.specs.declared.disk.Disk.{Ghosts as DiskGhosts}
 use Rattle.pool_name.specs.declared.namer.Namer.{Ghosts as NamerGhosts}
+use Rattle.intent_journal.specs.ChangesLaws.{either}
 use Rattle.journal_view.specs.View.{FindsOnly}
 use Rattle.journal_view.specs.ViewLaws.{FindsOnly-still}
 use Rattle.office_model.specs.declared.event.Event.{Event}
@@ -21,13 +22,13 @@ use Rattle.office_model.specs.UsedNames.{AreHaltedNamesAfter}
 use Rattle.office_model.specs.events.Put.{change_of}
 use Rattle.store_parts.specs.declared.parts.StoreParts.{StoreParts}
 use Rattle.store_parts.specs.States.{IsRunning, InState}
-use Rattle.store_parts.specs.Runs.{Steps, Runs}
+use Rattle.store_parts.specs.Runs.{Steps, IsAtWork, StaysAtWork, Runs}
 use Rattle.store_parts.specs.RunLaws.{counted_still}
 use Rattle.store_opening.specs.Begins.{MayLeave}
 use Rattle.store_opening.specs.Reopens.{Reopens, first_of, second_of}
 use Rattle.office_store.specs.declared.store.Store.{Store}
 use Rattle.office_store.specs.Damage.{IsThere, SaysOfFiles, TellsDamage}
-use Rattle.office_store.specs.Serves.{is_reopen, LeftBy, MayRecover, Serves}
+use Rattle.office_store.specs.Serves.{is_reopen, LeftBy, MayRecover, MayStop, is_stopped, Serves}
 
 -- ---- whether an event is a reopening
 
@@ -50,6 +51,15 @@ put_stays : (a b : Durable) (names : Names) (item : PutItem)
     × AreHaltedNamesAfter names (change_of item) (Err HaltedReply) names
 put_stays a b names (Whole item) = whole_stays a b names (content_of item)
 put_stays a b names (Staged file) = ((refl, refl, refl), refl)
+
+-- what halted a store at work
+may_stop : (event : Event) (reply : Reply) → ((reply ≡ Err DiskFault → ⊥) → ⊥) → MayStop event reply
+may_stop event (Ok answer) never = absurd (never (λ e. absurd cc))
+may_stop event (Err (Broken rule)) never = absurd (never (λ e. absurd cc))
+may_stop event (Err HaltedReply) never = absurd (never (λ e. absurd cc))
+may_stop event (Err DiskFault) never = tt
+may_stop event (Err (Damaged file found)) never = absurd (never (λ e. absurd cc))
+may_stop event (Err Memory) never = absurd (never (λ e. absurd cc))
 
 -- a halted office stays, and answers Halted
 stays_halted : (a b : Durable) (names : Names) (event : Event) → is_reopen event ≡ false
@@ -78,10 +88,36 @@ module _ {D N S : Type 0} {d : DiskGhosts D} {n : NamerGhosts N S} where
   reopening_tells old (Err (Damaged file found)) new reopens = (tt, reopens.damaged file found refl)
   reopening_tells old (Err Memory) new reopens = (tt, tt)
 
+  -- ---- over any disk
+
+  still_works : (old new : StoreParts D N S d n) → StaysAtWork old new → is_stopped old ≡ false → is_stopped new ≡ false
+  still_works old new stays work =
+      let parts = or_parts old.halted old.journal.halted work in (λ i. stays.parts parts.0 i || stays.journal parts.1 i)
+
+  plain_halts : (old new : StoreParts D N S d n) (reply : Reply) → StaysAtWork old new → is_stopped new ≡ true
+      → (is_stopped old ≡ true) ⊎ MayStop Reopen reply
+  plain_halts old new reply stays stopped = elim (either (is_stopped old)) [
+    | inl was ↦ inl was
+    | inr work ↦ absurd (false≢true (sym (still_works old new stays work) ∙ stopped))
+  ]
+
+  reopening_halts : (old : StoreParts D N S d n) (reply : Reply) (new : StoreParts D N S d n) → Reopens old reply new
+      → is_stopped new ≡ true → (is_stopped old ≡ true) ⊎ MayStop Reopen reply
+  reopening_halts old (Ok answer) new reopens stopped =
+      let at : IsAtWork new = reopens.ready in absurd (false≢true (sym (λ i. at.ready i || at.journal_ready i) ∙ stopped))
+  reopening_halts old (Err (Broken rule)) new reopens stopped = plain_halts old new (Err (Broken rule)) (reopens.works tt) stopped
+  reopening_halts old (Err HaltedReply) new reopens stopped = absurd (reopens.awake refl)
+  reopening_halts old (Err DiskFault) new reopens stopped = inr tt
+  reopening_halts old (Err (Damaged file found)) new reopens stopped = inr refl
+  reopening_halts old (Err Memory) new reopens stopped = plain_halts old new (Err Memory) (reopens.works tt) stopped
+
   -- an event of a store at work
-  module _ (old new : Store D N S d n) (event : Event) (reply : Reply) (ready : old.parts.halted ≡ false)
+  module _ (old new : Store D N S d n) (event : Event) (reply : Reply) (work : is_stopped old.parts ≡ false)
       (runs : Runs old.parts event reply new.parts) (there : IsThere old.parts event reply)
       (says : SaysOfFiles old.parts event reply new.parts) where
+    ready : old.parts.halted ≡ false
+    ready = (or_parts old.parts.halted old.parts.journal.halted work).0
+
     event_steps : (state : State) → InState old.parts state → Steps state event reply new.parts
     event_steps (Running office names) at = runs.steps office names at
     event_steps (Halted a b names) at = absurd (false≢true (sym ready ∙ at.stuck))
@@ -99,6 +135,10 @@ module _ {D N S : Type 0} {d : DiskGhosts D} {n : NamerGhosts N S} where
           (event_left state at);
       in_kind = runs.in_kind;
       damaged = tells old.parts event reply new.parts there says;
+      halts = λ stopped.
+          inr (may_stop event reply (λ fine. false≢true (sym (still_works old.parts new.parts (runs.halts fine) work) ∙ stopped)));
+      awake = λ e. absurd (runs.awake e);
+      stuck = λ was. absurd (false≢true (sym work ∙ was));
       reopens = λ is. absurd (false≢true (sym other ∙ ap is_reopen is));
       counted = runs.counted;
     }
@@ -123,6 +163,9 @@ module _ {D N S : Type 0} {d : DiskGhosts D} {n : NamerGhosts N S} where
       crash = λ state at. FindsOnly-still old.parts.journal (MayRecover n.digest_of state event);
       in_kind = tt;
       damaged = tt;
+      halts = λ stopped. inl stuck;
+      awake = λ e. (stuck, refl);
+      stuck = λ was. inr refl;
       reopens = λ is. absurd (false≢true (sym other ∙ ap is_reopen is));
       counted = counted_still (d.fault_count old.parts.journal.disk) (Err HaltedReply ≡ Err DiskFault) (λ e. absurd cc);
     }
@@ -140,6 +183,9 @@ module _ {D N S : Type 0} {d : DiskGhosts D} {n : NamerGhosts N S} where
         crash = crash;
         in_kind = reopens.in_kind;
         damaged = reopening_tells old.parts reply new.parts reopens;
+        halts = reopening_halts old.parts reply new.parts reopens;
+        awake = λ e. absurd (reopens.awake e);
+        stuck = λ was. inl refl;
         reopens = λ is. reopens;
         counted = reopens.counted;
       })
@@ -149,7 +195,7 @@ module _ {D N S : Type 0} {d : DiskGhosts D} {n : NamerGhosts N S} where
       → asked ≡ false → halted ≡ (old.parts.halted || old.parts.journal.halted) → halted ≡ false → Runs old.parts event reply new.parts
       → IsThere old.parts event reply → SaysOfFiles old.parts event reply new.parts → Serves old event reply new
   answers old new event reply asked halted is other stuck at_work runs there says =
-      serves_event old new event reply (or_parts old.parts.halted old.parts.journal.halted (sym stuck ∙ at_work)).0 runs there says
+      serves_event old new event reply (sym stuck ∙ at_work) runs there says
       (sym is ∙ other)
 
   -- or was, and answered so

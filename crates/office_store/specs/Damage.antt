@@ -32,15 +32,15 @@ use Rattle.store_dumps.specs.Opening.{OpensDump}
 use Rattle.store_dumps.specs.Resuming.{ResumesDump}
 use Rattle.store_partials.specs.Heeding.{HeedsPartial, IsKnownFor, IsKnownNamed}
 use Rattle.store_stages.specs.Losing.{NamesLost}
-use Rattle.store_reads.specs.Told.{ReadsTree, TellsBackup, HasDamagedTable, IsReadReply, ListsRows, SaysNode, GivesFile}
+use Rattle.store_reads.specs.Told.{ReadsTree, HasDamagedTable, IsReadReply, ListsRows, SaysNode, GivesFile}
 use Rattle.store_restores.specs.Finding.{place_of, HasRestore}
 use Rattle.store_restores.specs.Giving.{GivesNext}
-use Rattle.store_restores.specs.Opening.{OpensRestore}
+use Rattle.store_restores.specs.Opening.{SaysOpened}
 use Rattle.store_readers.specs.Finding.{HasReader}
 use Rattle.store_readers.specs.Giving.{GivesPart}
 use Rattle.store_readers.specs.Opening.{OpensFile}
 use Rattle.store_cleaning.specs.StageFiles.{OnlyOpen}
-use Rattle.store_commits.specs.Tables.{HeedsTables}
+use Rattle.store_commits.specs.Tables.{HeedsTables, HeedsAdopted}
 use Rattle.store_deletions.specs.Called.{SaysOfTables, HasHost}
 use Rattle.store_deletions.specs.Shortens.{named_numbers}
 use Rattle.store_migrations.specs.Called.{SaysOfMigration}
@@ -59,7 +59,8 @@ module _ {D N S : Type 0} {d : DiskGhosts D} {n : NamerGhosts N S} where
   -- of the restore of this name, at its place in memory
   abbrev pub NextSays : StoreParts D N S d n → SessionName → Reply → StoreParts D N S d n → Type 0
   NextSays old restore reply new = (at : ℕ) (session : OpenRestore S) → Some at ≡ place_of old.sessions.restores.items restore
-      → slice_get old.sessions.restores.items at ≡ Some session → GivesNext (next_in session.rows session.place) old at session reply new
+      → slice_get old.sessions.restores.items at ≡ Some session
+      → GivesNext (next_in session.removed session.rows session.place) old at session reply new
 
   -- of the reader of this number, at its place in memory
   abbrev pub PartSays : StoreParts D N S d n → ℕ → Reply → StoreParts D N S d n → Type 0
@@ -102,10 +103,10 @@ module _ {D N S : Type 0} {d : DiskGhosts D} {n : NamerGhosts N S} where
   SaysOfFiles old (E.OpenDump host kind now token) reply new = OpensDump old host kind now token reply new
   SaysOfFiles old (E.Resume host) reply new = ResumesDump old host reply new
   SaysOfFiles old (E.Commit session now) reply new = HeedsTables old session reply new
+  SaysOfFiles old (E.Adopt session number start end kind) reply new = HeedsAdopted number old session reply new
   SaysOfFiles old (E.Park session) reply new = HeedsPartial old (IsKnownFor old session) reply new
   SaysOfFiles old (E.DropPartial host) reply new = HeedsPartial old (IsKnownNamed old host) reply new
-  SaysOfFiles old (E.OpenRead host number) reply new = IsReadReply (TellsBackup old host number) (HasDamagedTable old host number)
-      (λ rows answer. OpensRestore old.sessions old.catalog.epoch rows answer new.sessions) reply
+  SaysOfFiles old (E.OpenRead host number base) reply new = SaysOpened old host number base reply new
   SaysOfFiles old (E.ReadNext restore) reply new = NextSays old restore reply new
   SaysOfFiles old (E.Delete host number) reply new =
       (place : ℕ) → Some place ≡ host_named (names_of old.catalog.hosts) host → SaysOfTables old new place (number ∷ []) reply

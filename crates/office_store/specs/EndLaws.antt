@@ -47,10 +47,10 @@ later_faults state faults [] legal = omega arith
 later_faults state faults (entry ∷ entries) legal =
     omega (arith, legal.0.later, later_faults entry.state entry.faults entries legal.1)
 
-rose_before : (a b c : ℕ) → a ≤ b → Rose b c → Rose a c
+pub rose_before : (a b c : ℕ) → a ≤ b → Rose b c → Rose a c
 rose_before a b c le rose = omega (arith, le, rose)
 
-rose_after : (a b c : ℕ) → Rose a b → b ≤ c → Rose a c
+pub rose_after : (a b c : ℕ) → Rose a b → b ≤ c → Rose a c
 rose_after a b c rose le = omega (arith, rose, le)
 
 pub halted_rose : (state : State) (faults : ℕ) (entries : List Entry) → IsHistory state faults entries → is_halted state ≡ false

@@ -1,6 +1,8 @@
 pub mod CrashLaws
 pub mod Damage
 pub mod EndLaws
+pub mod Halts
+pub mod HaltsLaws
 pub mod Moves
 pub mod MovesLaws
 pub mod Serves

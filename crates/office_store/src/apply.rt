@@ -11,7 +11,7 @@ use office_model::{Answer, Event, PutItem, Refusal};
 use pool_name::Namer;
 use std::alloc::Global;
 use store_cleaning::{clean, sweep};
-use store_commits::commit_dump;
+use store_commits::{adopt_dump, commit_dump};
 use store_deletions::{delete, expire};
 use store_dumps::{abort, open_dump, put, remove, resume};
 use store_hosts::{add_host, backups, contact, due, hosts, keep, set_rules, stats};
@@ -66,6 +66,13 @@ fn carry_out<D: Disk, N: Namer>(
         Event::StagePiece { stage, bytes } => stage_piece(parts, *stage, bytes.as_slice()),
         Event::StageDrop { stage } => stage_drop(parts, *stage),
         Event::Commit { dump, now } => commit_dump(parts, alloc, *dump, *now),
+        Event::Adopt {
+            dump,
+            number,
+            start,
+            end,
+            kind,
+        } => adopt_dump(parts, alloc, *dump, *number, *start, *end, *kind),
         Event::Abort { dump } => abort(parts, alloc, *dump),
         Event::Park { dump } => park(parts, alloc, *dump),
         Event::Resume { host } => resume(parts, alloc, host),
@@ -81,7 +88,7 @@ fn carry_out<D: Disk, N: Namer>(
         Event::OpenFile { host, number, path } => open_file(parts, alloc, host, *number, path),
         Event::ReadPart { reader } => read_part(parts, alloc, *reader),
         Event::CloseFile { reader } => close_file(parts, *reader),
-        Event::OpenRead { host, number } => open_read(parts, alloc, host, *number),
+        Event::OpenRead { host, number, base } => open_read(parts, alloc, host, *number, *base),
         Event::ReadNext { restore } => read_next(parts, alloc, *restore),
         Event::CloseRead { restore } => close_read(parts, *restore),
         Event::Keep { host, number, on } => keep(parts, alloc, host, *number, *on),

@@ -1,6 +1,6 @@
 //! A store is opened, and given up.
 
-ghost use Rattle.std.specs.Prelude.{◌≡◌};
+ghost use Rattle.std.specs.Prelude.{◌≡◌, false};
 
 use crate::store::Store;
 use disk_trait::Disk;
@@ -17,6 +17,7 @@ impl<D: Disk, N: Namer> Store<D, N> {
     ghost use Rattle.pool_store.specs.Opening.{AreThePoolFiles};
     ghost use Rattle.office_model.specs.Office.{Durable};
     ghost use Rattle.store_opening.specs.Recovers.{SaysWhy};
+    ghost use Rattle.office_store.specs.Serves.{is_stopped};
     ghost use Rattle.store_opening.specs.KeptTables.{HasTablesFound};
     ghost use Rattle.store_opening.specs.Opens.{IsOf, Opened, Left};
     ghost use Rattle.store_opening.specs.Settles.{ComesToOne, IsStopped};
@@ -28,7 +29,7 @@ impl<D: Disk, N: Namer> Store<D, N> {
     /// refusal, and can be opened again: after `EpochsSpent` and `Memory` it has the office as it was, after `DiskFault` as
     /// it was or in its next epoch. `Foreign` says what was found of the file; it never comes on a disk that a store left.
     ///
-    /// Over any disk that tells its files: after Ok they are those of a store, of which memory has what they hold, and the names in
+    /// Over any disk, after Ok the store isn't halted. Over any disk that tells its files: after Ok they are those of a store, of which memory has what they hold, and the names in
     /// use are those of the Pool files; no table was written; the index of the pool is in buckets there; `EpochsSpent` comes only over those of a store in its last epoch.
     pub fn open(alloc: Global, disk: D, namer: N) -> Result<Store<D, N>, (D, OpenRefusal)>
         ensures opened { IfOk result (λ store. (a b : Durable) → IsOf N.digest_of (D.files disk) (D.uncertain disk) a b
@@ -43,6 +44,7 @@ impl<D: Disk, N: Namer> Store<D, N> {
         ensures buckets { IfOk result (λ store. HasBuckets store.parts) }
         ensures listed { IfOk result (λ store. AreThePoolFiles (D.files disk) (slots_of store.parts.pool.names)) }
         ensures spent { IfErr result (λ refused. SaysSpent (option_map seen (D.files refused.0)) refused.1) }
+        ensures ready { IfOk result (λ store. is_stopped store.parts ≡ false) }
         ensures foreign { IfErr result (λ refused. SaysWhy (D.files disk) (D.files refused.0) refused.1) }
         ensures counted { IfOk result (λ store. D.fault_count store.parts.journal.disk ≡ D.fault_count disk) }
         ensures left_counted { IfErr result (λ refused. Counted (D.fault_count disk) (D.fault_count refused.0) (refused.1 ≡ OpenRefusal.DiskFault)) }

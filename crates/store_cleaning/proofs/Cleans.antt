@@ -402,7 +402,7 @@ module _ {D N S : Type 0} {d : DiskGhosts D} {n : NamerGhosts N S} where
         → Runs old (Clean bucket) (Ok (Cleaned 0 0 0)) old
     cleans_nothing none =
         runs_reads old old (Clean bucket) (Ok (Cleaned 0 0 0)) (reads_still old)
-        (λ office names at. still old bucket within cleaning is office names at none) (λ office names at. tt) refl
+        (λ office names at. still old bucket within cleaning is office names at none) (λ office names at. tt) refl (λ e. absurd cc)
         (counted_still (d.fault_count old.journal.disk) (Ok (Cleaned 0 0 0) ≡ Err DiskFault) (λ e. absurd cc))
 
     module _ (some : (cleaning.marked ≡ 0) × (cleaning.unmarked ≡ 0) × (cleaning.removed ≡ 0) → ⊥)
@@ -422,7 +422,7 @@ module _ {D N S : Type 0} {d : DiskGhosts D} {n : NamerGhosts N S} where
           → Runs old (Clean bucket) (Ok (Cleaned cleaning.marked cleaning.unmarked cleaning.removed)) new
       cleans mid new done w accepted form journal catalog counts partials sessions views halted =
           runs_written old mid new (Clean bucket)
-          (Cleaned cleaning.marked cleaning.unmarked cleaning.removed) cleaning.change.changes done w journal
+          (Cleaned cleaning.marked cleaning.unmarked cleaning.removed) cleaning.change.changes done w journal halted
           (λ office names at. holds old bucket within cleaning is office names at some leads mid new done w
           (subst (λ (p : Pool N S n). IsSame (after cleaning.change (slots_of p.names)) (slots new)) w.pool_same accepted) form journal
           (catalog ∙ w.catalog_same) (counts ∙ w.counts_same) (partials ∙ w.partials_same) (sessions ∙ w.sessions_same) (views ∙ w.views_same) halted)

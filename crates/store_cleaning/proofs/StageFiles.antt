@@ -31,7 +31,7 @@ use Rattle.open_sessions.specs.declared.stages.OpenStage.{OpenStage}
 use Rattle.open_sessions.specs.SessionLaws.{stage_index-sessions}
 use Rattle.office_model.specs.declared.event.Event.TheVariants.{Sweep}
 use Rattle.office_model.specs.declared.refusal.Refusal.{Refusal}
-use Rattle.office_model.specs.declared.refusal.Refusal.TheVariants.{DiskFault, Memory}
+use Rattle.office_model.specs.declared.refusal.Refusal.TheVariants.{Halted, DiskFault, Memory}
 use Rattle.office_model.specs.Meaning.{Carried, Judged, Reply}
 use Rattle.office_model.specs.Office.{Office, Names, Stage}
 use Rattle.office_model.specs.Places.{position-some}
@@ -40,7 +40,8 @@ use Rattle.office_model.specs.History.{IsUndamaged}
 use Rattle.office_model.specs.UsedNames.{AreSome}
 use Rattle.store_parts.specs.declared.parts.StoreParts.{StoreParts}
 use Rattle.store_parts.specs.States.{slots, staging_of, IsRunning}
-use Rattle.store_parts.specs.Runs.{MayRecover, Runs}
+use Rattle.store_parts.specs.Runs.{MayRecover, StaysAtWork, Runs}
+use Rattle.store_parts.specs.RunLaws.{works_same, works_then}
 use Rattle.store_parts.specs.StepLaws.{recover_before, step_memory}
 use Rattle.store_parts.specs.StoredLaws.{alike_stands, listed_live}
 use Rattle.store_parts.specs.StagingLaws.{HasStaged, working_staged}
@@ -310,7 +311,11 @@ module _ {D N S : Type 0} {d : DiskGhosts D} {n : NamerGhosts N S} where
         after.crash
 
   module _ (old mid : StoreParts D N S d n) (others : mid ≡ record old { journal = mid.journal })
-      (drops : (all : Files) → told old.journal ≡ Some all → Drops old.journal (left_of old) all mid.journal) where
+      (drops : (all : Files) → told old.journal ≡ Some all → Drops old.journal (left_of old) all mid.journal)
+      (stays : mid.journal.halted ≡ old.journal.halted) where
+    works_left : StaysAtWork old mid
+    works_left = works_same old mid (ap (λ (p : StoreParts D N S d n). p.halted) others) stays
+
     running_left : (office : Office) (names : Names) → IsRunning old office names → IsRunning mid office names
     running_left office names at =
         subst (λ (p : StoreParts D N S d n). IsRunning p office names) (sym others) (running_at old mid.journal drops office names at)
@@ -324,6 +329,8 @@ module _ {D N S : Type 0} {d : DiskGhosts D} {n : NamerGhosts N S} where
           (crash_at old mid.journal drops office names at ((meaning_of Sweep).carried office names))
           (runs.crash office names (running_left office names at));
       in_kind = runs.in_kind;
+      awake = runs.awake;
+      halts = λ not. works_then old mid new works_left (runs.halts not);
       counted = subst (λ (k : ℕ). Counted k (d.fault_count new.journal.disk) (reply ≡ Err DiskFault)) same runs.counted;
     }
 
@@ -342,6 +349,8 @@ module _ {D N S : Type 0} {d : DiskGhosts D} {n : NamerGhosts N S} where
       };
       crash = λ office names at. crash_at old mid.journal drops office names at ((meaning_of Sweep).carried office names);
       in_kind = tt;
+      awake = λ e. awake refusal kind (let same : refusal ≡ Halted = cc in same);
+      halts = λ not. works_left;
       counted = record {
         later = counted.later;
         rose = λ e. counted.rose (let same : refusal ≡ DiskFault = cc in ap (λ (r : Refusal). Err r) same);
@@ -357,6 +366,10 @@ module _ {D N S : Type 0} {d : DiskGhosts D} {n : NamerGhosts N S} where
         step office names at refusal (inr e) =
             subst (λ (r : Refusal). IsStep (Running office names) Sweep (Err r) (Running office names)) (sym e)
             (step_memory office names Sweep at.used.distinct)
+
+        awake : (refusal : Refusal) → (refusal ≡ DiskFault) ⊎ (refusal ≡ Memory) → refusal ≡ Halted → ⊥
+        awake refusal (inl e) same = cc
+        awake refusal (inr e) same = cc
 
 -- ---- the pool's sweep
 

@@ -45,7 +45,7 @@ use Rattle.store_parts.specs.Held.{AreUsed, given}
 use Rattle.store_parts.specs.States.{slots, IsRunning}
 use Rattle.store_parts.specs.Runs.{MayRecover, Runs}
 use Rattle.store_parts.specs.StepLaws.{recover_before}
-use Rattle.store_parts.specs.RunLaws.{counted_fine, counted_failed}
+use Rattle.store_parts.specs.RunLaws.{counted_fine, counted_failed, works_same}
 use Rattle.store_parts.specs.ListLaws.{mapped, kept_were, kept_stay, kept_distinct}
 use Rattle.store_parts.specs.StagingLaws.{HasStaged, with_used, working_staged, crash_staged}
 use Rattle.store_parts.specs.HoldingLaws.{given_held, held_given}
@@ -274,6 +274,8 @@ module _ {D N S : Type 0} {d : DiskGhosts D} {n : NamerGhosts N S} where
       };
       crash = crash_swept;
       in_kind = refl;
+      awake = λ e. absurd cc;
+      halts = λ not. works_same old new halted stays;
       counted = counted_fine counted fine (λ e. absurd cc);
     }
 
@@ -288,5 +290,7 @@ module _ {D N S : Type 0} {d : DiskGhosts D} {n : NamerGhosts N S} where
       };
       crash = crash_swept;
       in_kind = tt;
+      awake = λ e. absurd cc;
+      halts = λ not. absurd (not refl);
       counted = counted_failed counted is refl;
     }

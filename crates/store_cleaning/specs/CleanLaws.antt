@@ -144,8 +144,8 @@ module _ (given : PoolId → Type 0) (contents : PoolId → List ℕ) (one : IsO
       let is = first_pair (λ i. IsRestore took_in given contents) restore restores s sessions pairs in
       let rest = restores_hold took_in restores sessions
       (later_pairs (λ i. IsRestore took_in given contents) restore restores s sessions pairs) in
-      let tree = tree_holds restore.tree s.rows is.tree is.rows.told in
-      (λ i. tree i || rest i) ∙ sym (above_sum (occurrences id s.rows) (claims_in_restores sessions id))
+      let tree = tree_holds restore.tree s.whole is.tree is.whole.told in
+      (λ i. tree i || rest i) ∙ sym (above_sum (occurrences id s.whole) (claims_in_restores sessions id))
 
   -- a told content is that of the id exactly if it is of the id
   content_is : (size : ℕ) (held : Option PoolId) → IsToldContent given contents size held

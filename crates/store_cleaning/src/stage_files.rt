@@ -97,7 +97,7 @@ pub(crate) fn sweep_stages<D: Disk, N: Namer>(
         → Drops parts.old.journal (is_left parts.old.sessions.stages.items.items) all parts.new.journal }
     ensures done { OnOk result ((all : Files) → told parts.old.journal ≡ Some all
         → OnlyOpen parts.old.sessions.stages.items.items all (told parts.new.journal)) }
-    ensures ready { OnOk result (parts.new.journal.halted ≡ false) }
+    ensures halted { parts.new.journal.halted ≡ parts.old.journal.halted }
     ensures kind { IfErr result (λ refusal. (refusal ≡ Refusal.DiskFault) ⊎ (refusal ≡ Refusal.Memory)) }
     ensures counted { Counted (D.fault_count parts.old.journal.disk) (D.fault_count parts.new.journal.disk)
         (IsErrOf result Refusal.DiskFault) }

@@ -34,7 +34,7 @@ use Rattle.office_model.specs.Office.{Office, Durable, Host, Names, IsSound, IsS
 use Rattle.office_model.specs.Places.{slice_get-set_same}
 use Rattle.office_model.specs.Parts.{lines_of}
 use Rattle.office_model.specs.Pool.{Pool, with_tree}
-use Rattle.office_model.specs.events.Commit.{new_line, new_backup, with_commit}
+use Rattle.office_model.specs.events.Commit.{new_backup, with_commit}
 use Rattle.office_files.specs.Hosts.{index_of_host, IsShown, StandsHost}
 use Rattle.office_files.specs.Layouts.{IsHostFile}
 use Rattle.office_files.specs.Owners.{has_backup}
@@ -76,9 +76,9 @@ some_same : {A : Type 0} (a b : A) → Some a ≡ Some b → a ≡ b
 some_same a b e = cc
 
 module _ {D N S : Type 0} {d : DiskGhosts D} {n : NamerGhosts N S} where
-  module _ (parts : StoreParts D N S d n) (place : ℕ) (session : OpenDump) (now : ℕ) (plan : Plan) (office : Office) (names : Names)
-      (at : IsRunning parts office names) (planned : IsPlanned parts session now plan) (m : IsMeant parts place session office names at)
-      (sound : IsSound (office_after office place m.dump m.host now)) where
+  module _ (parts : StoreParts D N S d n) (place : ℕ) (session : OpenDump) (line : Line) (plan : Plan) (office : Office) (names : Names)
+      (at : IsRunning parts office names) (planned : IsPlanned parts session line plan) (m : IsMeant parts place session office names at)
+      (sound : IsSound (office_after office place m.dump m.host line)) where
     abbrev number : ℕ
     number = m.dump.host
 
@@ -86,7 +86,7 @@ module _ {D N S : Type 0} {d : DiskGhosts D} {n : NamerGhosts N S} where
     rows = session.tree
 
     abbrev new : Host
-    new = with_commit m.host m.dump now
+    new = with_commit m.host m.dump line
 
     abbrev next : Index
     next = index_of (with_added (ids_in rows) (slots parts))
@@ -102,21 +102,14 @@ module _ {D N S : Type 0} {d : DiskGhosts D} {n : NamerGhosts N S} where
     file_is : planned.lines.file ≡ number
     file_is = planned.judged.file ∙ m.is.host
 
-    next_is : planned.lines.line.number ≡ m.host.next
-    next_is = number_is parts session now plan planned ∙ ap (λ (i : HostIndex). i.next) index_is
+    next_is : planned.lines.line.number ≡ line.number
+    next_is = number_is parts session line plan planned
 
-    line_is : planned.lines.line ≡ new_line m.host m.dump now
-    line_is = planned.judged.line ∙ (λ j. record {
-      number = (index_is j).next;
-      start = m.is.start j;
-      end = now;
-      kind = m.is.kind j;
-      filled = true;
-      keep = false;
-    })
+    free : m.host.next ≤ line.number
+    free = subst (λ (k : ℕ). k ≤ line.number) (ap (λ (i : HostIndex). i.next) index_is) planned.judged.free
 
-    receipt_is : planned.lines.receipt ≡ receipt_by m.dump.token m.dump.name m.host.next
-    receipt_is = planned.judged.receipt ∙ (λ j. receipt_by (m.is.token j) (m.is.name j) (index_is j).next)
+    receipt_is : planned.lines.receipt ≡ receipt_by m.dump.token m.dump.name line.number
+    receipt_is = planned.judged.receipt ∙ (λ j. receipt_by (m.is.token j) (m.is.name j) line.number)
 
     dropped_is : planned.lines.dropped ≡ dropped_of m.host.rules (lines_of m.host.backups)
     dropped_is = planned.judged.dropped ∙ ap (λ (i : HostIndex). dropped_of i.rules i.lines) index_is
@@ -169,23 +162,24 @@ module _ {D N S : Type 0} {d : DiskGhosts D} {n : NamerGhosts N S} where
 
     -- what the file of the host's index gets
     abbrev bytes : Option (List ℕ)
-    bytes = (index_listed parts session now plan planned).0
+    bytes = (index_listed parts session line plan planned).0
 
     index_built : IsHostFile (index_of_host number new) bytes
     index_built = subst (λ (i : HostIndex). IsHostFile i bytes)
-        ((λ j. with_line (line_is j) (not (is_some (dropped_is j))) (receipt_is j) (index_is j))
-        ∙ index_committed m.host m.dump now number m.unspent)
+        ((λ j. with_line (planned.judged.is j) (not (is_some (dropped_is j))) (receipt_is j) (index_is j))
+        ∙ index_committed m.host m.dump line number m.unspent)
         (index_after at.all parts.catalog session.host
         (with_line planned.lines.line (not (is_some planned.lines.dropped)) planned.lines.receipt) planned.judged.index
-        planned.built.listed bytes holds planned.judged.here planned.built.lists (index_listed parts session now plan planned).1)
+        planned.built.listed bytes holds planned.judged.here planned.built.lists (index_listed parts session line plan planned).1)
 
-    built : IsBuiltOf (told parts.journal) number m.host m.dump now rows planned.parked planned.folding had.0 planned.counts bytes planned.built.files
+    built : IsBuiltOf (told parts.journal) number m.host m.dump line rows planned.parked planned.folding had.0 planned.counts bytes planned.built.files
     built = record {
       index = index_built;
       table = planned.built.table;
       counts = (planned.built.counted.0, planned.built.counted.1 ∙ ap (λ (h : ℕ). counts_file h planned.counts) file_is);
       former = planned.built.former;
-      is_former = subst (λ (k : ℕ). IsFormer k planned.built.files.former) next_is (former_is parts session now plan planned);
+      free = free;
+      is_former = subst (λ (k : ℕ). IsFormer k planned.built.files.former) next_is (former_is parts session line plan planned);
       folded = subst (λ (h : ℕ). IsFolded (told parts.journal) h (dropped_of m.host.rules (lines_of m.host.backups)) rows planned.folding) file_is
           (subst (λ (d : Option Line). IsFolded (told parts.journal) planned.lines.file d rows planned.folding) dropped_is planned.folded);
       parked_is = planned.built.parked_is;
@@ -200,17 +194,17 @@ module _ {D N S : Type 0} {d : DiskGhosts D} {n : NamerGhosts N S} where
     abbrev pooled : List Change
     pooled = planned.built.pooled
 
-    all_changes : plan.changes ≡ pooled ++ host_part number m.host.next bytes planned.built.files
-    all_changes = changes_are parts session now plan planned ∙ (λ j. pooled ++ host_part (m.is.host j) (next_is j) bytes planned.built.files)
+    all_changes : plan.changes ≡ pooled ++ host_part number line.number bytes planned.built.files
+    all_changes = changes_are parts session line plan planned ∙ (λ j. pooled ++ host_part (m.is.host j) (next_is j) bytes planned.built.files)
 
-    image_is : applied (pooled ++ host_part number m.host.next bytes planned.built.files) at.all ≡ image
+    image_is : applied (pooled ++ host_part number line.number bytes planned.built.files) at.all ≡ image
     image_is = ap (λ (changes : List Change). applied changes at.all) (sym all_changes)
 
     pooled_are : AreOfIndex pooled
     pooled_are = of_index parts.pool.in_one_file (index_of (slots parts)) (index_of (relisted_after plan.index (slots parts))) pooled planned.built.leads
 
     contents_are : contents_of image ≡ contents_of at.all
-    contents_are = contents_written plan.changes at.all (planned_changes parts session now plan planned)
+    contents_are = contents_written plan.changes at.all (planned_changes parts session line plan planned)
 
     listed : IsListedWith rows (contents_of at.all) (index_of (slots parts)) next
     listed = listed_rows n.digest_of (slots parts) (uncertain parts.journal) at.all at.fits rows m.is.tree_rows.told
@@ -221,9 +215,9 @@ module _ {D N S : Type 0} {d : DiskGhosts D} {n : NamerGhosts N S} where
       sym (ap (λ (c : PoolId → List ℕ). c id) contents_are),
     )
 
-    fresh : IsShown (IsListed next) (contents_of image) (new_backup m.host m.dump now) (new_stored rows)
+    fresh : IsShown (IsListed next) (contents_of image) (new_backup m.dump line) (new_stored rows)
     fresh = record {
-      filled = refl;
+      filled = sym planned.judged.filled;
       tree = m.is.tree ∙ ap (λ (c : PoolId → List ℕ). resolved c rows) (sym contents_are);
       whole = m.is.tree_rows.whole;
       told = subst (λ (c : PoolId → List ℕ). AreTold (IsListed next) c rows) (sym contents_are)
@@ -245,21 +239,21 @@ module _ {D N S : Type 0} {d : DiskGhosts D} {n : NamerGhosts N S} where
     host_then : HostAfter (IsListed next) (contents_of image) image number m.host new planned.counts found.0.backups
     host_then = subst (λ (i : Files). HostAfter (IsListed next) (contents_of image) i number m.host new planned.counts found.0.backups) image_is
         (host_after (IsListed (index_of (slots parts))) (IsListed next) (contents_of at.all) (contents_of image) listed_still (told parts.journal)
-        at.all at.told_is number m.host m.dump now rows planned.parked planned.folding had.0 planned.counts pooled bytes planned.built.files pooled_are built
+        at.all at.told_is number m.host m.dump line rows planned.parked planned.folding had.0 planned.counts pooled bytes planned.built.files pooled_are built
         (at.sound.hosts.each number m.host m.here).backups.numbered sound_new.numbers few sound_new.backups.numbered fresh none_else no_file
         found.0.backups found.0.partial found.2 left)
 
     stays : (file : FileId) → is_metadata file ≡ true → is_of_host number file ≡ false → is_of_index file ≡ false → image file ≡ at.all file
     stays file metadata out none =
         ap (λ (i : Files). i file) (sym image_is)
-        ∙ at_other pooled number m.host.next bytes planned.built.files at.all pooled_are built.is_former file out none
+        ∙ at_other pooled number line.number bytes planned.built.files at.all pooled_are built.is_former file out none
 
     tells : TellsBuckets next image
     tells = subst (λ (i : Files). TellsBuckets next i) image_is (record {
-      none = at_pool_index pooled number m.host.next bytes planned.built.files at.all pooled_are built.is_former ∙ was.none;
+      none = at_pool_index pooled number line.number bytes planned.built.files at.all pooled_are built.is_former ∙ was.none;
       each = λ byte within.
           subst (TellsByte byte next)
-          (sym (at_pool_bucket pooled number m.host.next bytes planned.built.files at.all pooled_are built.is_former byte)) (was.each byte within);
+          (sym (at_pool_bucket pooled number line.number bytes planned.built.files at.all pooled_are built.is_former byte)) (was.each byte within);
       within = was.within;
     })
       where
@@ -289,7 +283,7 @@ module _ {D N S : Type 0} {d : DiskGhosts D} {n : NamerGhosts N S} where
         (subst (λ tree. IsSoundDurable (with_pool (with_tree office.pool tree))) m.is.tree sound.kept) at.stands)
 
     pub stored_after : IsStoredAfter parts at.all (ids_in rows) plan.changes (slice_set parts.counts number planned.counts)
-        (office_after office place m.dump m.host now)
+        (office_after office place m.dump m.host line)
     stored_after = record {
       shown = slice_set at.shown number after;
       stands = stands;

@@ -79,17 +79,24 @@ folding_number told host (Some line) rows (Some folding) next folded below f e =
     subst (λ (x : Folding). x.number < next) same (subst (λ (k : ℕ). k < next) (sym folded.number) (below line refl))
 
 module _ {D N S : Type 0} {d : DiskGhosts D} {n : NamerGhosts N S} where
-  module _ (parts : StoreParts D N S d n) (session : OpenDump) (now : ℕ) (plan : Plan) (planned : IsPlanned parts session now plan) where
-    pub number_is : planned.lines.line.number ≡ planned.judged.index.next
-    number_is = ap (λ (l : Line). l.number) planned.judged.line
+  module _ (parts : StoreParts D N S d n) (session : OpenDump) (line : Line) (plan : Plan) (planned : IsPlanned parts session line plan) where
+    pub number_is : planned.lines.line.number ≡ line.number
+    number_is = ap (λ (l : Line). l.number) planned.judged.is
 
     pub former_is : IsFormer planned.lines.line.number planned.built.files.former
     former_is =
         former_number planned.folding planned.built.files.former planned.lines.line.number planned.built.former
-        (folding_number _ planned.lines.file planned.lines.dropped session.tree planned.folding planned.lines.line.number planned.folded
-        (λ line e. subst (λ (k : ℕ). line.number < k) (sym number_is)
-        (dropped_below planned.judged.index.rules planned.judged.index.next planned.judged.index.lines line planned.judged.sound
-        (sym planned.judged.dropped ∙ e))))
+        (folding_number _ planned.lines.file planned.lines.dropped session.tree planned.folding planned.lines.line.number planned.folded below)
+      where
+        below : (dropped : Line) → planned.lines.dropped ≡ Some dropped → dropped.number < planned.lines.line.number
+        below dropped e =
+            omega (
+              arith,
+              number_is,
+              planned.judged.free,
+              dropped_below planned.judged.index.rules planned.judged.index.next planned.judged.index.lines dropped planned.judged.sound
+                  (sym planned.judged.dropped ∙ e),
+            )
 
     -- the change of the host's index
     pub index_listed : (index : Option (List ℕ)) × (planned.built.listed ≡ index_change session.host index ∷ [])

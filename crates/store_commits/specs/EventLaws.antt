@@ -11,6 +11,7 @@ use Rattle.disk_trait.specs.Files.{Files}
 use Rattle.pool_name.specs.declared.namer.Namer.{Ghosts as NamerGhosts}
 use Rattle.intent_journal.specs.declared.journal.Journal.{Journal}
 use Rattle.journal_view.specs.View.{Quiet}
+use Rattle.backup_rules.specs.declared.lines.Line.{Line}
 use Rattle.merge_view.specs.Views.{Rows}
 use Rattle.ref_counts.specs.Numbers.{Items}
 use Rattle.host_partials.specs.Held.{head_at}
@@ -19,16 +20,18 @@ use Rattle.open_sessions.specs.SessionLaws.{dump_index-sessions}
 use Rattle.receipts.specs.declared.receipt.Receipt.{Receipt}
 use Rattle.receipts.specs.declared.session.SessionName.{SessionName}
 use Rattle.office_catalog.specs.Known.{Known, receipt_named}
+use Rattle.office_model.specs.declared.answer.Answer.{Answer}
 use Rattle.office_model.specs.declared.answer.Answer.TheVariants.{Committed}
-use Rattle.office_model.specs.declared.event.Event.TheVariants.{Commit}
+use Rattle.office_model.specs.declared.event.Event.{Event}
 use Rattle.office_model.specs.declared.refusal.BrokenRule.TheVariants.{NoSession}
 use Rattle.office_model.specs.declared.refusal.Refusal.{Refusal}
-use Rattle.office_model.specs.declared.refusal.Refusal.TheVariants.{DiskFault}
-use Rattle.office_model.specs.Meaning.{Reply}
+use Rattle.office_model.specs.declared.refusal.Refusal.TheVariants.{DiskFault, Halted}
+use Rattle.office_model.specs.Meaning.{Meaning, Reply}
 use Rattle.office_model.specs.Office.{Office, Names, dump_index}
 use Rattle.office_model.specs.Parts.{dump_at}
 use Rattle.office_model.specs.Repeats.{again, receipt_named as named}
-use Rattle.office_model.specs.Step.{Running, IsStep}
+use Rattle.office_model.specs.Step.{Running, IsStep, meaning_of}
+use Rattle.office_model.specs.UsedNames.{AreNamesAfter}
 use Rattle.office_model.specs.events.Commit as CommitEvent
 use Rattle.office_files.specs.Pooled.{contents_of}
 use Rattle.office_known.specs.CatalogLaws.{receipt_known}
@@ -41,11 +44,18 @@ use Rattle.store_parts.specs.RefusedLaws.{runs_broken, runs_not_planned as runs_
 use Rattle.store_commits.specs.declared.former.Folding.{Folding}
 use Rattle.store_commits.specs.declared.judge.Lines.{Lines}
 use Rattle.store_commits.specs.declared.plan.Plan.{Plan}
+use Rattle.store_commits.specs.Committing.{EndsAs}
 use Rattle.store_commits.specs.Former.{IsFolded}
 use Rattle.store_commits.specs.Parked.{AreParked}
 use Rattle.store_commits.specs.Planned.{IsBuilt, IsPlanned, IsPlanFault}
 use Rattle.store_commits.specs.ReadyLaws.{running_ready}
 use Rattle.store_commits.specs.Tables.{place_of, again_of}
+
+-- an event that ends dumps leaves the names
+pub named_still : (event : Event) (name : SessionName) (ending : CommitEvent.Ending) → meaning_of event ≡ CommitEvent.ends name ending
+    → (office : Office) (names : Names) (answer : Answer) → AreNamesAfter office names (meaning_of event) (Ok answer) names
+named_still event name ending means office names answer =
+    subst (λ (m : Meaning). AreNamesAfter office names m (Ok answer) names) (sym means) refl
 
 pub there_within : {A : Type 0} (xs : List A) (i : ℕ) → i < length xs → (x : A) × (slice_get xs i ≡ Some x)
 there_within [] i within = absurd (omega (arith, within))
@@ -58,37 +68,41 @@ module _ {D N S : Type 0} {d : DiskGhosts D} {n : NamerGhosts N S} where
   place_is old name place e office names at =
       dump_index-sessions (given (slots old)) (contents_of at.all) office.dumps old.sessions.dumps.items at.sessions.dumps name ∙ sym e
 
-  -- no dump of the name is open
-  module _ (old : StoreParts D N S d n) (name : SessionName) (now : ℕ) (none : None ≡ place_of old.sessions.dumps.items name) where
-    -- what the event is to an office that the parts hold
+  -- the event ends dumps of a name, of which none is open
+  module _ (old : StoreParts D N S d n) (event : Event) (name : SessionName) (ending : CommitEvent.Ending)
+      (means : meaning_of event ≡ CommitEvent.ends name ending) (none : None ≡ place_of old.sessions.dumps.items name) where
+    -- what it is to an office that the parts hold
     carried_again : (office : Office) (names : Names) → IsRunning old office names → (found : Option Receipt)
         → receipt_named old.catalog.hosts name ≡ found
-        → CommitEvent.carried name now office ≡ again office (option_map (λ (receipt : Receipt). Committed receipt.number) found) (Err NoSession)
+        → (meaning_of event).carried office names
+        ≡ again office (option_map (λ (receipt : Receipt). Committed receipt.number) found) (Err NoSession)
     carried_again office names at found is =
         let none_open : dump_index office.dumps name ≡ None = place_is old name None none office names at in
         let no_dump : dump_at office.dumps name ≡ Err NoSession = rw none_open refl in
-        let ended : CommitEvent.ended name now office ≡ Err NoSession = rw no_dump refl in
+        let ended : CommitEvent.ended name ending office ≡ Err NoSession = rw no_dump refl in
         let repeated : CommitEvent.repeated name office.hosts office.dumps ≡ option_map (λ (receipt : Receipt). Committed receipt.number) found =
         ap (λ (place : Option ℕ). if is_some place then None else option_map (λ (receipt : Receipt). Committed receipt.number)
         (named office.hosts name)) none_open
         ∙ ap (option_map (λ (receipt : Receipt). Committed receipt.number))
         (sym (receipt_known office.hosts name) ∙ ap (λ (k : Known). receipt_named k.hosts name) (sym at.catalog_is) ∙ is) in
-        λ i. again office (repeated i) (ended i)
+        ap (λ (m : Meaning). m.carried office names) means ∙ (λ i. again office (repeated i) (ended i))
 
-    again_as : (found : Option Receipt) → receipt_named old.catalog.hosts name ≡ found → Runs old (Commit name now) (again_of found) old
-    again_as None is = runs_broken old (Commit name now) NoSession (λ office names at. carried_again office names at None is)
+    again_as : (found : Option Receipt) → receipt_named old.catalog.hosts name ≡ found → Runs old event (again_of found) old
+    again_as None is = runs_broken old event NoSession (λ office names at. carried_again office names at None is)
     again_as (Some receipt) is =
-        runs_reads old old (Commit name now) (Ok (Committed receipt.number)) (reads_still old)
-        (λ office names at. step office names (carried_again office names at (Some receipt) is)) (λ office names at. tt) refl
+        runs_reads old old event (Ok (Committed receipt.number)) (reads_still old)
+        (λ office names at. step office names (carried_again office names at (Some receipt) is)) (λ office names at. tt)
+        (sym (ap (λ (m : Meaning). m.kind) means)) (λ e. absurd cc)
         (counted_still (d.fault_count old.journal.disk) (Ok (Committed receipt.number) ≡ Err DiskFault) (λ e. absurd cc))
       where
-        step : (office : Office) (names : Names) → CommitEvent.carried name now office ≡ Ok (record { answer = Committed receipt.number; after = office })
-            → IsStep (Running office names) (Commit name now) (Ok (Committed receipt.number)) (Running office names)
-        step office names is = (is, refl)
+        step : (office : Office) (names : Names)
+            → (meaning_of event).carried office names ≡ Ok (record { answer = Committed receipt.number; after = office })
+            → IsStep (Running office names) event (Ok (Committed receipt.number)) (Running office names)
+        step office names is = (is, named_still event name ending means office names (Committed receipt.number))
 
-    pub runs_again : (reply : Reply) → reply ≡ again_of (receipt_named old.catalog.hosts name) → Runs old (Commit name now) reply old
+    pub runs_again : (reply : Reply) → reply ≡ again_of (receipt_named old.catalog.hosts name) → Runs old event reply old
     runs_again reply is =
-        subst (λ (r : Reply). Runs old (Commit name now) r old) (sym is) (again_as (receipt_named old.catalog.hosts name) refl)
+        subst (λ (r : Reply). Runs old event r old) (sym is) (again_as (receipt_named old.catalog.hosts name) refl)
 
   built_read : (old : StoreParts D N S d n) (journal : Journal D d) (host : ℕ) (lines : Lines) (parked : Option Rows) (folding : Option Folding)
       (counts : Items) (rows : Rows) (plan : Plan) → IsBuilt old host lines parked folding counts rows plan
@@ -114,9 +128,9 @@ module _ {D N S : Type 0} {d : DiskGhosts D} {n : NamerGhosts N S} where
   }
 
   pub planned_read : (old mid : StoreParts D N S d n) → Quiet old.journal mid.journal → mid ≡ record old { journal = mid.journal }
-      → (session : OpenDump) (now : ℕ) (plan : Plan) → IsPlanned old session now plan → IsPlanned mid session now plan
-  planned_read old mid quiet others session now plan p =
-      subst (λ (parts : StoreParts D N S d n). IsPlanned parts session now plan) (sym others) (record {
+      → (session : OpenDump) (line : Line) (plan : Plan) → IsPlanned old session line plan → IsPlanned mid session line plan
+  planned_read old mid quiet others session line plan p =
+      subst (λ (parts : StoreParts D N S d n). IsPlanned parts session line plan) (sym others) (record {
         lines = p.lines;
         judged = p.judged;
         folding = p.folding;
@@ -132,12 +146,15 @@ module _ {D N S : Type 0} {d : DiskGhosts D} {n : NamerGhosts N S} where
       })
 
   -- the plan was refused
-  pub runs_not_planned : (old mid : StoreParts D N S d n) (name : SessionName) (now place : ℕ) (refusal : Refusal)
+  pub runs_not_planned : (old mid : StoreParts D N S d n) (event : Event) (name : SessionName) (place : ℕ) (line : Line) (refusal : Refusal)
+      → EndsAs old event name place line
       → place < length old.sessions.dumps.items → Quiet old.journal mid.journal → mid ≡ record old { journal = mid.journal }
       → ((session : OpenDump) → slice_get old.sessions.dumps.items place ≡ Some session → IsPlanFault old session refusal)
+      → ((session : OpenDump) → slice_get old.sessions.dumps.items place ≡ Some session → refusal ≡ Halted → ⊥)
       → Counted (d.fault_count old.journal.disk) (d.fault_count mid.journal.disk) (IsErrOf {T = Plan} (Err refusal) DiskFault)
-      → Runs old (Commit name now) (Err refusal) mid
-  runs_not_planned old mid name now place refusal within quiet others kind counted =
+      → Runs old event (Err refusal) mid
+  runs_not_planned old mid event name place line refusal ends within quiet others kind awake counted =
       let w = there_within old.sessions.dumps.items place within in
-      runs_plan_refused old mid (Commit name now) refusal (reads_behind old mid quiet others) (λ office names at. refl)
-      (λ office names at. kind w.0 w.1 at.all at.told_is (running_ready old place w.0 office names at w.1)) counted
+      runs_plan_refused old mid event refusal (reads_behind old mid quiet others)
+      (λ office names at. ap (λ (m : Meaning). m.touches office names) ends.means)
+      (λ office names at. kind w.0 w.1 at.all at.told_is (running_ready old place w.0 office names at w.1)) (awake w.0 w.1) counted

@@ -60,13 +60,14 @@ still_at part (z ∷ xs) x x' y same (suc i) b e = still_at part xs x x' y same 
 -- ---- what was built
 
 -- the files of a host for a dump with these rows
-pub record IsBuiltOf (told : Option Files) (number : ℕ) (host : Host) (dump : Dump) (now : ℕ) (rows : Rows)
+pub record IsBuiltOf (told : Option Files) (number : ℕ) (host : Host) (dump : Dump) (line : Line) (rows : Rows)
     (parked : Option Rows) (folding : Option Folding) (old_items items : Items) (bytes : Option (List ℕ)) (files : HostFiles) : Type 0 where
-  pub index : IsHostFile (index_of_host number (with_commit host dump now)) bytes
+  pub index : IsHostFile (index_of_host number (with_commit host dump line)) bytes
   pub table : IsTable Second rows × (files.table ≡ table_file Second rows)
   pub counts : IsCounts items × (files.counts ≡ counts_file number items)
   pub former : IsFormerFile folding files.former
-  pub is_former : IsFormer host.next files.former
+  pub free : host.next ≤ line.number
+  pub is_former : IsFormer line.number files.former
   pub folded : IsFolded told number (dropped_of host.rules (lines_of host.backups)) rows folding
   pub parked_is : files.parked ≡ is_some parked
   pub are_counted : IsCountedBy old_items parked folding rows items
@@ -86,34 +87,34 @@ pub record HostAfter (given : PoolId → Type 0) (contents : PoolId → List ℕ
 
 module _ (given given' : PoolId → Type 0) (contents contents' : PoolId → List ℕ)
     (same : (id : PoolId) → given id → given' id × (contents id ≡ contents' id)) (told : Option Files) (all : Files) (is_told : told ≡ Some all)
-    (number : ℕ) (host : Host) (dump : Dump) (now : ℕ) (rows : Rows) (parked : Option Rows) (folding : Option Folding)
+    (number : ℕ) (host : Host) (dump : Dump) (line : Line) (rows : Rows) (parked : Option Rows) (folding : Option Folding)
     (old_items items : Items) (pooled : List Change) (bytes : Option (List ℕ))
-    (files : HostFiles) (of_index : AreOfIndex pooled) (built : IsBuiltOf told number host dump now rows parked folding old_items items bytes files)
+    (files : HostFiles) (of_index : AreOfIndex pooled) (built : IsBuiltOf told number host dump line rows parked folding old_items items bytes files)
     (before : AreNumbered host.next host.backups)
-    (limit : (with_commit host dump now).next ≤ number_limit) (few : length rows ≤ 1048576)
-    (numbered : AreNumbered (with_commit host dump now).next (with_commit host dump now).backups)
-    (fresh : IsShown given' contents' (new_backup host dump now) (new_stored rows))
+    (limit : (with_commit host dump line).next ≤ number_limit) (few : length rows ≤ 1048576)
+    (numbered : AreNumbered (with_commit host dump line).next (with_commit host dump line).backups)
+    (fresh : IsShown given' contents' (new_backup dump line) (new_stored rows))
     (none : (n : ℕ) → is_some (backup_index host.backups n) ≡ false → all (F.Table number n) ≡ None)
     (known : parked ≡ None → all (F.Partial number) ≡ None) where
   abbrev image : Files
-  image = applied (pooled ++ host_part number host.next bytes files) all
+  image = applied (pooled ++ host_part number line.number bytes files) all
 
   abbrev new : Host
-  new = with_commit host dump now
+  new = with_commit host dump line
 
   index : IsHostFile (index_of_host number new) (image (F.Host number))
-  index = subst (IsHostFile (index_of_host number new)) (sym (at_host pooled number host.next bytes files all of_index built.is_former)) built.index
+  index = subst (IsHostFile (index_of_host number new)) (sym (at_host pooled number line.number bytes files all of_index built.is_former)) built.index
 
-  table : IsTableFile rows (image (F.Table number host.next))
-  table = table_after pooled number host.next bytes files all of_index built.is_former rows built.table.0 built.table.1
+  table : IsTableFile rows (image (F.Table number line.number))
+  table = table_after pooled number line.number bytes files all of_index built.is_former rows built.table.0 built.table.1
 
   counts_at : (count : PoolId → ℕ) → IsCountsFile number count (Some (counts_file number items)) → IsCountsFile number count (image (F.Counts number))
   counts_at count = subst (IsCountsFile number count)
-      (sym (at_counts pooled number host.next bytes files all of_index built.is_former ∙ ap (λ (b : List ℕ). Some b) built.counts.1))
+      (sym (at_counts pooled number line.number bytes files all of_index built.is_former ∙ ap (λ (b : List ℕ). Some b) built.counts.1))
 
   absent : image (F.Partial number) ≡ None
   absent =
-      at_no_partial pooled number host.next bytes files all of_index built.is_former (λ e. known (none_known parked (sym built.parked_is ∙ e)))
+      at_no_partial pooled number line.number bytes files all of_index built.is_former (λ e. known (none_known parked (sym built.parked_is ∙ e)))
     where
       none_known : (rows : Option Rows) → is_some rows ≡ false → rows ≡ None
       none_known None e = refl
@@ -136,12 +137,12 @@ module _ (given given' : PoolId → Type 0) (contents contents' : PoolId → Lis
         no_more [] e = refl
         no_more (x ∷ xs) e = absurd (omega (arith, e))
 
-    one_backup : new.backups ≡ new_backup host dump now ∷ []
-    one_backup = ap (λ (b : List Backup). with_newest host.rules b (new_backup host dump now)) was
+    one_backup : new.backups ≡ new_backup dump line ∷ []
+    one_backup = ap (λ (b : List Backup). with_newest host.rules b (new_backup dump line)) was
 
-    not_found : (n : ℕ) → is_some (backup_index new.backups n) ≡ false → n ≢ host.next
+    not_found : (n : ℕ) → is_some (backup_index new.backups n) ≡ false → n ≢ line.number
     not_found n e same =
-        true≢false (sym (found (host.next == n) (eq-eqb host.next n (sym same)))
+        true≢false (sym (found (line.number == n) (eq-eqb line.number n (sym same)))
         ∙ ap (λ (b : List Backup). is_some (backup_index b n)) (sym one_backup) ∙ e)
       where
         found : (b : Bool) → b ≡ true → is_some {T = ℕ} (if b then Some 0 else None) ≡ true
@@ -156,13 +157,13 @@ module _ (given given' : PoolId → Type 0) (contents contents' : PoolId → Lis
     host_first : HostAfter given' contents' image number host new items shown
     host_first = record {
       after = new_stored rows ∷ [];
-      stands = host_first_committed given' contents' image number new (new_backup host dump now) (new_stored rows) one_backup fresh index table
+      stands = host_first_committed given' contents' image number new (new_backup dump line) (new_stored rows) one_backup fresh index table
           refl absent
           (counts_at (λ id. total id (counted (backups_alone (new_stored rows ∷ []))))
           (counts_written number items (backups_alone (new_stored rows ∷ [])) built.counts.0 counted_first));
       counted = counted_first;
       beyond = λ n e.
-          others_first pooled number host.next bytes files all of_index built.is_former folding n none_folded built.former (not_found n e)
+          others_first pooled number line.number bytes files all of_index built.is_former folding n none_folded built.former (not_found n e)
           ∙ none n (ap (λ (b : List Backup). is_some (backup_index b n)) was);
       still = λ i b s e f. nothing i b (ap (λ (b : List Backup). slice_get b i) (sym was) ∙ e);
     }
@@ -199,9 +200,9 @@ module _ (given given' : PoolId → Type 0) (contents contents' : PoolId → Lis
     below : newest.line.number < host.next
     below = before.below (length older) newest (ap (λ (l : List Backup). slice_get l (length older)) were ∙ last_there older newest)
 
-    pushed : new.backups ≡ (older ++ filled_as stays newest ∷ []) ++ new_backup host dump now ∷ []
-    pushed = ap (λ (b : List Backup). with_newest host.rules b (new_backup host dump now)) were
-        ∙ with_newest-push host.rules older newest (new_backup host dump now)
+    pushed : new.backups ≡ (older ++ filled_as stays newest ∷ []) ++ new_backup dump line ∷ []
+    pushed = ap (λ (b : List Backup). with_newest host.rules b (new_backup dump line)) were
+        ∙ with_newest-push host.rules older newest (new_backup dump line)
 
     shown_after : AtEachPair (λ i. IsShown given' contents') new.backups (with_new olds last stays (new_stored rows))
     shown_after =
@@ -212,25 +213,25 @@ module _ (given given' : PoolId → Type 0) (contents contents' : PoolId → Lis
         let is = shown_given given given' contents contents' same newest last (pairs_last (IsShown given contents) older newest olds last was) in
         let two = pairs_push (IsShown given' contents') (older ++ filled_as stays newest ∷ []) (olds ++ kept ∷ [])
         (pairs_push (IsShown given' contents') older olds front (filled_as stays newest) kept
-        (record { filled = refl; tree = is.tree; whole = is.whole; told = is.told })) (new_backup host dump now) (new_stored rows) fresh in
+        (record { filled = refl; tree = is.tree; whole = is.whole; told = is.told })) (new_backup dump line) (new_stored rows) fresh in
         subst (λ (l : List Backup). AtEachPair (λ i. IsShown given' contents') l (with_new olds last stays (new_stored rows))) (sym pushed)
         (subst (λ (l : List StoredBackup). AtEachPair (λ i. IsShown given' contents')
-        ((older ++ filled_as stays newest ∷ []) ++ new_backup host dump now ∷ []) l) (append_assoc olds (kept ∷ []) (new_stored rows ∷ [])) two)
+        ((older ++ filled_as stays newest ∷ []) ++ new_backup dump line ∷ []) l) (append_assoc olds (kept ∷ []) (new_stored rows ∷ [])) two)
 
     counted_further : AreCounts items (backups_alone (with_new olds last stays (new_stored rows)))
     counted_further =
         counts_further items old_items parked folding rows olds last stays built.are_counted fold left
-        (few_counted given contents host.next host.backups (olds ++ last ∷ []) before (omega (arith, limit)) stands.shown)
+        (few_counted given contents host.next host.backups (olds ++ last ∷ []) before (omega (arith, limit, built.free)) stands.shown)
         (few_counted given' contents' new.next new.backups (with_new olds last stays (new_stored rows)) numbered limit shown_after)
 
-    is_written : IsWritten all image number host dump now newest olds last rows
+    is_written : IsWritten all image number host dump line newest olds last rows
     is_written = record {
       index = index;
       table = table;
-      former = former_after pooled number host.next bytes files all of_index built.is_former told newest.line stays last.rows rows folding table_last
-          built.former folded fold (λ e. omega (arith, e, below));
+      former = former_after pooled number line.number bytes files all of_index built.is_former told newest.line stays last.rows rows folding table_last
+          built.former folded fold (λ e. omega (arith, e, below, built.free));
       others = λ n a b.
-          others_after pooled number host.next bytes files all of_index built.is_former told newest.line stays rows folding n built.former folded a b;
+          others_after pooled number line.number bytes files all of_index built.is_former told newest.line stays rows folding n built.former folded a b;
       no_partial = absent;
       counts = counts_at (λ id. total id (counted (backups_alone (with_new olds last stays (new_stored rows)))))
           (counts_written number items (backups_alone (with_new olds last stays (new_stored rows))) built.counts.0 counted_further);
@@ -239,15 +240,15 @@ module _ (given given' : PoolId → Type 0) (contents contents' : PoolId → Lis
     host_last : HostAfter given' contents' image number host new items (olds ++ last ∷ [])
     host_last = record {
       after = with_new olds last stays (new_stored rows);
-      stands = host_further given given' contents contents' same all image number host dump now newest older olds last rows were numbered is_written
+      stands = host_further given given' contents contents' same all image number host dump line newest older olds last rows were numbered is_written
           fresh partial stands;
       counted = counted_further;
-      beyond = none_beyond given given' contents contents' same all image number host dump now newest older olds last rows were numbered is_written
+      beyond = none_beyond given given' contents contents' same all image number host dump line newest older olds last rows were numbered is_written
           none;
       still = λ i b s e f. (
         subst (λ (l : List Backup). StillAt (λ (b : Backup). b.line.number) b (slice_get l i))
-            (sym (pushed ∙ append_assoc older (filled_as stays newest ∷ []) (new_backup host dump now ∷ [])))
-            (still_at (λ (b : Backup). b.line.number) older newest (filled_as stays newest) (new_backup host dump now) refl i b
+            (sym (pushed ∙ append_assoc older (filled_as stays newest ∷ []) (new_backup dump line ∷ [])))
+            (still_at (λ (b : Backup). b.line.number) older newest (filled_as stays newest) (new_backup dump line) refl i b
             (ap (λ (l : List Backup). slice_get l i) (sym were) ∙ e)),
         still_at (λ (s : StoredBackup). s.rows) olds last kept (new_stored rows) refl i s f,
       );

@@ -7,6 +7,7 @@ use Rattle.std.proofs.Common.{refl, ap, ◌∙◌, inl, inr}
 use Rattle.disk_trait.specs.declared.ids.PoolId.{PoolId}
 use Rattle.disk_trait.specs.declared.ids.FileId.TheVariants as F
 use Rattle.disk_trait.specs.Files.{Files}
+use Rattle.backup_rules.specs.declared.lines.Line.{Line}
 use Rattle.backup_rules.specs.Fill.{stays_filled}
 use Rattle.merge_view.specs.Views.{Rows, reverse}
 use Rattle.ref_counts.specs.Numbers.{total}
@@ -37,13 +38,13 @@ abbrev pub new_stored : Rows → StoredBackup
 new_stored rows = record { filled = true; rows = rows }
 
 -- what stands in the files of a host behind a commit of a host that has backups already
-pub record IsWritten (files image : Files) (number : ℕ) (host : Host) (dump : Dump) (now : ℕ) (newest : Backup) (olds : List StoredBackup)
+pub record IsWritten (files image : Files) (number : ℕ) (host : Host) (dump : Dump) (line : Line) (newest : Backup) (olds : List StoredBackup)
     (last : StoredBackup) (rows : Rows) : Type 0 where
-  pub index : IsHostFile (index_of_host number (with_commit host dump now)) (image (F.Host number))
-  pub table : IsTableFile rows (image (F.Table number host.next))
+  pub index : IsHostFile (index_of_host number (with_commit host dump line)) (image (F.Host number))
+  pub table : IsTableFile rows (image (F.Table number line.number))
   pub former : IsTableFile (if stays_filled host.rules newest.line then last.rows else reverse last.rows rows)
       (image (F.Table number newest.line.number))
-  pub others : (n : ℕ) → n ≢ newest.line.number → n ≢ host.next → image (F.Table number n) ≡ files (F.Table number n)
+  pub others : (n : ℕ) → n ≢ newest.line.number → n ≢ line.number → image (F.Table number n) ≡ files (F.Table number n)
   pub no_partial : image (F.Partial number) ≡ None
   pub counts : IsCountsFile number
       (λ id. total id (counted (backups_alone (with_new olds last (stays_filled host.rules newest.line) (new_stored rows)))))
@@ -51,14 +52,14 @@ pub record IsWritten (files image : Files) (number : ℕ) (host : Host) (dump : 
 
 module _ (given given' : PoolId → Type 0) (contents contents' : PoolId → List ℕ)
     (same : (id : PoolId) → given id → given' id × (contents id ≡ contents' id)) (files image : Files) (number : ℕ) (host : Host) (dump : Dump)
-    (now : ℕ) (newest : Backup) (older : List Backup) (olds : List StoredBackup) (last : StoredBackup) (rows : Rows)
-    (were : host.backups ≡ older ++ newest ∷ []) (numbered : AreNumbered (with_commit host dump now).next (with_commit host dump now).backups)
-    (written : IsWritten files image number host dump now newest olds last rows) where
-  commit_of : IsCommit files image number (with_commit host dump now) older newest (new_backup host dump now) olds last (new_stored rows)
+    (line : Line) (newest : Backup) (older : List Backup) (olds : List StoredBackup) (last : StoredBackup) (rows : Rows)
+    (were : host.backups ≡ older ++ newest ∷ []) (numbered : AreNumbered (with_commit host dump line).next (with_commit host dump line).backups)
+    (written : IsWritten files image number host dump line newest olds last rows) where
+  commit_of : IsCommit files image number (with_commit host dump line) older newest (new_backup dump line) olds last (new_stored rows)
       (stays_filled host.rules newest.line)
   commit_of = record {
-    backups = ap (λ (b : List Backup). with_newest host.rules b (new_backup host dump now)) were
-        ∙ with_newest-push host.rules older newest (new_backup host dump now);
+    backups = ap (λ (b : List Backup). with_newest host.rules b (new_backup dump line)) were
+        ∙ with_newest-push host.rules older newest (new_backup dump line);
     numbered = numbered;
     index = written.index;
     former = written.former;
@@ -69,16 +70,16 @@ module _ (given given' : PoolId → Type 0) (contents contents' : PoolId → Lis
     counts = written.counts;
   }
 
-  pub host_further : IsShown given' contents' (new_backup host dump now) (new_stored rows) → (partial : Option Rows)
+  pub host_further : IsShown given' contents' (new_backup dump line) (new_stored rows) → (partial : Option Rows)
       → StandsHost given contents files number host (record { backups = olds ++ last ∷ []; partial = partial })
-      → StandsHost given' contents' image number (with_commit host dump now)
+      → StandsHost given' contents' image number (with_commit host dump line)
       (backups_alone (with_new olds last (stays_filled host.rules newest.line) (new_stored rows)))
   host_further fresh partial stands =
-      host_committed given given' contents contents' same files image number host (with_commit host dump now) older newest
-      (new_backup host dump now) olds last (new_stored rows) (stays_filled host.rules newest.line) were commit_of fresh partial stands
+      host_committed given given' contents contents' same files image number host (with_commit host dump line) older newest
+      (new_backup dump line) olds last (new_stored rows) (stays_filled host.rules newest.line) were commit_of fresh partial stands
 
   pub none_beyond : ((n : ℕ) → is_some (backup_index host.backups n) ≡ false → files (F.Table number n) ≡ None)
-      → (n : ℕ) → is_some (backup_index (with_commit host dump now).backups n) ≡ false → image (F.Table number n) ≡ None
+      → (n : ℕ) → is_some (backup_index (with_commit host dump line).backups n) ≡ false → image (F.Table number n) ≡ None
   none_beyond none =
-      beyond_commit files image number host (with_commit host dump now) older newest (new_backup host dump now) olds last (new_stored rows)
+      beyond_commit files image number host (with_commit host dump line) older newest (new_backup dump line) olds last (new_stored rows)
       (stays_filled host.rules newest.line) were commit_of none

@@ -9,7 +9,7 @@ use Rattle.backup_index.specs.Index.{Index}
 use Rattle.office_catalog.specs.Known.{Known, known_of, changed_at, with_change, with_line}
 use Rattle.office_model.specs.Office.{Durable, Host, Dump, IsUnspent}
 use Rattle.office_model.specs.Parts.{lines_of}
-use Rattle.office_model.specs.events.Commit.{new_line, with_commit}
+use Rattle.office_model.specs.events.Commit.{with_commit}
 use Rattle.office_files.specs.Hosts.{index_of_host}
 use Rattle.office_known.specs.KnownLaws.{indices_from, known_of_office}
 use Rattle.store_commits.specs.Former.{dropped_of}
@@ -53,14 +53,14 @@ module _ (f : Index → Index) (host new : Host) where
       let k : p ≡ 0 + p = omega arith in
       replaced_from 0 p hosts here (subst (λ (m : ℕ). f (index_of_host m host) ≡ index_of_host m new) k is)
 
-pub catalog_committed : (known : Known) (office : Durable) (p : ℕ) (host : Host) (dump : Dump) (now : ℕ) (line : Line)
+pub catalog_committed : (known : Known) (office : Durable) (p : ℕ) (host : Host) (dump : Dump) (line written : Line)
     (dropped : Option Line) (receipt : Option Receipt) → known ≡ known_of_office office → slice_get office.hosts p ≡ Some host
-    → line ≡ new_line host dump now → dropped ≡ dropped_of host.rules (lines_of host.backups)
-    → receipt ≡ receipt_by dump.token dump.name host.next → IsUnspent host.receipts dump.token
-    → with_change known p (with_line line (not (is_some dropped)) receipt)
-    ≡ known_of office.epoch (indices_from 0 (slice_set office.hosts p (with_commit host dump now)))
-catalog_committed known office p host dump now line dropped receipt is here line_is dropped_is receipt_is unspent =
+    → written ≡ line → dropped ≡ dropped_of host.rules (lines_of host.backups)
+    → receipt ≡ receipt_by dump.token dump.name line.number → IsUnspent host.receipts dump.token
+    → with_change known p (with_line written (not (is_some dropped)) receipt)
+    ≡ known_of office.epoch (indices_from 0 (slice_set office.hosts p (with_commit host dump line)))
+catalog_committed known office p host dump line written dropped receipt is here line_is dropped_is receipt_is unspent =
     (λ i. with_change (is i) p (with_line (line_is i) (not (is_some (dropped_is i))) (receipt_is i)))
     ∙ ap (known_of office.epoch)
-    (host_replaced (with_line (new_line host dump now) (not (is_some (dropped_of host.rules (lines_of host.backups))))
-    (receipt_by dump.token dump.name host.next)) host (with_commit host dump now) p office.hosts here (index_committed host dump now p unspent))
+    (host_replaced (with_line line (not (is_some (dropped_of host.rules (lines_of host.backups))))
+    (receipt_by dump.token dump.name line.number)) host (with_commit host dump line) p office.hosts here (index_committed host dump line p unspent))

@@ -6,6 +6,7 @@ use Rattle.disk_trait.specs.declared.disk.Disk.{Ghosts as DiskGhosts}
 use Rattle.pool_name.specs.declared.namer.Namer.{Ghosts as NamerGhosts}
 use Rattle.attr_tables.specs.declared.layouts.TableLayout.TheVariants.{Second}
 use Rattle.attr_tables.specs.Tables.{table_file}
+use Rattle.backup_rules.specs.declared.lines.Line.{Line}
 use Rattle.merge_view.specs.Views.{Rows}
 use Rattle.open_sessions.specs.declared.sessions.OpenDump.{OpenDump}
 use Rattle.office_files.specs.TableLayouts.{is_first_layout, WriteNoFirst}
@@ -45,11 +46,11 @@ host_second host number index files rows folding table former = (
 )
 
 module _ {D N S : Type 0} {d : DiskGhosts D} {n : NamerGhosts N S} where
-  pub second_planned : (parts : StoreParts D N S d n) (session : OpenDump) (now : ℕ) (plan : Plan) → IsPlanned parts session now plan
+  pub second_planned : (parts : StoreParts D N S d n) (session : OpenDump) (line : Line) (plan : Plan) → IsPlanned parts session line plan
       → WriteNoFirst plan.changes
-  second_planned parts session now plan planned =
-      let index = index_listed parts session now plan planned in
-      subst WriteNoFirst (sym (changes_are parts session now plan planned))
+  second_planned parts session line plan planned =
+      let index = index_listed parts session line plan planned in
+      subst WriteNoFirst (sym (changes_are parts session line plan planned))
       (none_in_both planned.built.pooled (host_part session.host planned.lines.line.number index.0 planned.built.files)
       (second_of_index planned.built.pooled (of_index _ _ _ planned.built.pooled planned.built.leads).only)
       (host_second session.host planned.lines.line.number index.0 planned.built.files session.tree planned.folding planned.built.table.1

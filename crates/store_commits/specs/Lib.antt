@@ -31,3 +31,4 @@ pub mod KnownLaws
 pub mod EventLaws
 pub mod HoldLaws
 pub mod HeedLaws
+pub mod NumberLaws

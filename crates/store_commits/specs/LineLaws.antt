@@ -17,7 +17,7 @@ use Rattle.office_model.specs.Office.{Host, Backup, Dump, IsUnspent}
 use Rattle.office_model.specs.Places.{AtEach}
 use Rattle.office_model.specs.laws.RepeatLaws.{same_token}
 use Rattle.office_model.specs.Parts.{lines_of, filled_as, with_newest}
-use Rattle.office_model.specs.events.Commit.{new_line, new_backup, with_receipt, with_commit}
+use Rattle.office_model.specs.events.Commit.{new_backup, with_receipt, with_commit}
 use Rattle.office_files.specs.Hosts.{index_of_host}
 use Rattle.office_files.specs.Pairs.{last_there, longer}
 use Rattle.office_changes.specs.CommitLaws.{with_newest-push}
@@ -79,36 +79,36 @@ given_receipts (Some token) name number receipts unspent =
     (none_has receipts token unspent)
 
 -- the lines of the host with the new backup
-module _ (host : Host) (dump : Dump) (now : ℕ) where
-  lines_after : (backups : List Backup) → lines_of (with_newest host.rules backups (new_backup host dump now))
-      ≡ last_filled (not (is_some (dropped_of host.rules (lines_of backups)))) (lines_of backups) ++ new_line host dump now ∷ []
+module _ (host : Host) (dump : Dump) (line : Line) where
+  lines_after : (backups : List Backup) → lines_of (with_newest host.rules backups (new_backup dump line))
+      ≡ last_filled (not (is_some (dropped_of host.rules (lines_of backups)))) (lines_of backups) ++ line ∷ []
   lines_after backups = step (ends backups)
     where
-      step : (backups ≡ []) ⊎ HasLast backups → lines_of (with_newest host.rules backups (new_backup host dump now))
-          ≡ last_filled (not (is_some (dropped_of host.rules (lines_of backups)))) (lines_of backups) ++ new_line host dump now ∷ []
-      step (inl none) = subst (λ (b : List Backup). lines_of (with_newest host.rules b (new_backup host dump now))
-          ≡ last_filled (not (is_some (dropped_of host.rules (lines_of b)))) (lines_of b) ++ new_line host dump now ∷ []) (sym none) refl
-      step (inr further) = subst (λ (b : List Backup). lines_of (with_newest host.rules b (new_backup host dump now))
-          ≡ last_filled (not (is_some (dropped_of host.rules (lines_of b)))) (lines_of b) ++ new_line host dump now ∷ []) (sym further.is)
+      step : (backups ≡ []) ⊎ HasLast backups → lines_of (with_newest host.rules backups (new_backup dump line))
+          ≡ last_filled (not (is_some (dropped_of host.rules (lines_of backups)))) (lines_of backups) ++ line ∷ []
+      step (inl none) = subst (λ (b : List Backup). lines_of (with_newest host.rules b (new_backup dump line))
+          ≡ last_filled (not (is_some (dropped_of host.rules (lines_of b)))) (lines_of b) ++ line ∷ []) (sym none) refl
+      step (inr further) = subst (λ (b : List Backup). lines_of (with_newest host.rules b (new_backup dump line))
+          ≡ last_filled (not (is_some (dropped_of host.rules (lines_of b)))) (lines_of b) ++ line ∷ []) (sym further.is)
           (pushed further.front further.last)
         where
-          pushed : (older : List Backup) (newest : Backup) → lines_of (with_newest host.rules (older ++ newest ∷ []) (new_backup host dump now))
+          pushed : (older : List Backup) (newest : Backup) → lines_of (with_newest host.rules (older ++ newest ∷ []) (new_backup dump line))
               ≡ last_filled (not (is_some (dropped_of host.rules (lines_of (older ++ newest ∷ []))))) (lines_of (older ++ newest ∷ []))
-              ++ new_line host dump now ∷ []
+              ++ line ∷ []
           pushed older newest =
-              ap lines_of (with_newest-push host.rules older newest (new_backup host dump now))
-              ∙ lines_both (older ++ filled_as (stays_filled host.rules newest.line) newest ∷ []) (new_backup host dump now ∷ [])
-              ∙ ap (λ (l : List Line). l ++ new_line host dump now ∷ [])
+              ap lines_of (with_newest-push host.rules older newest (new_backup dump line))
+              ∙ lines_both (older ++ filled_as (stays_filled host.rules newest.line) newest ∷ []) (new_backup dump line ∷ [])
+              ∙ ap (λ (l : List Line). l ++ line ∷ [])
               (lines_both older (filled_as (stays_filled host.rules newest.line) newest ∷ [])
               ∙ sym (filled_push (stays_filled host.rules newest.line) (lines_of older) newest.line)
               ∙ (λ j. last_filled (sym (ap (λ o. not (is_some o)) (dropped_newest host.rules older newest)
               ∙ not_dropped (stays_filled host.rules newest.line) newest.line) j) (sym (lines_both older (newest ∷ [])) j)))
 
   pub index_committed : (number : ℕ) → IsUnspent host.receipts dump.token
-      → with_line (new_line host dump now) (not (is_some (dropped_of host.rules (lines_of host.backups))))
-      (receipt_by dump.token dump.name host.next) (index_of_host number host)
-      ≡ index_of_host number (with_commit host dump now)
-  index_committed number unspent = λ j. record (index_of_host number (with_commit host dump now)) {
-    receipts = given_receipts dump.token dump.name host.next host.receipts unspent j;
+      → with_line line (not (is_some (dropped_of host.rules (lines_of host.backups))))
+      (receipt_by dump.token dump.name line.number) (index_of_host number host)
+      ≡ index_of_host number (with_commit host dump line)
+  index_committed number unspent = λ j. record (index_of_host number (with_commit host dump line)) {
+    receipts = given_receipts dump.token dump.name line.number host.receipts unspent j;
     lines = sym (lines_after host.backups) j;
   }

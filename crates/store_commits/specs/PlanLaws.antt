@@ -24,7 +24,7 @@ use Rattle.store_commits.specs.declared.former.Folding.{Folding}
 use Rattle.store_commits.specs.declared.judge.Lines.{Lines}
 use Rattle.store_commits.specs.declared.plan.Plan.{Plan}
 use Rattle.store_commits.specs.Former.{dropped_of, IsFolded}
-use Rattle.store_commits.specs.Judged.{IsJudged}
+use Rattle.store_commits.specs.Judged.{IsFree, IsJudged}
 use Rattle.store_commits.specs.Parked.{AreParked}
 use Rattle.store_commits.specs.Planned.{AreCounted, IsTold, IsGatherFault, IsBuilt, IsPlanned, IsReady, IsPlanFault}
 use Rattle.store_commits.specs.Tables.{AreThere, IsLost, IsHeededBy, IsTableOf, IsKnownOf, IsTableFor, IsParkedFor}
@@ -61,17 +61,17 @@ module _ {D N S : Type 0} {d : DiskGhosts D} {n : NamerGhosts N S} where
     counted = b.counted;
   }
 
-  module _ (parts : StoreParts D N S d n) (journal : Journal D d) (at now : ℕ) (dump : OpenDump)
+  module _ (parts : StoreParts D N S d n) (journal : Journal D d) (at : ℕ) (line : Line) (dump : OpenDump)
       (there : slice_get parts.sessions.dumps.items at ≡ Some dump) (lines : Lines) (rows : Rows)
-      (judged : IsJudged parts.catalog.hosts dump now lines) (rows_are : rows ≡ dump.tree)
+      (judged : IsJudged parts.catalog.hosts dump line lines) (rows_are : rows ≡ dump.tree)
       (head : Option PartialHead) (head_is : head ≡ head_at parts.partials dump.host) where
     pub planned_of : (folding : Option Folding) (parked : Option Rows) (counts : Items) (plan : Plan)
         → IsFolded (told parts.journal) lines.file lines.dropped rows folding → AreParked (told parts.journal) head lines.file parked
         → AreCounted parts.counts dump.host parked folding rows counts → dump.host < length parts.counts
         → IsBuilt (record parts { journal = journal }) dump.host lines parked folding counts rows plan
-        → (session : OpenDump) → slice_get parts.sessions.dumps.items at ≡ Some session → IsPlanned parts session now plan
+        → (session : OpenDump) → slice_get parts.sessions.dumps.items at ≡ Some session → IsPlanned parts session line plan
     planned_of folding parked counts plan folded are counted within built session e =
-        subst (λ (s : OpenDump). IsPlanned parts s now plan) (one_there parts.sessions.dumps.items at dump session there e) (record {
+        subst (λ (s : OpenDump). IsPlanned parts s line plan) (one_there parts.sessions.dumps.items at dump session there e) (record {
           lines = lines;
           judged = judged;
           folding = folding;
@@ -105,17 +105,21 @@ module _ {D N S : Type 0} {d : DiskGhosts D} {n : NamerGhosts N S} where
         → (session : OpenDump) → slice_get parts.sessions.dumps.items at ≡ Some session → IsPlanFault parts session refusal
     gather_refused refusal fault session e all is ready = fault all is (ready_index all (ready_of session e all ready))
 
+    -- the number of the line goes with the host's next one
+    abbrev Takes : ℕ → Type 0
+    Takes next = IsFree next line.number
+
     -- the table that is called for is that of the line that was judged
-    table_judged : (file : FileId) → IsTableOf lines.file lines.dropped file → IsTableFor parts dump file
+    table_judged : (file : FileId) → IsTableOf lines.file lines.dropped file → IsTableFor Takes parts dump file
     table_judged file is = record {
       index = judged.index;
       here = judged.here;
-      number = judged.number;
+      takes = judged.free;
       is = subst (λ (h : ℕ). IsTableOf h (dropped_of judged.index.rules judged.index.lines) file) judged.file
           (subst (λ (l : Option Line). IsTableOf lines.file l file) judged.dropped is);
     }
 
-    judged_table : (session : OpenDump) → slice_get parts.sessions.dumps.items at ≡ Some session → (file : FileId) → IsTableFor parts session file
+    judged_table : (session : OpenDump) → slice_get parts.sessions.dumps.items at ≡ Some session → (file : FileId) → IsTableFor Takes parts session file
         → IsTableOf lines.file lines.dropped file
     judged_table session e file calls =
         let same : calls.index ≡ judged.index =
@@ -128,16 +132,16 @@ module _ {D N S : Type 0} {d : DiskGhosts D} {n : NamerGhosts N S} where
         (subst (λ (i : Index). IsTableOf session.host (dropped_of i.rules i.lines) file) same calls.is))
 
     -- and so is the partial
-    parked_judged : (host : ℕ) → IsKnownOf lines.file head host → IsParkedFor parts dump host
+    parked_judged : (host : ℕ) → IsKnownOf lines.file head host → IsParkedFor Takes parts dump host
     parked_judged host is = record {
       index = judged.index;
       here = judged.here;
-      number = judged.number;
+      takes = judged.free;
       is = subst (λ (h : Option PartialHead). IsKnownOf dump.host h host) head_is
           (subst (λ (k : ℕ). IsKnownOf k head host) judged.file is);
     }
 
-    judged_parked : (session : OpenDump) → slice_get parts.sessions.dumps.items at ≡ Some session → (host : ℕ) → IsParkedFor parts session host
+    judged_parked : (session : OpenDump) → slice_get parts.sessions.dumps.items at ≡ Some session → (host : ℕ) → IsParkedFor Takes parts session host
         → IsKnownOf lines.file head host
     judged_parked session e host calls =
         let same : session ≡ dump = one_there parts.sessions.dumps.items at session dump e there in
@@ -147,7 +151,7 @@ module _ {D N S : Type 0} {d : DiskGhosts D} {n : NamerGhosts N S} where
 
     there_judged : (session : OpenDump) → slice_get parts.sessions.dumps.items at ≡ Some session
         → AreThere (told parts.journal) (IsTableOf lines.file lines.dropped) (IsKnownOf lines.file head)
-        → AreThere (told parts.journal) (IsTableFor parts session) (IsParkedFor parts session)
+        → AreThere (told parts.journal) (IsTableFor Takes parts session) (IsParkedFor Takes parts session)
     there_judged session e are = record {
       tables = λ all file is calls. are.tables all file is (judged_table session e file calls);
       partial = λ all host is calls. are.partial all host is (judged_parked session e host calls);
@@ -156,18 +160,18 @@ module _ {D N S : Type 0} {d : DiskGhosts D} {n : NamerGhosts N S} where
     -- one that is lost is called for
     lost_judged : (file : FileId) (found : Option (List ℕ)) (session : OpenDump) → slice_get parts.sessions.dumps.items at ≡ Some session
         → IsLost (told parts.journal) (IsTableOf lines.file lines.dropped) (IsKnownOf lines.file head) file found
-        → IsLost (told parts.journal) (IsTableFor parts session) (IsParkedFor parts session) file found
+        → IsLost (told parts.journal) (IsTableFor Takes parts session) (IsParkedFor Takes parts session) file found
     lost_judged file found session e (inl lost) =
         let same : dump ≡ session = one_there parts.sessions.dumps.items at dump session there e in
-        inl (subst (λ (s : OpenDump). IsTableFor parts s file) same (table_judged file lost.0), lost.1)
+        inl (subst (λ (s : OpenDump). IsTableFor Takes parts s file) same (table_judged file lost.0), lost.1)
     lost_judged file found session e (inr lost) =
         let same : dump ≡ session = one_there parts.sessions.dumps.items at dump session there e in
-        inr (lost.0, subst (λ (s : OpenDump). IsParkedFor parts s lost.0) same (parked_judged lost.0 lost.1), lost.2)
+        inr (lost.0, subst (λ (s : OpenDump). IsParkedFor Takes parts s lost.0) same (parked_judged lost.0 lost.1), lost.2)
 
     -- what gathering heeds, the plan heeds
     pub gather_heeds : (refusal : Refusal) → IsHeededBy (told parts.journal) (IsTableOf lines.file lines.dropped) (IsKnownOf lines.file head) refusal
         → (session : OpenDump) → slice_get parts.sessions.dumps.items at ≡ Some session
-        → IsHeededBy (told parts.journal) (IsTableFor parts session) (IsParkedFor parts session) refusal
+        → IsHeededBy (told parts.journal) (IsTableFor Takes parts session) (IsParkedFor Takes parts session) refusal
     gather_heeds (R.Broken rule) heeds session e = there_judged session e heeds
     gather_heeds (R.Damaged file found) heeds session e = lost_judged file found session e heeds
     gather_heeds R.DiskFault heeds session e = tt
@@ -177,22 +181,22 @@ module _ {D N S : Type 0} {d : DiskGhosts D} {n : NamerGhosts N S} where
     -- the plan that was built behind it
     pub built_heeds : AreThere (told parts.journal) (IsTableOf lines.file lines.dropped) (IsKnownOf lines.file head)
         → (session : OpenDump) → slice_get parts.sessions.dumps.items at ≡ Some session
-        → AreThere (told parts.journal) (IsTableFor parts session) (IsParkedFor parts session)
+        → AreThere (told parts.journal) (IsTableFor Takes parts session) (IsParkedFor Takes parts session)
     built_heeds are session e = there_judged session e are
 
--- a dump that wasn't judged calls for no file
-pub broken_heeds : {D N S : Type 0} {d : DiskGhosts D} {n : NamerGhosts N S} (parts : StoreParts D N S d n) (at : ℕ) (dump : OpenDump)
-    → slice_get parts.sessions.dumps.items at ≡ Some dump
-    → ((index : Index) → slice_get parts.catalog.hosts dump.host ≡ Some index → index.next < 4294967296 → ⊥)
+-- a dump whose host isn't there calls for no file
+pub broken_heeds : {D N S : Type 0} {d : DiskGhosts D} {n : NamerGhosts N S} (Takes : ℕ → Type 0) (parts : StoreParts D N S d n) (at : ℕ)
+    (dump : OpenDump) → slice_get parts.sessions.dumps.items at ≡ Some dump
+    → ((index : Index) → slice_get parts.catalog.hosts dump.host ≡ Some index → Takes index.next → ⊥)
     → (session : OpenDump) → slice_get parts.sessions.dumps.items at ≡ Some session
-    → AreThere (told parts.journal) (IsTableFor parts session) (IsParkedFor parts session)
-broken_heeds parts at dump there broken session e = record {
-  tables = λ all file is calls. absurd (none calls.index calls.here calls.number);
-  partial = λ all host is calls. absurd (none calls.index calls.here calls.number);
+    → AreThere (told parts.journal) (IsTableFor Takes parts session) (IsParkedFor Takes parts session)
+broken_heeds Takes parts at dump there broken session e = record {
+  tables = λ all file is calls. absurd (none calls.index calls.here calls.takes);
+  partial = λ all host is calls. absurd (none calls.index calls.here calls.takes);
 }
   where
-    none : (index : Index) → slice_get parts.catalog.hosts session.host ≡ Some index → index.next < 4294967296 → ⊥
-    none index here number =
+    none : (index : Index) → slice_get parts.catalog.hosts session.host ≡ Some index → Takes index.next → ⊥
+    none index here takes =
         broken index
         (subst (λ (s : OpenDump). slice_get parts.catalog.hosts s.host ≡ Some index) (one_there parts.sessions.dumps.items at session dump e there)
-        here) number
+        here) takes

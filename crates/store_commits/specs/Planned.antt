@@ -115,10 +115,10 @@ module _ {D N S : Type 0} {d : DiskGhosts D} {n : NamerGhosts N S} where
     pub parked_is : files.parked ≡ is_some parked
     pub counted : IsCounts counts × (files.counts ≡ counts_file lines.file counts)
 
-  -- the plan of a commit of an open dump, by what is in memory and what the files tell
-  pub record IsPlanned (parts : StoreParts D N S d n) (session : OpenDump) (now : ℕ) (plan : Plan) : Type 0 where
+  -- the plan of a commit of an open dump as the backup of this line, by what is in memory and what the files tell
+  pub record IsPlanned (parts : StoreParts D N S d n) (session : OpenDump) (line : Line) (plan : Plan) : Type 0 where
     pub lines : Lines
-    pub judged : IsJudged parts.catalog.hosts session now lines
+    pub judged : IsJudged parts.catalog.hosts session line lines
     pub folding : Option Folding
     pub parked : Option Rows
     pub counts : Items
@@ -128,12 +128,11 @@ module _ {D N S : Type 0} {d : DiskGhosts D} {n : NamerGhosts N S} where
     pub within : session.host < length parts.counts
     pub built : IsBuilt parts session.host lines parked folding counts session.tree plan
 
-  -- What a refusal of a plan comes to: if the dump's host is there with a number left, and the files tell what is read, it is a
-  -- fault of the disk, or want of memory.
+  -- What a refusal of a plan comes to: if the dump's host is there, and the files tell what is read, it is a fault of the disk, or
+  -- want of memory.
   pub record IsReady (parts : StoreParts D N S d n) (session : OpenDump) (all : Files) : Type 0 where
     pub index : Index
     pub here : slice_get parts.catalog.hosts session.host ≡ Some index
-    pub number : index.next < 4294967296
     pub tells : IsTold all parts.counts session.host session.host (head_at parts.partials session.host) (dropped_of index.rules index.lines)
 
   abbrev pub IsPlanFault : StoreParts D N S d n → OpenDump → Refusal → Type 0

@@ -102,7 +102,6 @@ module _ {D N S : Type 0} {d : DiskGhosts D} {n : NamerGhosts N S} where
         index = index_of_host m.dump.host m.host;
         here = ap (slice_get parts.catalog.hosts) m.is.host ∙ ap (λ (k : Known). slice_get k.hosts m.dump.host) at.catalog_is
             ∙ index_there office.hosts m.dump.host m.host m.here;
-        number = m.number;
         tells = subst (λ (head : Option PartialHead). IsTold at.all parts.counts session.host session.host head
             (dropped_of m.host.rules (lines_of m.host.backups))) (sym head)
             (subst (λ (h : ℕ). IsTold at.all parts.counts session.host h (option_map head_of m.host.partial)

@@ -2,10 +2,12 @@
 --     AreThere told Calls Parks      each file that is called for has a table, and each host's that is called for a partial of it, in their grammar
 --     Heeds told Calls Parks reply      after Ok they are there
 --     IsHeededBy told Calls Parks refusal      one that isn't there is named, with what was found of it
---     IsTableFor parts session file      the table that the commit of an open dump calls for
---     IsParkedFor parts session host      the host whose partial it calls for
+--     IsTableFor Takes parts session file      the table that the commit of an open dump calls for, if its host's next number goes with it
+--     IsParkedFor Takes parts session host      the host whose partial it calls for
 --     again_of      what the commit of a dump that isn't open answers, by its receipt
---     HeedsTables old name reply new      what a commit answers for these; if one is damaged, or the dump isn't open, nothing was done
+--     HeedsEnding Takes old name reply new      what it answers for these; if one is damaged, or the dump isn't open, nothing was done
+--     HeedsTables old name reply new      of a commit, which takes the host's next number
+--     HeedsAdopted number old name reply new      of one with a number of its own
 use Rattle.std.specs.Prelude.{⊤, ◌≡◌, ◌⊎◌, ◌<◌, ℕ, List, Option, Some, None, Result, Ok, Err, slice_get}
 use Rattle.std.specs.List.{position_from}
 use Rattle.disk_trait.specs.declared.ids.FileId.{FileId}
@@ -35,6 +37,7 @@ use Rattle.office_model.specs.Meaning.{Reply}
 use Rattle.store_parts.specs.declared.parts.StoreParts.{StoreParts}
 use Rattle.store_parts.specs.Parked.{IsNoPartial}
 use Rattle.store_commits.specs.Former.{dropped_of}
+use Rattle.store_commits.specs.Judged.{IsFree}
 
 pub record AreThere (told : Option Files) (Calls : FileId → Type 0) (Parks : ℕ → Type 0) : Type 0 where
   pub tables : (all : Files) (file : FileId) → told ≡ Some all → Calls file → (rows : Rows) × IsTableFile rows (all file)
@@ -76,39 +79,50 @@ abbrev pub again_of : Option Receipt → Reply
 again_of None = Err (R.Broken NoSession)
 again_of (Some receipt) = Ok (Committed receipt.number)
 
+-- the host has a number left
+abbrev pub IsLeft : ℕ → Type 0
+IsLeft next = next < 4294967296
+
 module _ {D N S : Type 0} {d : DiskGhosts D} {n : NamerGhosts N S} where
-  -- that of its host's newest backup, if it doesn't stay filled, and the host has a number left
-  pub record IsTableFor (parts : StoreParts D N S d n) (session : OpenDump) (file : FileId) : Type 0 where
+  -- that of its host's newest backup, if it doesn't stay filled, and the host's next number goes with the commit
+  pub record IsTableFor (Takes : ℕ → Type 0) (parts : StoreParts D N S d n) (session : OpenDump) (file : FileId) : Type 0 where
     pub index : Index
     pub here : slice_get parts.catalog.hosts session.host ≡ Some index
-    pub number : index.next < 4294967296
+    pub takes : Takes index.next
     pub is : IsTableOf session.host (dropped_of index.rules index.lines) file
 
-  -- its host, if a partial of it is known, and it has a number left
-  pub record IsParkedFor (parts : StoreParts D N S d n) (session : OpenDump) (host : ℕ) : Type 0 where
+  -- its host, if a partial of it is known, and its next number goes with the commit
+  pub record IsParkedFor (Takes : ℕ → Type 0) (parts : StoreParts D N S d n) (session : OpenDump) (host : ℕ) : Type 0 where
     pub index : Index
     pub here : slice_get parts.catalog.hosts session.host ≡ Some index
-    pub number : index.next < 4294967296
+    pub takes : Takes index.next
     pub is : IsKnownOf session.host (head_at parts.partials session.host) host
 
   -- of the open dump of a name
-  pub record IsTableForName (parts : StoreParts D N S d n) (name : SessionName) (file : FileId) : Type 0 where
+  pub record IsTableForName (Takes : ℕ → Type 0) (parts : StoreParts D N S d n) (name : SessionName) (file : FileId) : Type 0 where
     pub place : ℕ
     pub session : OpenDump
     pub found : Some place ≡ place_of parts.sessions.dumps.items name
     pub there : slice_get parts.sessions.dumps.items place ≡ Some session
-    pub calls : IsTableFor parts session file
+    pub calls : IsTableFor Takes parts session file
 
-  pub record IsParkedForName (parts : StoreParts D N S d n) (name : SessionName) (host : ℕ) : Type 0 where
+  pub record IsParkedForName (Takes : ℕ → Type 0) (parts : StoreParts D N S d n) (name : SessionName) (host : ℕ) : Type 0 where
     pub place : ℕ
     pub session : OpenDump
     pub found : Some place ≡ place_of parts.sessions.dumps.items name
     pub there : slice_get parts.sessions.dumps.items place ≡ Some session
-    pub calls : IsParkedFor parts session host
+    pub calls : IsParkedFor Takes parts session host
 
-  pub record HeedsTables (old : StoreParts D N S d n) (name : SessionName) (reply : Reply) (new : StoreParts D N S d n) : Type 0 where
-    pub tables : Heeds (told old.journal) (IsTableForName old name) (IsParkedForName old name) reply
+  pub record HeedsEnding (Takes : ℕ → Type 0) (old : StoreParts D N S d n) (name : SessionName) (reply : Reply)
+      (new : StoreParts D N S d n) : Type 0 where
+    pub tables : Heeds (told old.journal) (IsTableForName Takes old name) (IsParkedForName Takes old name) reply
     pub undone : (file : FileId) (found : Option (List ℕ)) → reply ≡ Err (R.Damaged file found)
         → Quiet old.journal new.journal × (new ≡ record old { journal = new.journal })
     pub again : None ≡ place_of old.sessions.dumps.items name
         → (reply ≡ again_of (receipt_named old.catalog.hosts name)) × (new ≡ old)
+
+  abbrev pub HeedsTables : StoreParts D N S d n → SessionName → Reply → StoreParts D N S d n → Type 0
+  HeedsTables old name reply new = HeedsEnding IsLeft old name reply new
+
+  abbrev pub HeedsAdopted : ℕ → StoreParts D N S d n → SessionName → Reply → StoreParts D N S d n → Type 0
+  HeedsAdopted number old name reply new = HeedsEnding (λ next. IsFree next number) old name reply new

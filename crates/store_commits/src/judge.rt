@@ -1,6 +1,6 @@
-//! The line of the new backup, whether the former newest stays filled, and the receipt.
+//! What a commit of a line is for its host: whether the former newest stays filled, and the receipt.
 
-ghost use Rattle.std.specs.Prelude.{◌≡◌, ◌<◌, ℕ, true, false, length, Some, OnOk, IfOk, IfErr, slice_get};
+ghost use Rattle.std.specs.Prelude.{◌≡◌, ◌≤◌, ◌<◌, ℕ, true, length, Some, OnOk, IfOk, IfErr, slice_get};
 ghost use Rattle.backup_index.specs.Index.{Index};
 ghost use Rattle.open_sessions.specs.declared.sessions.OpenDump.{OpenDump as Dump};
 ghost use Rattle.store_commits.specs.Judged.{receipt_by, IsJudged};
@@ -14,7 +14,6 @@ use open_sessions::OpenDump;
 use pool_name::Namer;
 use receipts::Receipt;
 use store_parts::StoreParts;
-use stream_traits::Moment;
 
 /// The line of a new backup, the former newest's, if it doesn't stay filled, and the commit's receipt, if it has one.
 #[derive(Clone, Copy, Debug)]
@@ -24,20 +23,6 @@ pub struct Lines {
     pub line: Line,
     pub dropped: Option<Line>,
     pub receipt: Option<Receipt>,
-}
-
-/// The line of the backup that a dump becomes, at the host's next number.
-fn new_line(number: u32, dump: &OpenDump, now: Moment) -> Line
-    ensures { result ≡ record { number = number; start = dump.now.start; end = now; kind = dump.now.kind; filled = true; keep = false } }
-{
-    Line {
-        number,
-        start: dump.start,
-        end: now.seconds(),
-        kind: dump.kind,
-        filled: true,
-        keep: false,
-    }
 }
 
 /// The receipt of the commit of a dump, if it was opened with a token.
@@ -54,29 +39,27 @@ fn new_receipt(number: u32, dump: &OpenDump) -> Option<Receipt>
     }
 }
 
-/// The lines of a commit of an open dump. A dump of a host that isn't there or has no number left is refused: a store at
-/// work has none.
+/// The lines of a commit of an open dump as the backup of this line. A dump of a host that isn't there is refused: a store at work
+/// has none.
 pub(crate) fn judge<D: Disk, N: Namer>(
     parts: &StoreParts<D, N>,
     dump: &OpenDump,
-    now: Moment,
+    line: Line,
 ) -> Result<Lines, BrokenRule>
-    ensures judged { IfOk result (IsJudged parts.now.catalog.hosts dump.now now) }
+    requires free { (index : Index) → slice_get parts.now.catalog.hosts dump.now.host ≡ Some index → index.next ≤ line.number }
+    requires filled { line.filled ≡ true }
+    ensures judged { IfOk result (IsJudged parts.now.catalog.hosts dump.now line) }
     ensures within { OnOk result (dump.now.host < length parts.now.catalog.hosts) }
-    ensures broken { IfErr result (λ rule. (index : Index) → slice_get parts.now.catalog.hosts dump.now.host ≡ Some index
-        → index.next < 4294967296 → ⊥) }
+    ensures broken { IfErr result (λ rule. (index : Index) → slice_get parts.now.catalog.hosts dump.now.host ≡ Some index → ⊥) }
 {
     let Some(index) = parts.catalog.hosts().get(dump.host) else {
         return Err(BrokenRule::NoHost);
     };
-    let Ok(number) = u32::try_from(index.next()) else {
-        return Err(BrokenRule::NumbersSpent);
-    };
     let _sound = index.lines();
     Ok(Lines {
         file: index.parts().host,
-        line: new_line(number, dump, now),
+        line,
         dropped: dropped_line(index),
-        receipt: new_receipt(number, dump),
+        receipt: new_receipt(line.number, dump),
     })
 }

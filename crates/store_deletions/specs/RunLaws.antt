@@ -114,12 +114,13 @@ module _ {D N S : Type 0} {d : DiskGhosts D} {n : NamerGhosts N S} where
     -- the plan was refused
     pub runs_unplanned : (mid : StoreParts D N S d n) → IsRead old mid → (refusal : Refusal)
         → ((items : Items) → slice_get old.counts p ≡ Some items → IsPlanFault (told old.journal) old.catalog p refusal)
+        → (refusal ≡ R.Halted → ⊥)
         → Counted (d.fault_count old.journal.disk) (d.fault_count mid.journal.disk) (IsErrOf {T = DeletionPlan} (Err refusal) R.DiskFault)
         → Runs old event (Err refusal) mid
-    runs_unplanned mid read refusal fault counted =
+    runs_unplanned mid read refusal fault awake counted =
         runs_not_planned {Plan = DeletionPlan} old mid event refusal (reads_of old mid read)
         (λ office names at. (shortens office names at).touches) (λ office names at. kind office names at refusal (fault_of office names at))
-        counted
+        awake counted
       where
         fault_of : (office : Office) (names : Names) → IsRunning old office names → IsPlanFault (told old.journal) old.catalog p refusal
         fault_of office names at =
@@ -226,7 +227,7 @@ module _ {D N S : Type 0} {d : DiskGhosts D} {n : NamerGhosts N S} where
 
         pub runs_finished : Runs old event (Ok answer) new
         runs_finished =
-            runs_written old mid new event answer plan.changes done w f.journal holds_then
+            runs_written old mid new event answer plan.changes done w f.journal f.halted holds_then
             (λ office names. shortening.stay office names (Ok answer)) shortening.in_kind
 
   -- behind the plan
@@ -272,5 +273,5 @@ module _ {D N S : Type 0} {d : DiskGhosts D} {n : NamerGhosts N S} where
       → Runs old event (Ok answer) old
   runs_still old event answer carried stay in_kind =
       runs_reads old old event (Ok answer) (reads_still old)
-      (λ office names at. (carried office names at.catalog_is at.sound, stay office names)) (λ office names at. tt) in_kind
+      (λ office names at. (carried office names at.catalog_is at.sound, stay office names)) (λ office names at. tt) in_kind (λ e. absurd cc)
       (counted_still (d.fault_count old.journal.disk) _ (λ e. absurd cc))

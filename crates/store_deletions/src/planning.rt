@@ -80,6 +80,7 @@ pub fn plan_deletion<D: Disk, N: Namer>(
         → IsPlanned parts.old.catalog (told parts.old.journal) counts host numbers.now plan) }
     ensures refused { IfErr result (λ refusal. (counts : Items) → slice_get parts.old.counts host ≡ Some counts
         → IsPlanFault (told parts.old.journal) parts.old.catalog host refusal) }
+    ensures awake { IfErr result (λ refusal. refusal ≡ Refusal.Halted → ⊥) }
     ensures tables { SaysOfTables parts.old parts.new host numbers.now result }
     ensures within { IfOk result (λ plan. host < length parts.old.counts) }
     ensures quiet { Quiet parts.old.journal parts.new.journal }

@@ -56,7 +56,7 @@ module _ {D N S : Type 0} {d : DiskGhosts D} {n : NamerGhosts N S} where
           → LetsGo (λ id. claims_of_dump dump id) (slots old) (slots new))
           → new.pool.in_one_file ≡ old.pool.in_one_file → Runs old (Abort session) (Ok Done) new
       runs_aborted journal catalog counts partials views halted go form =
-          runs_kept old new (Abort session) Done journal
+          runs_kept old new (Abort session) Done journal halted
           (λ office names at.
           let found = dump_found old session index dump e there office names at in
           let next : Office = without office in

@@ -221,7 +221,7 @@ module _ {D N S : Type 0} {d : DiskGhosts D} {n : NamerGhosts N S} where
         → IsAnswerTo event (DumpAnswer session) → HasOpened old place kind start token rows session new
         → Runs old event (Ok (DumpAnswer session)) new
     runs_begun new session may stay in_kind has =
-        runs_kept old new event (DumpAnswer session) has.journal makes (λ office names. stay office names (DumpAnswer session)) in_kind
+        runs_kept old new event (DumpAnswer session) has.journal has.halted makes (λ office names. stay office names (DumpAnswer session)) in_kind
       where
         makes : (office : Office) (names : Names) → IsRunning old office names → Makes event (DumpAnswer session) office names new
         makes office names at = record { next = next; judged = judged; running = running }
@@ -279,7 +279,7 @@ module _ {D N S : Type 0} {d : DiskGhosts D} {n : NamerGhosts N S} where
   runs_base_fault old mid event (Damaged file found) reads touches counted fault =
       runs_reads old mid event (Err (Damaged file found)) reads
       (λ office names at. absurd (fault office names at)) (λ office names at. absurd (fault office names at)) tt
-      (counted_fine counted (λ e. cc) (λ e. cc))
+      (λ e. absurd cc) (counted_fine counted (λ e. cc) (λ e. cc))
   runs_base_fault old mid event DiskFault reads touches counted fault = runs_read_fault old mid event reads touches counted refl
   runs_base_fault old mid event Memory reads touches counted fault =
       runs_memory old mid event reads (counted_fine counted (λ e. cc) (λ e. e))
@@ -313,7 +313,7 @@ module _ {D N S : Type 0} {d : DiskGhosts D} {n : NamerGhosts N S} where
       -- an earlier one is repeated, and nothing was done
       pub runs_repeated : (answer : Answer) → repeated index.receipts old.sessions.dumps.items place token ≡ Some answer
           → Runs old (OpenDumpEvent name kind now token) (Ok answer) old
-      runs_repeated answer is = runs_kept old old (OpenDumpEvent name kind now token) answer refl
+      runs_repeated answer is = runs_kept old old (OpenDumpEvent name kind now token) answer refl refl
           (λ office names at. record { next = office; judged = carried_again office names at answer is; running = at })
           (λ office names. refl) (kind_repeated index.receipts old.sessions.dumps.items place token answer is)
 

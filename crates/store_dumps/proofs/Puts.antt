@@ -97,7 +97,7 @@ module _ {D N S : Type 0} {d : DiskGhosts D} {n : NamerGhosts N S} where
         (there : slice_get old.sessions.dumps.items index ≡ Some dump) where
       -- an earlier put or removal had its token
       pub runs_put_again : judged_token dump.kept token ≡ Kept → Runs old (Put session path (Whole item) token) (Ok Done) old
-      runs_put_again kept = runs_kept old old (Put session path (Whole item) token) Done refl
+      runs_put_again kept = runs_kept old old (Put session path (Whole item) token) Done refl refl
           (λ office names at. record {
             next = office;
             judged = carried_kept old session token index dump e there office names at office

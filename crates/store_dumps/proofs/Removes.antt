@@ -112,7 +112,7 @@ module _ {D N S : Type 0} {d : DiskGhosts D} {n : NamerGhosts N S} where
         (there : slice_get old.sessions.dumps.items index ≡ Some dump) where
       -- an earlier put or removal had its token
       pub runs_remove_again : judged_token dump.kept token ≡ Kept → Runs old (Remove session path token) (Ok Done) old
-      runs_remove_again kept = runs_kept old old (Remove session path token) Done refl
+      runs_remove_again kept = runs_kept old old (Remove session path token) Done refl refl
           (λ office names at. record {
             next = office;
             judged = carried_kept old session token index dump e there office names at office (RemoveEvent.removed session path office) kept;
@@ -164,7 +164,7 @@ module _ {D N S : Type 0} {d : DiskGhosts D} {n : NamerGhosts N S} where
           → new.sessions.dumps.items ≡ slice_set old.sessions.dumps.items index (removed dump path token)
           → OnlyDumps old.sessions new.sessions → Runs old (Remove session path token) (Ok Done) new
       runs_removed first new some journal catalog counts partials views halted go form dumps only =
-          runs_kept old new (Remove session path token) Done journal
+          runs_kept old new (Remove session path token) Done journal halted
           (λ office names at.
           let found = dump_found old session index dump e there office names at in
           let next : Office = with_dumps office (slice_set office.dumps index (keeping_behind token (RemoveEvent.with_removed found.value path))) in

@@ -5,7 +5,7 @@
 --     sessions_edited, claims_edited      the sessions with the node, and their claims
 --     IsMissed, runs_missed      the bytes got no name
 use Rattle.std.specs.Prelude.{◌≡◌, ◌<◌, ◌≤◌, ◌+◌, ℕ, true, false, List, length, Option, Some, Ok, Err, slice_get, slice_set, IsErrOf, ◌⊎◌}
-use Rattle.std.proofs.Common.{refl, sym, subst, inl, inr, arith}
+use Rattle.std.proofs.Common.{refl, ap, ◌∙◌, sym, subst, inl, inr, arith}
 use Rattle.fault_counts.specs.Counts.{Counted}
 use Rattle.disk_trait.specs.declared.ids.PoolId.{PoolId}
 use Rattle.disk_trait.specs.declared.disk.Disk.{Ghosts as DiskGhosts}
@@ -56,9 +56,9 @@ use Rattle.store_parts.specs.declared.parts.StoreParts.{StoreParts}
 use Rattle.store_parts.specs.Held.{given}
 use Rattle.store_parts.specs.States.{slots, IsWorking, IsRunning, staging_of}
 use Rattle.store_parts.specs.Refusals.{refusal_of_pool}
-use Rattle.store_parts.specs.Runs.{MayRecover, Steps, Runs}
+use Rattle.store_parts.specs.Runs.{MayRecover, Steps, StaysAtWork, Runs}
 use Rattle.store_parts.specs.StepLaws.{names_refused, recover_before}
-use Rattle.store_parts.specs.RunLaws.{counted_fine, counted_failed}
+use Rattle.store_parts.specs.RunLaws.{counted_fine, counted_failed, works_same}
 use Rattle.store_parts.specs.StagingLaws.{with_used, working_staged, crash_staged}
 use Rattle.store_dumps.specs.Claims.{LetsGo, claims_of_content}
 use Rattle.store_dumps.specs.Putting.{record_for, content_found, refused_put}
@@ -124,6 +124,9 @@ module _ {D N S : Type 0} {d : DiskGhosts D} {n : NamerGhosts N S} where
         → Counted (d.fault_count old.journal.disk) (d.fault_count new.journal.disk) P
     counted_at new same {P} counted =
         subst (λ (j : Journal D d). Counted (d.fault_count old.journal.disk) (d.fault_count j.disk) P) (sym same) counted
+
+    works_at : (new : StoreParts D N S d n) → new.journal ≡ journal → new.halted ≡ old.halted → StaysAtWork old new
+    works_at new same halted = works_same old new halted (ap (λ (j : Journal D d). j.halted) same ∙ stays)
 
     -- ---- the bytes got a name
 
@@ -233,6 +236,8 @@ module _ {D N S : Type 0} {d : DiskGhosts D} {n : NamerGhosts N S} where
               };
           crash = λ office names at. crash_may new same office names at;
           in_kind = refl;
+          awake = λ e. absurd cc;
+          halts = λ not. works_at new same halted;
           counted = counted_at new same (counted_fine counted fine (λ x. absurd cc));
         }
 
@@ -265,12 +270,16 @@ module _ {D N S : Type 0} {d : DiskGhosts D} {n : NamerGhosts N S} where
               };
           crash = λ office names at. crash_may new same office names at;
           in_kind = tt;
+          awake = λ e. absurd cc;
+          halts = λ not. works_at new same halted;
           counted = counted_at new same (counted_fine counted fine (λ x. absurd cc));
         }
         runs_put_back (PF.Broken broken) never go alike takes = record {
           steps = λ office names at. absurd (never office names at broken refl);
           crash = λ office names at. crash_may new same office names at;
           in_kind = tt;
+          awake = λ e. absurd cc;
+          halts = λ not. works_at new same halted;
           counted = counted_at new same (counted_fine counted fine (λ x. absurd cc));
         }
 
@@ -320,6 +329,8 @@ module _ {D N S : Type 0} {d : DiskGhosts D} {n : NamerGhosts N S} where
       steps = λ office names at. absurd (missed office names at).known;
       crash = λ office names at. crash_may mid refl office names at;
       in_kind = tt;
+      awake = λ e. absurd cc;
+      halts = λ not. works_at mid refl refl;
       counted = counted_fine counted (λ x. absurd cc) (λ x. absurd cc);
     }
     runs_missed P.Disk undamaged missed counted = record {
@@ -327,6 +338,8 @@ module _ {D N S : Type 0} {d : DiskGhosts D} {n : NamerGhosts N S} where
           ((early ((meaning_of event).carried office names), tt, refl), names_missed P.Disk office names at m R.DiskFault) tt;
       crash = λ office names at. crash_may mid refl office names at;
       in_kind = tt;
+      awake = λ e. absurd cc;
+      halts = λ not. absurd (not refl);
       counted = counted_failed counted refl refl;
     }
     runs_missed P.Memory undamaged missed counted = record {
@@ -334,6 +347,8 @@ module _ {D N S : Type 0} {d : DiskGhosts D} {n : NamerGhosts N S} where
           steps_missed P.Memory office names at m R.Memory (refl, names_missed P.Memory office names at m R.Memory) tt;
       crash = λ office names at. crash_may mid refl office names at;
       in_kind = tt;
+      awake = λ e. absurd cc;
+      halts = λ not. works_at mid refl refl;
       counted = counted_fine counted (λ x. absurd cc) (λ x. absurd cc);
     }
     runs_missed (P.Damaged id found) undamaged missed counted = absurd (undamaged id found refl)
@@ -344,5 +359,7 @@ module _ {D N S : Type 0} {d : DiskGhosts D} {n : NamerGhosts N S} where
       ) tt;
       crash = λ office names at. crash_may mid refl office names at;
       in_kind = tt;
+      awake = λ e. absurd cc;
+      halts = λ not. works_at mid refl refl;
       counted = counted_fine counted (λ x. absurd cc) (λ x. absurd cc);
     }

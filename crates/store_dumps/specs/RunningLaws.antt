@@ -31,7 +31,7 @@ use Rattle.open_sessions.specs.SessionLaws.{AreSessions-claimed, AreSessions-ali
 use Rattle.office_model.specs.declared.answer.Answer.{Answer}
 use Rattle.office_model.specs.declared.event.Event.{Event}
 use Rattle.office_model.specs.declared.refusal.Refusal.{Refusal}
-use Rattle.office_model.specs.declared.refusal.Refusal.TheVariants.{Broken, DiskFault, Memory}
+use Rattle.office_model.specs.declared.refusal.Refusal.TheVariants.{Broken, Halted, DiskFault, Memory}
 use Rattle.office_model.specs.declared.refusal.BrokenRule.{BrokenRule}
 use Rattle.office_model.specs.Meaning.{Reply}
 use Rattle.office_model.specs.Office.{Office, Durable, Host, Stage, Names}
@@ -45,7 +45,7 @@ use Rattle.store_parts.specs.declared.parts.StoreParts.{StoreParts}
 use Rattle.store_parts.specs.Held.{given, AreCountsOf, heads_of, IsKeptView, IsStored}
 use Rattle.store_parts.specs.States.{slots, IsWorking, IsRunning, staging_of}
 use Rattle.store_parts.specs.Runs.{MayRecover, Runs, Reads}
-use Rattle.store_parts.specs.RunLaws.{running_reads, crash_quiet, counted_still, counted_then}
+use Rattle.store_parts.specs.RunLaws.{running_reads, crash_quiet, counted_still, counted_then, works_same, works_reads, works_then}
 use Rattle.store_parts.specs.StepLaws.{step_memory, step_refused}
 use Rattle.store_dumps.specs.ClaimLaws.{lets_go_same}
 use Rattle.store_dumps.specs.Claims.{LetsGo}
@@ -172,11 +172,11 @@ module _ {D N S : Type 0} {d : DiskGhosts D} {n : NamerGhosts N S} where
     pub judged : (meaning_of event).carried office names ≡ Ok (record { answer = answer; after = next })
     pub running : IsRunning new next names
 
-  pub runs_kept : (old new : StoreParts D N S d n) (event : Event) (answer : Answer) → new.journal ≡ old.journal
+  pub runs_kept : (old new : StoreParts D N S d n) (event : Event) (answer : Answer) → new.journal ≡ old.journal → new.halted ≡ old.halted
       → ((office : Office) (names : Names) → IsRunning old office names → Makes event answer office names new)
       → ((office : Office) (names : Names) → AreNamesAfter office names (meaning_of event) (Ok answer) names) → IsAnswerTo event answer
       → Runs old event (Ok answer) new
-  runs_kept old new event answer journal makes stay in_kind = record {
+  runs_kept old new event answer journal halted makes stay in_kind = record {
     steps = λ office names at.
         let made = makes office names at in
         record { next = Running made.next names; step = (made.judged, stay office names); undamaged = tt; in_state = made.running };
@@ -185,6 +185,8 @@ module _ {D N S : Type 0} {d : DiskGhosts D} {n : NamerGhosts N S} where
         (sym journal)
         (FindsOnly-still old.journal (MayRecover n.digest_of office ((meaning_of event).carried office names)));
     in_kind = in_kind;
+    awake = λ e. absurd cc;
+    halts = λ not. works_same old new halted (ap (λ (j : Journal D d). j.halted) journal);
     counted = subst (λ (j : Journal D d). Counted (d.fault_count old.journal.disk) (d.fault_count j.disk) (Ok answer ≡ Err DiskFault))
         (sym journal)
         (counted_still (d.fault_count old.journal.disk) (Ok answer ≡ Err DiskFault) (λ e. absurd cc));
@@ -194,8 +196,8 @@ module _ {D N S : Type 0} {d : DiskGhosts D} {n : NamerGhosts N S} where
   pub runs_alike : (old new : StoreParts D N S d n) (event : Event) (refusal : Refusal) → HasKept old new
       → ((office : Office) (names : Names) → IsRunning old office names
       → IsStep (Running office names) event (Err refusal) (Running office names))
-      → IsUndamaged (Err refusal) → (IsFault (Err refusal) → ⊥) → Runs old event (Err refusal) new
-  runs_alike old new event refusal kept step undamaged fine = record {
+      → IsUndamaged (Err refusal) → (refusal ≡ Halted → ⊥) → (IsFault (Err refusal) → ⊥) → Runs old event (Err refusal) new
+  runs_alike old new event refusal kept step undamaged at_work fine = record {
     steps = λ office names at. record {
       next = Running office names;
       step = step office names at;
@@ -214,6 +216,8 @@ module _ {D N S : Type 0} {d : DiskGhosts D} {n : NamerGhosts N S} where
         (sym kept.journal)
         (FindsOnly-still old.journal (MayRecover n.digest_of office ((meaning_of event).carried office names)));
     in_kind = tt;
+    awake = λ e. at_work (let same : refusal ≡ Halted = cc in same);
+    halts = λ not. works_same old new kept.halted (ap (λ (j : Journal D d). j.halted) kept.journal);
     counted = subst (λ (j : Journal D d). Counted (d.fault_count old.journal.disk) (d.fault_count j.disk) (IsFault (Err refusal)))
         (sym kept.journal)
         (counted_still (d.fault_count old.journal.disk) (IsFault (Err refusal)) fine);
@@ -221,7 +225,8 @@ module _ {D N S : Type 0} {d : DiskGhosts D} {n : NamerGhosts N S} where
 
   pub runs_kept_memory : (old new : StoreParts D N S d n) (event : Event) → HasKept old new → Runs old event (Err Memory) new
   runs_kept_memory old new event kept =
-      runs_alike old new event Memory kept (λ office names at. step_memory office names event at.used.distinct) tt (λ e. absurd cc)
+      runs_alike old new event Memory kept (λ office names at. step_memory office names event at.used.distinct) tt
+      (λ e. absurd cc) (λ e. absurd cc)
 
   kept_of : (old new : StoreParts D N S d n) → new.journal ≡ old.journal → new.pool ≡ old.pool → new.catalog ≡ old.catalog
       → new.counts ≡ old.counts → new.partials ≡ old.partials → new.views ≡ old.views → new.halted ≡ old.halted
@@ -251,7 +256,8 @@ module _ {D N S : Type 0} {d : DiskGhosts D} {n : NamerGhosts N S} where
       → Runs old event (Err (Broken rule)) new
   runs_alike_refused old new event rule journal pool catalog counts partials views halted alike broken =
       runs_alike old new event (Broken rule) (kept_of old new journal pool catalog counts partials views halted alike)
-      (λ office names at. step_refused office names event rule at.used.distinct (broken office names at)) tt (λ e. absurd cc)
+      (λ office names at. step_refused office names event rule at.used.distinct (broken office names at)) tt
+      (λ e. absurd cc) (λ e. absurd cc)
 
   -- files were read before
   pub runs_read_then : (old mid new : StoreParts D N S d n) (event : Event) (reply : Reply) {failed : Type 0} → Reads old mid
@@ -264,5 +270,7 @@ module _ {D N S : Type 0} {d : DiskGhosts D} {n : NamerGhosts N S} where
         (crash_quiet old mid office names at reads ((meaning_of event).carried office names))
         (runs.crash office names (running_reads old mid office names at reads));
     in_kind = runs.in_kind;
+    awake = runs.awake;
+    halts = λ not. works_then old mid new (works_reads old mid reads) (runs.halts not);
     counted = counted_then counted fine runs.counted;
   }

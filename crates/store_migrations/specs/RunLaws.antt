@@ -51,7 +51,7 @@ use Rattle.store_parts.specs.Held.{AreCountsOf}
 use Rattle.store_parts.specs.States.{slots, IsRunning}
 use Rattle.store_parts.specs.Runs.{Runs, Reads}
 use Rattle.store_parts.specs.Writes.{Writes}
-use Rattle.store_parts.specs.RunLaws.{running_reads, crash_quiet, reads_behind, runs_behind, counted_still}
+use Rattle.store_parts.specs.RunLaws.{running_reads, crash_quiet, reads_behind, runs_behind, counted_still, works_reads}
 use Rattle.store_parts.specs.RefusedLaws.{runs_not_planned as runs_unplanned}
 use Rattle.store_parts.specs.WriteLaws.{LeadsTo, LeavesIndex, HoldsAs, runs_write_refused, runs_written_as, running_renamed, running_hosts}
 use Rattle.store_migrations.specs.Migrated.{AreRead, changes_of, IsPlanned, IsPlanFault}
@@ -156,13 +156,21 @@ module _ {D N S : Type 0} {d : DiskGhosts D} {n : NamerGhosts N S} where
       fault_told (R.Broken rule) kind = absurd kind
       fault_told R.Halted kind = absurd kind
 
+    -- it isn't that the store is halted
+    told_awake : (refusal : Refusal) → IsPlanFault (told old.journal) old.catalog place refusal → refusal ≡ R.Halted → ⊥
+    told_awake (R.Broken rule) kind e = kind
+    told_awake R.Halted kind e = kind
+    told_awake R.DiskFault kind e = cc
+    told_awake (R.Damaged file found) kind e = cc
+    told_awake R.Memory kind e = cc
+
     pub runs_not_planned : (mid : StoreParts D N S d n) (refusal : Refusal) → IsRead old mid
         → IsPlanFault (told old.journal) old.catalog place refusal
         → Counted (d.fault_count old.journal.disk) (d.fault_count mid.journal.disk) (IsErrOf {T = List Change} (Err refusal) R.DiskFault)
         → Runs old (Migrate name) (Err refusal) mid
     runs_not_planned mid refusal read kind counted =
         runs_unplanned {Plan = List Change} old mid (Migrate name) refusal (reads_of old mid read) (λ office names at. refl)
-        (λ office names at. fault_told office names at refusal kind) counted
+        (λ office names at. fault_told office names at refusal kind) (told_awake refusal kind) counted
 
     -- ---- behind the plan
 
@@ -260,7 +268,7 @@ module _ {D N S : Type 0} {d : DiskGhosts D} {n : NamerGhosts N S} where
         }
 
         pub runs_made : Runs old (Migrate name) (Ok Done) new
-        runs_made = runs_written_as old new new (Migrate name) Done changes done w refl holds refl
+        runs_made = runs_written_as old new new (Migrate name) Done changes done w refl refl holds refl
 
       -- there are no changes
       pub runs_nothing : (mid : StoreParts D N S d n) → IsRead old mid → changes ≡ []
@@ -280,6 +288,8 @@ module _ {D N S : Type 0} {d : DiskGhosts D} {n : NamerGhosts N S} where
         crash = λ office names at.
             crash_quiet old mid office names at (reads_of old mid is_read) ((meaning_of (Migrate name)).carried office names);
         in_kind = refl;
+        awake = λ e. absurd cc;
+        halts = λ not. works_reads old mid (reads_of old mid is_read);
         counted = subst (λ (k : ℕ). Counted (d.fault_count old.journal.disk) k (Ok Done ≡ Err R.DiskFault)) (sym still)
             (counted_still (d.fault_count old.journal.disk) (Ok Done ≡ Err R.DiskFault) (λ e. absurd cc));
       }

@@ -45,7 +45,7 @@ use Rattle.office_model.specs.events.Reopen.{carried}
 use Rattle.store_parts.specs.declared.parts.StoreParts.{StoreParts}
 use Rattle.store_parts.specs.Held.{AreUsed, given, IsKeptView, IsStored, MayBe}
 use Rattle.store_parts.specs.States.{slots, staging_of, IsRunning, IsHalted, InState}
-use Rattle.store_parts.specs.Runs.{Steps, Reads}
+use Rattle.store_parts.specs.Runs.{Steps, IsAtWork, Reads}
 use Rattle.store_parts.specs.RunLaws.{running_reads}
 use Rattle.store_parts.specs.WriteLaws.{running_renamed}
 use Rattle.store_opening.specs.declared.found.Found.{Found}
@@ -55,7 +55,7 @@ use Rattle.store_opening.specs.KeptTables.{HasTablesOf, HasTablesFound}
 use Rattle.store_opening.specs.KeptTablesLaws.{second_found, second_told}
 use Rattle.store_opening.specs.Recovers.{IsHeld, SaysWhy}
 use Rattle.store_opening.specs.Begins.{MayLeave, IsPlain, Raised, Begins}
-use Rattle.store_opening.specs.Reopens.{reply_of, halts, IsPlainReply, first_of, second_of, with_journal, IsOfFound, Reopened, Goes, GoesTo, Reopens}
+use Rattle.store_opening.specs.Reopens.{reply_of, halts, IsPlainReply, IsStoppingReply, first_of, second_of, with_journal, IsOfFound, Reopened, Goes, GoesTo, Reopens}
 use Rattle.store_opening.specs.Opens.{Opened}
 use Rattle.store_opening.specs.Whole.{IsLast, SaysSpent, IsAllOf, HasBucketsOf}
 use Rattle.store_opening.specs.Settles.{ComesToOne, IsOfOne, Ends, Settles}
@@ -177,6 +177,12 @@ module _ {D N S : Type 0} {d : DiskGhosts D} {n : NamerGhosts N S} where
     older = λ all told_is. rose.older all (ap (λ (j : Journal D d). told j) (sym same) ∙ told_is);
   }
 
+  -- whatever the disk
+  pub at_work : (parts : StoreParts D N S d n) (journal : Journal D d) (found : Found N S n) (next_stage next_reader : ℕ)
+      → journal.halted ≡ false → IsOfFound parts found next_stage next_reader → parts.journal ≡ journal → IsAtWork parts
+  at_work parts journal found next_stage next_reader ready is same =
+      record { ready = is.ready; journal_ready = ap (λ (j : Journal D d). j.halted) same ∙ ready }
+
   -- the journal is that of the parts
   pub tables_parts : (parts : StoreParts D N S d n) (journal : Journal D d) → parts.journal ≡ journal → (all : Files)
       → FindsNow journal (HasTablesOf all) → FindsNow parts.journal (HasTablesOf all)
@@ -221,6 +227,12 @@ calm_of O.EpochsSpent plain = refl
 calm_of O.DiskFault plain = absurd plain
 calm_of O.Memory plain = refl
 
+stopping_of : (refusal : OpenRefusal) → IsStoppingReply (Err (reply_of refusal)) → halts refusal ≡ true
+stopping_of (O.Foreign file found) stopping = refl
+stopping_of O.EpochsSpent stopping = absurd stopping
+stopping_of O.DiskFault stopping = refl
+stopping_of O.Memory stopping = absurd stopping
+
 abbrev refused : Refusal → Reply
 refused refusal = Err refusal
 
@@ -235,6 +247,12 @@ fault_back (O.Foreign file found) e = absurd cc
 fault_back O.EpochsSpent e = absurd cc
 fault_back O.DiskFault e = refl
 fault_back O.Memory e = absurd cc
+
+other_than_halted : (refusal : OpenRefusal) → refused (reply_of refusal) ≡ Err HaltedReply → ⊥
+other_than_halted (O.Foreign file found) e = cc
+other_than_halted O.EpochsSpent e = cc
+other_than_halted O.DiskFault e = cc
+other_than_halted O.Memory e = cc
 
 spent_as : (files : Option Files) (refusal : OpenRefusal) (rule : BrokenRule) → SaysSpent files refusal
     → refused (reply_of refusal) ≡ Err (Broken rule) → (rule ≡ NumbersSpent) × ((all : Files) → files ≡ Some all → IsLast all)
@@ -273,9 +291,9 @@ module _ {D N S : Type 0} {d : DiskGhosts D} {n : NamerGhosts N S} where
       → ((a b : Durable) → MayBe n.digest_of old.journal a b
       → FindsNow journal (HasTablesFound (d.files old.journal.disk) (uncertain old.journal)))
       → IsAllOf (told journal) found → HasBucketsOf (told journal) found → AreThePoolFiles (d.files old.journal.disk) (slots_of found.pool.names)
-      → IsOfFound new found old.sessions.stages.next old.sessions.readers.next → new.journal ≡ journal → epoch ≡ found.catalog.epoch
+      → journal.halted ≡ false → IsOfFound new found old.sessions.stages.next old.sessions.readers.next → new.journal ≡ journal → epoch ≡ found.catalog.epoch
       → Reopens old (Ok (ReopenedAnswer epoch)) new
-  reopens_raised old new journal found epoch begins crash counted settles tables whole buckets listed is same epoch_is = record {
+  reopens_raised old new journal found epoch begins crash counted settles tables whole buckets listed ready is same epoch_is = record {
     goes = λ a b may. raised_running old new journal found a b epoch (begins a b may) is same epoch_is;
     crash = λ a b may. subst (λ (j : Journal D d). FindsOnly old.journal j (MayLeave n.digest_of a b)) (sym same) (crash a b may);
     settles = λ a b may. goes_to_raised old new journal found a b epoch (settles a b may) is same epoch_is;
@@ -285,6 +303,10 @@ module _ {D N S : Type 0} {d : DiskGhosts D} {n : NamerGhosts N S} where
     stays = λ refusal e. absurd cc;
     halted_same = λ plain. absurd plain;
     quiet = λ plain. absurd plain;
+    ready = at_work new journal found old.sessions.stages.next old.sessions.readers.next ready is same;
+    awake = λ e. absurd cc;
+    works = λ plain. absurd plain;
+    stops = λ stopping. absurd stopping;
     damaged = λ file found e. absurd cc;
     whole = whole_parts new found is journal same whole;
     buckets = buckets_parts new found is journal same buckets;
@@ -302,13 +324,14 @@ module _ {D N S : Type 0} {d : DiskGhosts D} {n : NamerGhosts N S} where
       → ((a b : Durable) → MayBe n.digest_of old.journal a b → Begins {n = n} a b (Err refusal) new.journal)
       → ((a b : Durable) → MayBe n.digest_of old.journal a b → FindsOnly old.journal new.journal (MayLeave n.digest_of a b))
       → (IsPlain refusal → old.journal.halted ≡ false → is_some (told old.journal) ≡ true → Quiet old.journal new.journal)
+      → (IsPlain refusal → old.journal.halted ≡ false → new.journal.halted ≡ false)
       → Counted (d.fault_count old.journal.disk) (d.fault_count new.journal.disk) (IsErrOf {T = Found N S n} (Err refusal) O.DiskFault)
       → SaysWhy (d.files old.journal.disk) (d.files new.journal.disk) refusal → SaysSpent (told new.journal) refusal
       → ((a b : Durable) → MayBe n.digest_of old.journal a b → Settles {n = n} a b (Err refusal) old.journal.disk new.journal)
       → ((a b : Durable) → MayBe n.digest_of old.journal a b
       → FindsNow new.journal (HasTablesFound (d.files old.journal.disk) (uncertain old.journal)))
       → Reopens old (Err reply) new
-  reopens_refused old new refusal reply reply_is stays halted begins crash quiet counted says spent settles tables =
+  reopens_refused old new refusal reply reply_is stays halted begins crash quiet ready counted says spent settles tables =
       subst (λ (r : Refusal). Reopens old (Err r) new) (sym reply_is) (record {
         goes = λ a b may. goes_refused old new a b refusal (λ e. halted ∙ either_halts old.halted (halts refusal) e) (begins a b may);
         crash = crash;
@@ -317,6 +340,13 @@ module _ {D N S : Type 0} {d : DiskGhosts D} {n : NamerGhosts N S} where
         stays = λ r e. stays;
         halted_same = λ plain. halted ∙ neither_halts old.halted (halts refusal) (calm_of refusal plain);
         quiet = λ plain. quiet (plain_of refusal plain);
+        ready = tt;
+        awake = λ e. other_than_halted refusal e;
+        works = λ plain. record {
+          parts = λ e. halted ∙ neither_halts old.halted (halts refusal) (calm_of refusal plain) ∙ e;
+          journal = ready (plain_of refusal plain);
+        };
+        stops = λ stopping. halted ∙ either_halts old.halted (halts refusal) (stopping_of refusal stopping);
         damaged = λ file found e. says file found (damaged_of refusal file found e);
         whole = tt;
         buckets = tt;

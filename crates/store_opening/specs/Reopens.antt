@@ -28,6 +28,7 @@ use Rattle.open_sessions.specs.Opened.{AreNone, AreNumbers}
 use Rattle.store_parts.specs.declared.parts.StoreParts.{StoreParts}
 use Rattle.store_parts.specs.Held.{MayBe}
 use Rattle.store_parts.specs.States.{IsRunning}
+use Rattle.store_parts.specs.Runs.{IsAtWork, StaysAtWork}
 use Rattle.store_opening.specs.declared.fault.OpenRefusal.{OpenRefusal}
 use Rattle.store_opening.specs.declared.fault.OpenRefusal.TheVariants as O
 use Rattle.store_opening.specs.declared.found.Found.{Found}
@@ -59,6 +60,12 @@ IsPlainReply (Err HaltedReply) = ⊥
 IsPlainReply (Err DiskFault) = ⊥
 IsPlainReply (Err (Damaged file found)) = ⊥
 IsPlainReply (Err Memory) = Unit {0}
+
+-- the disk failed, or a file isn't the store's
+abbrev pub IsStoppingReply : Reply → Type 0
+IsStoppingReply (Err DiskFault) = Unit {0}
+IsStoppingReply (Err (Damaged file found)) = Unit {0}
+IsStoppingReply reply = ⊥
 
 -- the two offices of which a crash now leaves one
 abbrev pub first_of : State → Durable
@@ -124,6 +131,12 @@ module _ {D N S : Type 0} {d : DiskGhosts D} {n : NamerGhosts N S} where
     pub quiet : IsPlainReply reply → old.journal.halted ≡ false → is_some (told old.journal) ≡ true → Quiet old.journal new.journal
     pub damaged : (file : FileId) (found : Option (List ℕ)) → reply ≡ Err (Damaged file found)
         → IsForeignTo (d.files old.journal.disk) (d.files new.journal.disk) file found
+    -- over any disk: at work after Ok, and after a plain refusal if it was before; halted after a fault of the disk, or a file that isn't
+    -- the store's; and no other refusal comes
+    pub ready : OnOk reply (IsAtWork new)
+    pub awake : reply ≡ Err HaltedReply → ⊥
+    pub works : IsPlainReply reply → StaysAtWork old new
+    pub stops : IsStoppingReply reply → new.halted ≡ true
     -- over any disk that tells its files
     pub whole : OnOk reply (HasAllOf new)
     pub buckets : OnOk reply (HasBuckets new)

@@ -81,6 +81,8 @@ fn begin_again<D: Disk, N: Namer>(
     ensures tables { (a b : Durable) → MayBe N.digest_of journal.old a b
         → FindsNow journal.new (HasTablesFound (D.files journal.old.disk) (uncertain journal.old)) }
     ensures quiet { IfErr result (λ refusal. IsPlain refusal → journal.old.halted ≡ false → is_some (told journal.old) ≡ true → Quiet journal.old journal.new) }
+    ensures ready { IfOk result (λ found. journal.new.halted ≡ false) }
+    ensures stays { IfErr result (λ refusal. IsPlain refusal → journal.old.halted ≡ false → journal.new.halted ≡ false) }
     ensures foreign { IfErr result (SaysWhy (D.files journal.old.disk) (D.files journal.new.disk)) }
     ensures whole { IfOk result (IsAllOf (told journal.new)) }
     ensures buckets { IfOk result (HasBucketsOf (told journal.new)) }

@@ -37,6 +37,7 @@ fn raise<D: Disk, N: Namer>(
     ensures ok { OnOk result ((office : Durable) (names : Names)
         → IsHeld journal.old found.old.pool found.old.catalog found.old.counts found.old.partials office names
         → IsHeld journal.new found.new.pool found.new.catalog found.new.counts found.new.partials (raised office) names) }
+    ensures ready { OnOk result (journal.new.halted ≡ false) }
     ensures whole { OnOk result (IsAllOf (told journal.old) found.old → IsAllOf (told journal.new) found.new) }
     ensures names { IsSame (slots_of found.old.pool.names) (slots_of found.new.pool.names) }
     ensures buckets { OnOk result (found.new.pool.in_one_file ≡ false) }
@@ -75,6 +76,7 @@ pub(crate) fn begin<D: Disk, N: Namer>(
     ensures ends { (a b : Durable) → Holds N.digest_of journal.old a b → Ends a b result journal.old.disk journal.new }
     ensures tables { (all : Files) → told journal.old ≡ Some all → FindsNow journal.new (HasTablesOf all) }
     ensures quiet { IfErr result (λ refusal. (refusal ≡ OpenRefusal.DiskFault → ⊥) → Quiet journal.old journal.new) }
+    ensures ready { IfOk result (λ found. journal.new.halted ≡ false) }
     ensures foreign { IfErr result (SaysForeign (told journal.old)) }
     ensures whole { IfOk result (IsAllOf (told journal.new)) }
     ensures buckets { IfOk result (HasBucketsOf (told journal.new)) }

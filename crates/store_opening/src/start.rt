@@ -13,6 +13,7 @@ ghost use Rattle.pool_changes.specs.Kept.{slots_of};
 ghost use Rattle.pool_store.specs.Opening.{AreThePoolFiles};
 ghost use Rattle.office_model.specs.Office.{Durable};
 ghost use Rattle.office_model.specs.Step.{IsPicked};
+ghost use Rattle.store_parts.specs.Runs.{IsAtWork};
 ghost use Rattle.store_opening.specs.KeptTables.{HasTablesOf, HasTablesFound};
 ghost use Rattle.store_opening.specs.Recovers.{Holds, SaysForeign, SaysWhy};
 ghost use Rattle.store_opening.specs.Reopens.{IsOfFound};
@@ -94,6 +95,7 @@ fn start<D: Disk, N: Namer>(
     ensures tables { IfOk result (λ parts. (all : Files) → told journal ≡ Some all → FindsNow parts.journal (HasTablesOf all)) }
     ensures left_tables { IfErr result (λ refused. (all : Files) → told journal ≡ Some all
         → FindsAll (D.files refused.0) (D.uncertain refused.0) (HasTablesOf all)) }
+    ensures ready { IfOk result IsAtWork }
     ensures foreign { IfErr result (λ refused. SaysForeign (option_map seen (D.files refused.0)) refused.1) }
     ensures whole { IfOk result HasAllOf }
     ensures buckets { IfOk result HasBuckets }
@@ -116,7 +118,7 @@ fn start<D: Disk, N: Namer>(
 /// was or in its next epoch. `Foreign` says what was found of the file; it never comes on a disk that a store left.
 /// No table is written, whatever it answers; after Ok the old hosts are exactly those that have a table of the first layout.
 ///
-/// Over any disk that tells its files: after Ok they are those of a store, of which memory has what they hold, and the names in use
+/// Over any disk, after Ok the parts are at work. Over any disk that tells its files: after Ok they are those of a store, of which memory has what they hold, and the names in use
 /// are those of the Pool files; the index of the pool is in buckets there; `EpochsSpent` comes only over those of a store in its last epoch.
 pub fn open<D: Disk, N: Namer>(
     alloc: Global,
@@ -133,6 +135,7 @@ pub fn open<D: Disk, N: Namer>(
         → FindsNow parts.journal (HasTablesFound (D.files disk) (D.uncertain disk))) }
     ensures left_tables { IfErr result (λ refused. (a b : Durable) → IsOf N.digest_of (D.files disk) (D.uncertain disk) a b
         → FindsAll (D.files refused.0) (D.uncertain refused.0) (HasTablesFound (D.files disk) (D.uncertain disk))) }
+    ensures ready { IfOk result IsAtWork }
     ensures foreign { IfErr result (λ refused. SaysWhy (D.files disk) (D.files refused.0) refused.1) }
     ensures whole { IfOk result HasAllOf }
     ensures buckets { IfOk result HasBuckets }

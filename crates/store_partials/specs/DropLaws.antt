@@ -32,7 +32,7 @@ use Rattle.office_model.specs.declared.answer.Answer.TheVariants.{Done}
 use Rattle.office_model.specs.declared.event.Event.TheVariants.{DropPartial}
 use Rattle.office_model.specs.declared.refusal.BrokenRule.TheVariants.{NoHost, NoPartial}
 use Rattle.office_model.specs.declared.refusal.Refusal.{Refusal}
-use Rattle.office_model.specs.declared.refusal.Refusal.TheVariants.{Broken, DiskFault, Memory}
+use Rattle.office_model.specs.declared.refusal.Refusal.TheVariants.{Broken, Halted, DiskFault, Memory}
 use Rattle.office_model.specs.Office.{Office, Host, Partial, Names, backup_index, with_hosts}
 use Rattle.office_model.specs.UsedNames.{AreSound}
 use Rattle.office_model.specs.Meaning.{Carried, Judged, Commits}
@@ -180,12 +180,14 @@ module _ {D N S : Type 0} {d : DiskGhosts D} {n : NamerGhosts N S} where
 
     pub runs_drop_refused : (mid : StoreParts D N S d n) (refusal : Refusal) → Quiet old.journal mid.journal
         → mid ≡ record old { journal = mid.journal } → IsDropFault old place refusal
+        → (refusal ≡ Halted → ⊥)
         → Counted (d.fault_count old.journal.disk) (d.fault_count mid.journal.disk) (IsErrOf {T = DropPlan} (Err refusal) DiskFault)
         → Runs old (DropPartial name) (Err refusal) mid
-    runs_drop_refused mid refusal quiet others kind counted =
+    runs_drop_refused mid refusal quiet others kind awake counted =
         runs_reads old mid (DropPartial name) (Err refusal) (reads_behind old mid quiet others)
         (λ office names at. step_refused office names at refusal (fault_told office names at refusal kind))
-        (λ office names at. undamaged refusal (fault_told office names at refusal kind)) tt (record {
+        (λ office names at. undamaged refusal (fault_told office names at refusal kind)) tt
+        (λ e. awake (let same : refusal ≡ Halted = cc in same)) (record {
           later = counted.later;
           rose = λ e. counted.rose (let same : refusal ≡ DiskFault = cc in ap (λ (r : Refusal). Err r) same);
           stays = λ not. counted.stays (λ e. not (let same : refusal ≡ DiskFault = cc in ap (λ (r : Refusal). Err r) same));
@@ -316,7 +318,7 @@ module _ {D N S : Type 0} {d : DiskGhosts D} {n : NamerGhosts N S} where
 
         runs_finished : Runs old (DropPartial name) (Ok Done) new
         runs_finished =
-            runs_written old mid new (DropPartial name) Done plan.changes done w f.journal holds_dropped (λ office names. refl) refl
+            runs_written old mid new (DropPartial name) Done plan.changes done w f.journal f.halted holds_dropped (λ office names. refl) refl
 
   -- ---- behind the plan
 

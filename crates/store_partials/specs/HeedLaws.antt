@@ -1,6 +1,7 @@
 -- What a park or a drop of a partial answers for the file of the partial that it calls for.
 --     heeds_none      none is called for
 --     heeds_not_planned, heeds_not_written, heeds_done      refused before the write or by it, and done
+--     heeded_awake      a refusal isn't that the store is halted
 --     for_name, refused_for_name      of the open dump of a name
 --     for_host, refused_for_host      of the host of a name
 --     none_for_name, none_for_host, none_known      of no dump or host, and of a host without a partial
@@ -10,6 +11,7 @@ use Rattle.std.proofs.Common.{sym, ap, ◌∙◌, subst}
 use Rattle.std.proofs.lemmas.Bool.{false≢true}
 use Rattle.disk_trait.specs.declared.ids.FileId.{FileId}
 use Rattle.disk_trait.specs.declared.disk.Disk.{Ghosts as DiskGhosts}
+use Rattle.disk_trait.specs.Files.{Files}
 use Rattle.pool_name.specs.declared.namer.Namer.{Ghosts as NamerGhosts}
 use Rattle.intent_journal.specs.declared.changes.Change.{Change}
 use Rattle.journal_view.specs.View.{told, Quiet}
@@ -38,6 +40,13 @@ not_damaged R.Memory file found kind e = cc
 not_damaged (R.Broken rule) file found kind e = kind
 not_damaged (R.Damaged other bytes) file found kind e = kind
 not_damaged R.Halted file found kind e = kind
+
+pub heeded_awake : (told : Option Files) (Calls : ℕ → Type 0) (refusal : Refusal) → IsHeededBy told Calls refusal → refusal ≡ R.Halted → ⊥
+heeded_awake told Calls (R.Broken rule) heeds e = cc
+heeded_awake told Calls (R.Damaged file found) heeds e = cc
+heeded_awake told Calls R.DiskFault heeds e = cc
+heeded_awake told Calls R.Memory heeds e = cc
+heeded_awake told Calls R.Halted heeds e = heeds
 
 refusal_is : (refusal other : Refusal) → IsErrOf {T = Answer} (Err refusal) other → refusal ≡ other
 refusal_is refusal other e = cc

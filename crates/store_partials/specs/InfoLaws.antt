@@ -68,5 +68,5 @@ module _ {D N S : Type 0} {d : DiskGhosts D} {n : NamerGhosts N S} where
         → Runs old (PartialInfo name) (Ok (PartialAnswer head.entries head.kind head.start)) old
     runs_told head known =
         runs_reads old old (PartialInfo name) (Ok (PartialAnswer head.entries head.kind head.start)) (reads_still old)
-        (λ office names at. (told_is head known office names at, refl)) (λ office names at. tt) refl
+        (λ office names at. (told_is head known office names at, refl)) (λ office names at. tt) refl (λ e. absurd cc)
         (counted_still (d.fault_count old.journal.disk) _ (λ e. absurd cc))

@@ -30,7 +30,7 @@ use Rattle.office_model.specs.declared.answer.Answer.TheVariants.{Done}
 use Rattle.office_model.specs.declared.event.Event.TheVariants.{Park}
 use Rattle.office_model.specs.declared.refusal.BrokenRule.TheVariants.{NoSession}
 use Rattle.office_model.specs.declared.refusal.Refusal.{Refusal}
-use Rattle.office_model.specs.declared.refusal.Refusal.TheVariants.{Broken, DiskFault}
+use Rattle.office_model.specs.declared.refusal.Refusal.TheVariants.{Broken, Halted, DiskFault}
 use Rattle.office_model.specs.Office.{Office, Names, dump_index}
 use Rattle.office_model.specs.UsedNames.{AreSound}
 use Rattle.office_model.specs.Parts.{dump_at}
@@ -230,7 +230,7 @@ module _ {D N S : Type 0} {d : DiskGhosts D} {n : NamerGhosts N S} where
           record { leads = leads_to office names at s; answer_is = refl; running = running_after office names at s }
 
       runs_finished : Runs old (Park name) (Ok Done) new
-      runs_finished = runs_written old mid new (Park name) Done plan.changes done w f.journal holds_parked (λ office names. refl) refl
+      runs_finished = runs_written old mid new (Park name) Done plan.changes done w f.journal f.halted holds_parked (λ office names. refl) refl
 
   -- ---- refusals
 
@@ -242,12 +242,13 @@ module _ {D N S : Type 0} {d : DiskGhosts D} {n : NamerGhosts N S} where
   pub runs_not_planned : (old mid : StoreParts D N S d n) (name : SessionName) (place : ℕ) (refusal : Refusal)
       → place < length old.sessions.dumps.items → Quiet old.journal mid.journal → mid ≡ record old { journal = mid.journal }
       → ((session : OpenDump) → slice_get old.sessions.dumps.items place ≡ Some session → IsPlanFault old session refusal)
+      → (refusal ≡ Halted → ⊥)
       → Counted (d.fault_count old.journal.disk) (d.fault_count mid.journal.disk) (IsErrOf {T = ParkPlan} (Err refusal) DiskFault)
       → Runs old (Park name) (Err refusal) mid
-  runs_not_planned old mid name place refusal within quiet others kind counted =
+  runs_not_planned old mid name place refusal within quiet others kind awake counted =
       let w = there_within old.sessions.dumps.items place within in
       runs_plan_refused old mid (Park name) refusal (reads_behind old mid quiet others) (λ office names at. refl)
-      (λ office names at. kind w.0 w.1 at.all at.told_is (park_ready old place w.0 office names at w.1)) counted
+      (λ office names at. kind w.0 w.1 at.all at.told_is (park_ready old place w.0 office names at w.1)) awake counted
 
   -- ---- behind the plan
 

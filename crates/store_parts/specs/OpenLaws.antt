@@ -31,7 +31,7 @@ use Rattle.office_model.specs.declared.answer.Answer.{Answer}
 use Rattle.office_model.specs.declared.event.Event.{Event}
 use Rattle.office_model.specs.declared.refusal.BrokenRule.{BrokenRule}
 use Rattle.office_model.specs.declared.refusal.Refusal.{Refusal}
-use Rattle.office_model.specs.declared.refusal.Refusal.TheVariants.{Broken, DiskFault, Memory}
+use Rattle.office_model.specs.declared.refusal.Refusal.TheVariants.{Broken, Halted, DiskFault, Memory}
 use Rattle.office_model.specs.Office.{Office, Volatile, Names}
 use Rattle.office_model.specs.Meaning.{Carried, Judged, Reply}
 use Rattle.office_model.specs.Step.{Running, IsStep, IsAnswerTo, meaning_of}
@@ -44,10 +44,10 @@ use Rattle.office_files.specs.TableLayouts.{AreSecondBut}
 use Rattle.store_parts.specs.declared.parts.StoreParts.{StoreParts}
 use Rattle.store_parts.specs.Held.{given, AreUsed, AreCountsOf, IsKeptView}
 use Rattle.store_parts.specs.States.{slots, staging_of, IsWorking, IsRunning}
-use Rattle.store_parts.specs.Runs.{MayRecover, Runs}
+use Rattle.store_parts.specs.Runs.{MayRecover, StaysAtWork, Runs}
 use Rattle.store_parts.specs.StoredLaws.{stored_found}
 use Rattle.store_parts.specs.StepLaws.{step_refused, step_memory, recover_before}
-use Rattle.store_parts.specs.RunLaws.{counted_still, counted_fine}
+use Rattle.store_parts.specs.RunLaws.{counted_still, counted_fine, works_same}
 use Rattle.store_parts.specs.Opens.{IsNear, AreNear, AreNamedAlike, Stays, Opens, with_open}
 
 -- ---- names
@@ -87,6 +87,9 @@ module _ {D N S : Type 0} {d : DiskGhosts D} {n : NamerGhosts N S} where
     form_same = refl;
     names = near_same (slots parts) (slots parts) (λ id. refl);
   }
+
+  pub works_stays : (old new : StoreParts D N S d n) → Stays old new → StaysAtWork old new
+  works_stays old new stays = works_same old new stays.halted_same stays.quiet.halted_same
 
   -- the sessions alone are others
   abbrev pub OnlySessions : StoreParts D N S d n → StoreParts D N S d n → Type 0
@@ -202,6 +205,8 @@ module _ {D N S : Type 0} {d : DiskGhosts D} {n : NamerGhosts N S} where
           };
       crash = λ office names at. crash_stays old new office names at stays.quiet ((meaning_of event).carried office names);
       in_kind = in_kind;
+      awake = λ e. absurd cc;
+      halts = λ not. works_stays old new stays;
       counted = counted_fine counted fine (λ e. absurd cc);
     }
 
@@ -210,8 +215,8 @@ module _ {D N S : Type 0} {d : DiskGhosts D} {n : NamerGhosts N S} where
       runs_same : (refusal : Refusal)
           → ((office : Office) (names : Names) → IsRunning old office names
           → IsStep (Running office names) event (Err refusal) (Running office names))
-          → IsUndamaged (Err refusal) → (refusal ≡ DiskFault → ⊥) → Runs old event (Err refusal) new
-      runs_same refusal step undamaged other = record {
+          → IsUndamaged (Err refusal) → (refusal ≡ Halted → ⊥) → (refusal ≡ DiskFault → ⊥) → Runs old event (Err refusal) new
+      runs_same refusal step undamaged at_work other = record {
         steps = λ office names at. record {
           next = Running office names;
           step = step office names at;
@@ -220,26 +225,32 @@ module _ {D N S : Type 0} {d : DiskGhosts D} {n : NamerGhosts N S} where
         };
         crash = λ office names at. crash_stays old new office names at stays.quiet ((meaning_of event).carried office names);
         in_kind = tt;
+        awake = λ e. at_work (let f : refusal ≡ Halted = cc in f);
+        halts = λ not. works_stays old new stays;
         counted = counted_fine counted fine (λ e. other (let f : refusal ≡ DiskFault = cc in f));
       }
 
       pub runs_same_memory : Runs old event (Err Memory) new
       runs_same_memory = runs_same Memory (λ office names at. step_memory office names event at.used.distinct) tt (λ e. absurd cc)
+          (λ e. absurd cc)
 
       pub runs_same_broken : (rule : BrokenRule)
           → ((office : Office) (names : Names) → IsRunning old office names → (meaning_of event).carried office names ≡ Err rule)
           → Runs old event (Err (Broken rule)) new
       runs_same_broken rule broken =
           runs_same (Broken rule) (λ office names at. step_refused office names event rule at.used.distinct (broken office names at)) tt
-          (λ e. absurd cc)
+          (λ e. absurd cc) (λ e. absurd cc)
 
   -- what no store at work replies
   pub runs_never : (old new : StoreParts D N S d n) (event : Event) (reply : Reply)
       → ((office : Office) (names : Names) → IsRunning old office names → ⊥) → IfOk reply (IsAnswerTo event)
+      → (reply ≡ Err Halted → ⊥) → StaysAtWork old new
       → Counted (d.fault_count old.journal.disk) (d.fault_count new.journal.disk) (reply ≡ Err DiskFault) → Runs old event reply new
-  runs_never old new event reply never in_kind counted = record {
+  runs_never old new event reply never in_kind awake works counted = record {
     steps = λ office names at. absurd (never office names at);
     crash = λ office names at. absurd (never office names at);
     in_kind = in_kind;
+    awake = awake;
+    halts = λ not. works;
     counted = counted;
   }

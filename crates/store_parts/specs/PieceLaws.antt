@@ -47,7 +47,7 @@ use Rattle.store_parts.specs.States.{slots, staging_of, IsRunning}
 use Rattle.store_parts.specs.Runs.{MayRecover, Runs}
 use Rattle.store_parts.specs.StoredLaws.{alike_stands, listed_live}
 use Rattle.store_parts.specs.StepLaws.{names_refused, recover_before}
-use Rattle.store_parts.specs.RunLaws.{counted_fine, counted_failed}
+use Rattle.store_parts.specs.RunLaws.{counted_fine, counted_failed, works_same}
 use Rattle.store_parts.specs.StagingLaws.{HasStaged, working_with}
 use Rattle.store_parts.specs.Opens.{with_open}
 
@@ -176,10 +176,10 @@ module _ {D N S : Type 0} {d : DiskGhosts D} {n : NamerGhosts N S} where
         (λ found stands. recover_before n.digest_of office judged found stands)
         (crash_pieced old new only office names at number (staged at.all at.told_is))
 
-    pub runs_pieced : (failed → ⊥)
+    pub runs_pieced : (failed → ⊥) → new.journal.halted ≡ old.journal.halted
         → ((office : Office) (names : Names) (at : IsRunning old office names) → TakesPiece old number bytes new staged office names at)
         → Runs old (StagePiece number bytes) (Ok Done) new
-    runs_pieced fine takes = record {
+    runs_pieced fine stays takes = record {
       steps = λ office names at.
           let to = takes office names at in
           let judged = done office to.stages to.judged in
@@ -193,6 +193,8 @@ module _ {D N S : Type 0} {d : DiskGhosts D} {n : NamerGhosts N S} where
           };
       crash = λ office names at. crash office names at (StagePieceEvent.carried number bytes office);
       in_kind = refl;
+      awake = λ e. absurd cc;
+      halts = λ not. works_same old new (ap (λ (p : StoreParts D N S d n). p.halted) only) stays;
       counted = counted_fine counted fine (λ e. absurd cc);
     }
       where
@@ -218,5 +220,7 @@ module _ {D N S : Type 0} {d : DiskGhosts D} {n : NamerGhosts N S} where
       };
       crash = λ office names at. crash office names at (StagePieceEvent.carried number bytes office);
       in_kind = tt;
+      awake = λ e. absurd cc;
+      halts = λ not. absurd (not refl);
       counted = counted_failed counted is refl;
     }

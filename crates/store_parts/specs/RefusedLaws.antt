@@ -15,7 +15,7 @@ use Rattle.office_model.specs.declared.event.Event.{Event}
 use Rattle.office_model.specs.declared.refusal.BrokenRule.{BrokenRule}
 use Rattle.office_model.specs.declared.refusal.BrokenRule.TheVariants.{NoHost, NoSession}
 use Rattle.office_model.specs.declared.refusal.Refusal.{Refusal}
-use Rattle.office_model.specs.declared.refusal.Refusal.TheVariants.{Broken, DiskFault, Memory}
+use Rattle.office_model.specs.declared.refusal.Refusal.TheVariants.{Broken, Halted, DiskFault, Memory}
 use Rattle.receipts.specs.declared.session.SessionName.{SessionName}
 use Rattle.receipts.specs.Session.{is_same_session}
 use Rattle.office_model.specs.Office.{Office, Names, dump_index, restore_index, stage_index, reader_index}
@@ -102,11 +102,12 @@ module _ {D N S : Type 0} {d : DiskGhosts D} {n : NamerGhosts N S} where
   pub runs_not_planned : {Plan : Type 0} (old mid : StoreParts D N S d n) (event : Event) (refusal : Refusal) → Reads old mid
       → ((office : Office) (names : Names) → IsRunning old office names → (meaning_of event).touches office names ≡ ReadsAndCommits)
       → ((office : Office) (names : Names) → IsRunning old office names → (refusal ≡ DiskFault) ⊎ (refusal ≡ Memory))
+      → (refusal ≡ Halted → ⊥)
       → Counted (d.fault_count old.journal.disk) (d.fault_count mid.journal.disk) (IsErrOf {T = Plan} (Err refusal) DiskFault)
       → Runs old event (Err refusal) mid
-  runs_not_planned old mid event refusal reads touches kind counted =
+  runs_not_planned old mid event refusal reads touches kind awake counted =
       runs_reads old mid event (Err refusal) reads (λ office names at. step office names at refusal (kind office names at))
-      (λ office names at. undamaged refusal (kind office names at)) tt (record {
+      (λ office names at. undamaged refusal (kind office names at)) tt (λ e. awake (let same : refusal ≡ Halted = cc in same)) (record {
         later = counted.later;
         rose = λ e. counted.rose (let same : refusal ≡ DiskFault = cc in ap (λ (r : Refusal). Err r) same);
         stays = λ not. counted.stays (λ e. not (let same : refusal ≡ DiskFault = cc in ap (λ (r : Refusal). Err r) same));

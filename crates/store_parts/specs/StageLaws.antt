@@ -235,12 +235,12 @@ module _ {D N S : Type 0} {d : DiskGhosts D} {n : NamerGhosts N S} where
           → (0 < held.size → all (F.Stage number) ≡ Some before)
           → told new.journal ≡ Some (with_bytes all (F.Stage number) (Some (before ++ bytes)))
 
-      pub runs_piece_taken : (failed → ⊥) → StagePieceEvent.is_bad_piece bytes ≡ false
+      pub runs_piece_taken : (failed → ⊥) → new.journal.halted ≡ old.journal.halted → StagePieceEvent.is_bad_piece bytes ≡ false
           → nat_lt content_limit (held.size + length bytes) ≡ false → IsBehind
           → IsExtended n.holds held bytes old.sessions.stages.items.items index new.sessions.stages.items.items
           → Runs old (StagePiece number bytes) (Ok Done) new
-      runs_piece_taken fine good fits behind extended =
-          runs_pieced old new number bytes only staged (claims_in-stages old.sessions new.sessions same) counted fine
+      runs_piece_taken fine stays good fits behind extended =
+          runs_pieced old new number bytes only staged (claims_in-stages old.sessions new.sessions same) counted fine stays
           (λ office names at.
           let found = stage_found old office names at number index held e there in
           let staged' = staged at.all at.told_is in

@@ -66,4 +66,5 @@ module _ {D N S : Type 0} {d : DiskGhosts D} {n : NamerGhosts N S} (old : StoreP
 
   pub runs_closed : Runs old (CloseFile number) (Ok Done) new
   runs_closed =
-      runs_made old old new (CloseFile number) (quiet_same old new only) {failed = ⊥} (counted_same old new only) (λ e. e) Done closed refl
+      runs_made old old new (CloseFile number) (quiet_same old new only) only.halted {failed = ⊥} (counted_same old new only) (λ e. e) Done
+      closed refl

@@ -40,7 +40,7 @@ use Rattle.store_parts.specs.Held.{given}
 use Rattle.store_parts.specs.States.{slots, staging_of, IsRunning}
 use Rattle.store_parts.specs.StoredLaws.{listed_live}
 use Rattle.store_parts.specs.Runs.{Reads, Runs}
-use Rattle.store_parts.specs.RunLaws.{running_reads, counted_fine, runs_refused, runs_memory, runs_read_fault}
+use Rattle.store_parts.specs.RunLaws.{running_reads, counted_fine, runs_refused, runs_memory, runs_read_fault, works_reads}
 use Rattle.store_parts.specs.OpenLaws.{runs_never}
 use Rattle.store_dumps.specs.Claims.{Gains, claims_of_content}
 use Rattle.store_reads.specs.Shown.{file_told, IsGivenContent, IsLoaded, IsRefusal}
@@ -92,7 +92,8 @@ module _ {D N S : Type 0} {d : DiskGhosts D} {n : NamerGhosts N S} where
         runs_refused old mid (OpenFile name number path) rule reads
         (λ office names at. let none = is office names at in file_first rule office names (rw none refl)) (counted_fine counted (λ e. cc) (λ e. e))
     open_refused (Damaged file found) is counted =
-        runs_never old mid (OpenFile name number path) (Err (Damaged file found)) is tt (counted_fine counted (λ e. cc) (λ e. cc))
+        runs_never old mid (OpenFile name number path) (Err (Damaged file found)) is tt (λ e. absurd cc) (works_reads old mid reads)
+        (counted_fine counted (λ e. cc) (λ e. cc))
     open_refused DiskFault is counted = runs_read_fault old mid (OpenFile name number path) reads (λ office names. refl) counted refl
     open_refused Memory is counted = runs_memory old mid (OpenFile name number path) reads (counted_fine counted (λ e. cc) (λ e. e))
     open_refused Halted is counted = absurd is
@@ -143,7 +144,8 @@ module _ {D N S : Type 0} {d : DiskGhosts D} {n : NamerGhosts N S} where
 
         pub open_memory : (new : StoreParts D N S d n) → HasKept mid new → Runs old (OpenFile name number path) (Err Memory) new
         open_memory new kept =
-            runs_kept old mid new (OpenFile name number path) (quiet_new new kept.only.journal) (counted_new new kept.only.journal) fine kept
+            runs_kept old mid new (OpenFile name number path) (quiet_new new kept.only.journal)
+            (kept.only.halted ∙ reads.halted_same) (counted_new new kept.only.journal) fine kept
             (λ office names at. running_reads old mid office names at reads)
 
         -- ---- opened
@@ -213,8 +215,8 @@ module _ {D N S : Type 0} {d : DiskGhosts D} {n : NamerGhosts N S} where
         pub open_made : (new : StoreParts D N S d n) (reader : ℕ) → mid.sessions.readers.next < 2 ^ 64 - 1
             → HasOpened mid file.content file.size reader new → Runs old (OpenFile name number path) (Ok (Opened reader file.size)) new
         open_made new reader few has =
-            runs_made old mid new (OpenFile name number path) (quiet_new new has.only.journal) (counted_new new has.only.journal) fine
-            (Opened reader file.size) (opened new reader has few) refl
+            runs_made old mid new (OpenFile name number path) (quiet_new new has.only.journal)
+            (has.only.halted ∙ reads.halted_same) (counted_new new has.only.journal) fine (Opened reader file.size) (opened new reader has few) refl
 
         -- whatever the files hold
         pub opens_file : (new : StoreParts D N S d n) (reader : ℕ) → HasOpened mid file.content file.size reader new

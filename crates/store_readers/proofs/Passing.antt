@@ -33,10 +33,10 @@ use Rattle.store_parts.specs.declared.parts.StoreParts.{StoreParts}
 use Rattle.store_parts.specs.Held.{given, IsKeptView}
 use Rattle.store_parts.specs.States.{slots, IsRunning}
 use Rattle.store_parts.specs.Runs.{Reads, Runs}
-use Rattle.store_parts.specs.RunLaws.{counted_still, counted_fine, runs_reads, runs_memory, runs_read_fault, reads_still}
+use Rattle.store_parts.specs.RunLaws.{counted_still, counted_fine, runs_reads, runs_memory, runs_read_fault, reads_still, works_reads}
 use Rattle.store_parts.specs.FoundLaws.{reader_place, IsReaderFound, reader_found}
 use Rattle.store_parts.specs.Opens.{Stays}
-use Rattle.store_parts.specs.OpenLaws.{near_same, runs_never}
+use Rattle.store_parts.specs.OpenLaws.{near_same, runs_never, works_stays}
 use Rattle.store_parts.specs.ReaderLaws.{runs_part_given, part_not_wrong}
 use Rattle.store_reads.specs.Shown.{Looks}
 use Rattle.store_reads.specs.Pieces.{IsPieceFault, piece_read, piece_not_damaged}
@@ -83,6 +83,13 @@ damaged_fine content digest Halted kind e = kind
 damaged_fine content digest DiskFault kind e = kind
 damaged_fine content digest Memory kind e = cc
 damaged_fine content digest (Damaged file found) kind e = cc
+
+damaged_awake : (content : PoolId) (digest : List ℕ) (refusal : Refusal) → IsDamagedOr content digest refusal → refusal ≡ Halted → ⊥
+damaged_awake content digest (Broken rule) kind e = kind
+damaged_awake content digest Halted kind e = kind
+damaged_awake content digest DiskFault kind e = kind
+damaged_awake content digest Memory kind e = cc
+damaged_awake content digest (Damaged file found) kind e = cc
 
 -- ---- the reader behind a part
 
@@ -228,7 +235,7 @@ module _ {D N S : Type 0} {d : DiskGhosts D} {n : NamerGhosts N S} where
     pub part_end : End ≡ next_of reader → (part : List ℕ) → part ≡ [] → Runs old (ReadPart number) (Ok (Part part)) old
     part_end end part none =
         runs_reads old old (ReadPart number) (Ok (Part part)) (reads_still old)
-        (λ office names at. (judged office names at, refl)) (λ office names at. tt) refl
+        (λ office names at. (judged office names at, refl)) (λ office names at. tt) refl (λ e. absurd cc)
         (counted_fine (counted_still (count_of old) ⊥ (λ e. e)) (λ e. e) (λ e. absurd cc))
       where
         judged : (office : Office) (names : Names) → IsRunning old office names
@@ -247,6 +254,7 @@ module _ {D N S : Type 0} {d : DiskGhosts D} {n : NamerGhosts N S} where
         (λ office names at.
         let f = found office names at in
         never_wrong n.holds (given (slots old)) (contents_of at.all) f.value reader f.is content digest wrong) tt
+        (λ e. damaged_awake content digest refusal kind (let same : refusal ≡ Halted = cc in same)) (works_reads old old (reads_still old))
         (counted_fine (counted_still (count_of old) ⊥ (λ e. e)) (λ e. e) (damaged_fine content digest refusal kind))
 
     module _ (asked : Asked) (is_next : Piece asked ≡ next_of reader) where
@@ -269,7 +277,8 @@ module _ {D N S : Type 0} {d : DiskGhosts D} {n : NamerGhosts N S} where
       part_fault mid looks DiskFault fault counted =
           runs_read_fault old mid (ReadPart number) (reads_of old mid looks) (λ office names. refl) counted refl
       part_fault mid looks (Damaged file content) fault counted =
-          runs_never old mid (ReadPart number) (Err (Damaged file content)) never tt (counted_fine counted (λ e. cc) (λ e. cc))
+          runs_never old mid (ReadPart number) (Err (Damaged file content)) never tt (λ e. absurd cc) (works_reads old mid (reads_of old mid looks))
+          (counted_fine counted (λ e. cc) (λ e. cc))
         where
           never : (office : Office) (names : Names) → IsRunning old office names → ⊥
           never office names at =
@@ -331,5 +340,6 @@ module _ {D N S : Type 0} {d : DiskGhosts D} {n : NamerGhosts N S} where
             (λ office names at.
             let is = wrong passes.passed.next (behind_there old new index reader there asked part passes) in
             let none = never_found office names at in
-            let never : ⊥ = cc in never) tt
+            let never : ⊥ = cc in never) tt (λ e. damaged_awake asked.content digest refusal kind (let same : refusal ≡ Halted = cc in same))
+            (works_stays old new stays)
             (counted_fine counted_new fine (damaged_fine asked.content digest refusal kind))

@@ -4,7 +4,7 @@
 --     runs_made      the event was answered
 --     runs_kept      memory was wanting, and the same is open
 use Rattle.std.specs.Prelude.{ℕ, Ok, Err}
-use Rattle.std.proofs.Common.{sym, ap, ◌∙◌, subst}
+use Rattle.std.proofs.Common.{◌≡◌, sym, ap, ◌∙◌, subst}
 use Rattle.fault_counts.specs.Counts.{Counted}
 use Rattle.disk_trait.specs.declared.ids.PoolId.{PoolId}
 use Rattle.disk_trait.specs.declared.disk.Disk.{Ghosts as DiskGhosts}
@@ -26,7 +26,7 @@ use Rattle.store_parts.specs.Held.{given}
 use Rattle.store_parts.specs.States.{slots, staging_of, IsRunning}
 use Rattle.store_parts.specs.Runs.{Runs}
 use Rattle.store_parts.specs.StepLaws.{step_memory}
-use Rattle.store_parts.specs.RunLaws.{counted_still, counted_fine}
+use Rattle.store_parts.specs.RunLaws.{counted_still, counted_fine, works_same}
 use Rattle.store_parts.specs.Opens.{AreNear, Stays, Opens, with_open}
 use Rattle.store_parts.specs.OpenLaws.{near_same, alike_still, running_opened, crash_stays}
 use Rattle.store_dumps.specs.Claims.{LetsGo, Gains}
@@ -81,8 +81,8 @@ module _ {D N S : Type 0} {d : DiskGhosts D} {n : NamerGhosts N S} where
     pub stays : Stays mid new
     pub opens : Opens mid event answer office names at new
 
-  module _ (old mid new : StoreParts D N S d n) (event : Event) (quiet : Quiet old.journal new.journal) {failed : Type 0}
-      (counted : Counted (count_of old) (count_of new) failed) (fine : failed → ⊥) where
+  module _ (old mid new : StoreParts D N S d n) (event : Event) (quiet : Quiet old.journal new.journal) (halted : new.halted ≡ old.halted)
+      {failed : Type 0} (counted : Counted (count_of old) (count_of new) failed) (fine : failed → ⊥) where
     pub runs_made : (answer : Answer)
         → ((office : Office) (names : Names) → IsRunning old office names → Makes mid event answer office names new)
         → IsAnswerTo event answer → Runs old event (Ok answer) new
@@ -100,6 +100,8 @@ module _ {D N S : Type 0} {d : DiskGhosts D} {n : NamerGhosts N S} where
           };
       crash = λ office names at. crash_stays old new office names at quiet ((meaning_of event).carried office names);
       in_kind = in_kind;
+      awake = λ e. absurd cc;
+      halts = λ not. works_same old new halted quiet.halted_same;
       counted = counted_fine counted fine (λ e. absurd cc);
     }
 
@@ -114,6 +116,8 @@ module _ {D N S : Type 0} {d : DiskGhosts D} {n : NamerGhosts N S} where
       };
       crash = λ office names at. crash_stays old new office names at quiet ((meaning_of event).carried office names);
       in_kind = tt;
+      awake = λ e. absurd cc;
+      halts = λ not. works_same old new halted quiet.halted_same;
       counted = counted_fine counted fine (λ e. absurd cc);
     }
       where

@@ -71,7 +71,7 @@ module _ {D N S : Type 0} {d : DiskGhosts D} {n : NamerGhosts N S} where
     runs_ok new x reads is counted fine =
         runs_reads old new event (Ok (f x)) reads
         (λ office names at. (carried_is office names (Ok x) (is office names at), unnamed office names (f x))) (λ office names at. tt) (in_kind x)
-        (counted_fine counted fine (λ e. absurd cc))
+        (λ e. absurd cc) (counted_fine counted fine (λ e. absurd cc))
 
     pub runs_err : {T : Type 0} (new : StoreParts D N S d n) (refusal : Refusal) → Reads old new → IsRefusal old judged refusal
         → Counted (d.fault_count old.journal.disk) (d.fault_count new.journal.disk) (Failed {T = T} (Err refusal))
@@ -81,7 +81,7 @@ module _ {D N S : Type 0} {d : DiskGhosts D} {n : NamerGhosts N S} where
         (counted_fine counted (λ e. cc) (λ e. e))
     runs_err new (Damaged file found) reads is counted =
         runs_reads old new event (Err (Damaged file found)) reads (λ office names at. absurd (is office names at))
-        (λ office names at. absurd (is office names at)) tt
+        (λ office names at. absurd (is office names at)) tt (λ e. absurd cc)
         (counted_fine counted (λ e. cc) (λ e. cc))
     runs_err new DiskFault reads is counted = runs_read_fault old new event reads touches counted refl
     runs_err new Memory reads is counted = runs_memory old new event reads (counted_fine counted (λ e. cc) (λ e. e))

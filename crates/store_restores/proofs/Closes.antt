@@ -43,13 +43,13 @@ module _ {D N S : Type 0} {d : DiskGhosts D} {n : NamerGhosts N S} (old : StoreP
       (quiet : Quiet old.journal new.journal) (catalog : new.catalog ≡ old.catalog) (counts : new.counts ≡ old.counts)
       (partials : new.partials ≡ old.partials) (views : new.views ≡ old.views)
       (halted : new.halted ≡ old.halted)
-      (rows : Rows) (rows_are : rows ≡ restore.rows)
+      (rows : Rows) (rows_are : rows ≡ restore.whole)
       (go : ((id : PoolId) → occurrences id rows ≤ claims_of (slots old id)) → LetsGo (λ id. occurrences id rows) (slots old) (slots new))
       (form : new.pool.in_one_file ≡ old.pool.in_one_file)
       (restores : new.sessions.restores.items ≡ remove old.sessions.restores.items index)
       (only : OnlyRestores old.sessions new.sessions) where
     gone : (office : Office) (names : Names) → IsRunning old office names
-        → LetsGo (λ id. occurrences id restore.rows) (slots old) (slots new)
+        → LetsGo (λ id. occurrences id restore.whole) (slots old) (slots new)
     gone office names at =
         subst (λ (rs : Rows). ((id : PoolId) → occurrences id rs ≤ claims_of (slots old id))
         → LetsGo (λ id. occurrences id rs) (slots old) (slots new))
@@ -71,7 +71,7 @@ module _ {D N S : Type 0} {d : DiskGhosts D} {n : NamerGhosts N S} (old : StoreP
           views = views;
           halted = halted;
           form = form;
-          names = near_lost (slots old) (slots new) (λ id. occurrences id restore.rows) (gone office names at);
+          names = near_lost (slots old) (slots new) (λ id. occurrences id restore.whole) (gone office names at);
         })
         (AreSessions-claimed n.holds (given (slots old)) (contents_of at.all) (given (slots new)) (contents_of at.all)
         (staging_of at.all names) (staging_of at.all names) (without office).volatile new.sessions
@@ -93,7 +93,7 @@ module _ {D N S : Type 0} {d : DiskGhosts D} {n : NamerGhosts N S} (old : StoreP
     pub runs_closed : {failed : Type 0} → Counted (count_of old) (count_of new) failed → (failed → ⊥)
         → Runs old (CloseRead session) (Ok Done) new
     runs_closed counted fine =
-        runs_ok old new (CloseRead session) quiet counted fine Done
+        runs_ok old new (CloseRead session) quiet halted counted fine Done
         (λ office names at.
         let found = restore_found old session index restore e there office names at in
         let judged : CloseReadEvent.carried session office ≡ Ok (record { answer = Done; after = without office }) = rw found.is_at refl in

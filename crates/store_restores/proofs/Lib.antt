@@ -1,6 +1,8 @@
 pub mod Running
 pub mod Found
 pub mod Closes
+pub mod Behind
+pub mod Parts
 pub mod Opens
 pub mod Steps
 pub mod Nexts

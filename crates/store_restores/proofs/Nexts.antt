@@ -1,5 +1,5 @@
 -- What a frame that is given leaves.
-use Rattle.std.specs.Prelude.{◌≡◌, ◌<◌, ◌≤◌, ℕ, zero, suc, List, [], ◌∷◌, Option, Some, None, Ok, Err, length, take, drop, slice_get, slice_set}
+use Rattle.std.specs.Prelude.{◌≡◌, ◌<◌, ◌≤◌, ◌+◌, ◌-◌, min, unwrap_or, ℕ, zero, suc, List, [], ◌∷◌, Option, Some, None, Ok, Err, length, take, drop, slice_get, slice_set}
 use Rattle.std.proofs.Common.{refl, sym, ap, ◌∙◌, subst, arith}
 use Rattle.std.proofs.lemmas.List.{length-set}
 use Rattle.std.proofs.lemmas.Option.{slice_get_within}
@@ -20,6 +20,7 @@ use Rattle.office_model.specs.declared.answer.Answer.TheVariants.{Next as NextAn
 use Rattle.office_model.specs.declared.event.Event.TheVariants.{ReadNext}
 use Rattle.tree_frames.specs.declared.nodes.Frame.{Frame}
 use Rattle.tree_frames.specs.declared.nodes.Frame.TheVariants as F
+use Rattle.tree_frames.specs.Frames.{entries_of}
 use Rattle.office_model.specs.declared.refusal.BrokenRule.TheVariants.{NoSession}
 use Rattle.office_model.specs.declared.refusal.Refusal.{Refusal}
 use Rattle.office_model.specs.declared.refusal.Refusal.TheVariants.{Broken, Halted, DiskFault, Damaged, Memory}
@@ -37,11 +38,11 @@ use Rattle.open_sessions.specs.declared.sessions.Next.{Next as NextOf}
 use Rattle.open_sessions.specs.declared.sessions.Next.TheVariants as Next
 use Rattle.open_sessions.specs.declared.sessions.OpenRestore.{OpenRestore}
 use Rattle.open_sessions.specs.declared.sessions.Place.{Place}
-use Rattle.open_sessions.specs.declared.sessions.Place.TheVariants.{Entry, Content, Piece, Wrong}
+use Rattle.open_sessions.specs.declared.sessions.Place.TheVariants.{Removal, Entry, Content, Piece, Wrong}
 use Rattle.open_sessions.specs.declared.sessions.Sessions.{Sessions}
 use Rattle.open_sessions.specs.Opened.{OnlyRestores}
 use Rattle.open_sessions.specs.SessionLaws.{OnlyRestores-then}
-use Rattle.open_sessions.specs.Places.{IsAt, next_in, behind_entry}
+use Rattle.open_sessions.specs.Places.{IsAt, next_in, at_removal, behind_entry}
 use Rattle.open_sessions.specs.PlaceLaws as PlaceLaws
 use Rattle.open_sessions.specs.EditLaws.{IsRestore-moved}
 use Rattle.open_sessions.specs.CallLaws.{AreSessions-restore_moved, claims_in-restore_moved}
@@ -49,15 +50,16 @@ use Rattle.store_parts.specs.declared.parts.StoreParts.{StoreParts}
 use Rattle.store_parts.specs.Held.{given}
 use Rattle.store_parts.specs.States.{slots, IsRunning, staging_of}
 use Rattle.store_parts.specs.Runs.{Runs}
-use Rattle.store_parts.specs.RunLaws.{counted_fine, runs_reads, runs_memory, runs_read_fault}
+use Rattle.store_parts.specs.RunLaws.{counted_fine, works_same, runs_reads, runs_memory, runs_read_fault}
 use Rattle.store_reads.specs.Shown.{Looks}
 use Rattle.store_reads.specs.Pieces.{IsPieceFault, piece_not_damaged}
 use Rattle.store_restores.specs.Finding.{place_of}
-use Rattle.store_restores.specs.Giving.{entry_in, room_of, IsBehind, wrong_in, IsDamagedOr, MovesTo, GivesNext}
+use Rattle.store_restores.specs.Giving.{removal_in, entry_in, room_of, IsBehind, wrong_in, IsDamagedOr, MovesTo, GivesNext}
 use Rattle.store_restores.proofs.Found.{IsFound, restore_found}
-use Rattle.store_restores.proofs.Opens.{Failed, reads_of}
+use Rattle.store_restores.proofs.Behind.{looks_still, reads_of}
+use Rattle.store_restores.proofs.Opens.{Failed}
 use Rattle.store_restores.proofs.Running.{count_of, near_same, sessions_given, Stays, running_stays, runs_ok}
-use Rattle.store_restores.proofs.Steps.{length_shown, is_entry, is_piece, not_wrong, entry_gives, piece_gives, room_fits, never_wrong, IsPiece}
+use Rattle.store_restores.proofs.Steps.{length_shown, is_removal, is_entry, is_piece, not_wrong, removal_gives, entry_gives, piece_gives, room_fits, never_wrong, IsPiece}
 
 module _ {A : Type 0} where
   set_twice : (xs : List A) (i : ℕ) (x y : A) → slice_set (slice_set xs i x) i y ≡ slice_set xs i y
@@ -150,29 +152,17 @@ module _ {D N S : Type 0} {d : DiskGhosts D} {n : NamerGhosts N S} where
   -- what is given next, of the restore that was found
   pub gives_found : (old new : StoreParts D N S d n) (session : SessionName) (at : ℕ)
       → Some at ≡ place_of old.sessions.restores.items session → (next : NextOf) (reply : Reply)
-      → ((restore : OpenRestore S) → slice_get old.sessions.restores.items at ≡ Some restore → next ≡ next_in restore.rows restore.place)
+      → ((restore : OpenRestore S) → slice_get old.sessions.restores.items at ≡ Some restore → next ≡ next_in restore.removed restore.rows restore.place)
       → ((restore : OpenRestore S) → slice_get old.sessions.restores.items at ≡ Some restore → GivesNext next old at restore reply new)
       → (at' : ℕ) (restore : OpenRestore S) → Some at' ≡ place_of old.sessions.restores.items session
       → slice_get old.sessions.restores.items at' ≡ Some restore
-      → GivesNext (next_in restore.rows restore.place) old at' restore reply new
+      → GivesNext (next_in restore.removed restore.rows restore.place) old at' restore reply new
   gives_found old new session at is next reply next_is gives at' restore found there =
       let same : at ≡ at' = cc in
       let here : slice_get old.sessions.restores.items at ≡ Some restore
       = ap (slice_get old.sessions.restores.items) same ∙ there in
-      subst (λ (k : ℕ). GivesNext (next_in restore.rows restore.place) old k restore reply new) same
+      subst (λ (k : ℕ). GivesNext (next_in restore.removed restore.rows restore.place) old k restore reply new) same
       (subst (λ (m : NextOf). GivesNext m old at restore reply new) (next_is restore here) (gives restore here))
-
-  looks_still : (parts : StoreParts D N S d n) → Looks parts parts
-  looks_still parts = record {
-    quiet = Quiet-still parts.journal;
-    pool_same = refl;
-    catalog_same = refl;
-    counts_same = refl;
-    partials_same = refl;
-    sessions_same = refl;
-    halted_same = refl;
-    views_same = refl;
-  }
 
   module _ (old : StoreParts D N S d n) (session : SessionName) where
     -- memory is wanting for an entry
@@ -206,27 +196,34 @@ module _ {D N S : Type 0} {d : DiskGhosts D} {n : NamerGhosts N S} where
         abbrev contents : PoolId → List ℕ
         contents = contents_of at.all
 
-        is_at : IsAt n.holds value.tree value.position restore.place
-        is_at = (found office names at).is.place
+        abbrev tree : Tree
+        tree = resolved contents restore.rows
 
-        abbrev shown : Restore
-        shown = record value { tree = resolved contents restore.rows }
-
-        shown_at : IsAt n.holds (resolved contents restore.rows) value.position restore.place
-        shown_at = subst (λ (tree : Tree). IsAt n.holds tree value.position restore.place) (found office names at).is.tree is_at
+        shown_at : IsAt n.holds restore.removed tree value.position restore.place
+        shown_at = (found office names at).is.place
 
         few : length restore.rows ≤ 4294967295
         few =
             let small = (at.sound.restores index value (found office names at).there).few in
-            let lengths = length_shown contents restore.rows in
+            let lengths = length_shown contents restore.whole in
             let trees = ap length (found office names at).is.tree in
-            omega (arith, small, lengths, trees)
+            let fewer = (found office names at).is.part.fewer in
+            omega (arith, small, lengths, trees, fewer)
 
-        -- what the restore of this tree gives
-        gives_of : (frame : Frame) (next : Place S)
-            → PlaceLaws.Gives n.holds shown frame next → PlaceLaws.Gives n.holds value frame next
-        gives_of frame next g =
-            subst (λ (t : Tree). PlaceLaws.Gives n.holds (record value { tree = t }) frame next) (sym (found office names at).is.tree) g
+        -- what the restore gives is what is told of the rows
+        abbrev Gives : Frame → Place S → Type 0
+        Gives frame next = PlaceLaws.Gives n.holds restore.removed tree value.position frame next
+
+        frame_given : (frame : Frame) (next : Place S) → Gives frame next → frame_of value ≡ frame
+        frame_given frame next g =
+            ap (λ (fs : List Frame). unwrap_or (slice_get fs value.position) (F.End (length (entries_of value.base value.tree))))
+            (found office names at).is.frames
+            ∙ g.frame_is (F.End (length (entries_of value.base value.tree)))
+
+        moves_on : (frame : Frame) (next : Place S) → Gives frame next → IsAt n.holds restore.removed tree (moved_on value).position next
+        moves_on frame next g =
+            subst (λ (fs : List Frame). IsAt n.holds restore.removed tree (min (value.position + 1) (length fs - 1)) next)
+            (sym (found office names at).is.frames) g.at
 
         -- a live or staged content has the digest in its name
         named : (id : PoolId) → given (slots old) id → id.digest ≡ n.digest_of (contents id)
@@ -234,15 +231,15 @@ module _ {D N S : Type 0} {d : DiskGhosts D} {n : NamerGhosts N S} where
             let held = at.fits.held id is_given in
             sym held.digest ∙ ap n.digest_of (sym (ap bytes_of held.is))
 
-        piece_at : (asked : Asked) → Next.Piece asked ≡ next_in restore.rows restore.place
-            → IsPiece contents (given (slots old)) restore.rows (found office names at).is.rows n restore.place asked
+        piece_at : (asked : Asked) → Next.Piece asked ≡ next_in restore.removed restore.rows restore.place
+            → IsPiece contents (given (slots old)) restore.removed restore.rows (found office names at).is.rows n restore.place asked
         piece_at asked next =
-            is_piece contents (given (slots old)) restore.rows (found office names at).is.rows n restore.place asked shown_at.within next
+            is_piece contents (given (slots old)) restore.removed restore.rows (found office names at).is.rows n restore.place asked shown_at.within next
 
       -- the restore stands at another place, and nothing else has changed
       running_moved : (new : StoreParts D N S d n) (office : Office) (names : Names) (at : IsRunning old office names) (position : ℕ)
           (place : Place S) → Stays old new → IsSame (slots old) (slots new) → MovesTo old.sessions index restore place new.sessions
-          → IsAt n.holds (found office names at).value.tree position place
+          → IsAt n.holds restore.removed (resolved (contents_of at.all) restore.rows) position place
           → AreSound (with_value office (record (found office names at).value { position = position })) names
           → IsRunning new (with_value office (record (found office names at).value { position = position })) names
       running_moved new office names at position place stays same moves is sound =
@@ -284,19 +281,21 @@ module _ {D N S : Type 0} {d : DiskGhosts D} {n : NamerGhosts N S} where
 
         -- the restore gave it and moved on
         given_next : (frame : Frame) (place : Place S) → MovesTo old.sessions index restore place new.sessions
-            → ((office : Office) (names : Names) (at : IsRunning old office names) → PlaceLaws.Gives n.holds (value office names at) frame place)
+            → ((office : Office) (names : Names) (at : IsRunning old office names) → Gives office names at frame place)
             → Runs old (ReadNext session) (Ok (NextAnswer frame)) new
         given_next frame place moves gives =
-            runs_ok old new (ReadNext session) stays.quiet counted_new fine (NextAnswer frame)
+            runs_ok old new (ReadNext session) stays.quiet stays.halted counted_new fine (NextAnswer frame)
             (λ office names at.
             let g = gives office names at in
             let after : Office = with_value office (moved_on (value office names at)) in
             let judged : ReadNextEvent.carried session office ≡ Ok (record { answer = NextAnswer frame; after = after })
-            = rw (found office names at).is_at (ap (λ (f : Frame). Ok (record { answer = NextAnswer f; after = after })) g.frame_is) in
+            = rw (found office names at).is_at
+            (ap (λ (f : Frame). Ok (record { answer = NextAnswer f; after = after })) (frame_given office names at frame place g)) in
             record {
               next = after;
               judged = judged;
-              running = running_moved new office names at (moved_on (value office names at)).position place stays names_same moves g.at
+              running = running_moved new office names at (moved_on (value office names at)).position place stays names_same moves
+                  (moves_on office names at frame place g)
                   (AreSound-carried office names (ReadNext session) (record { answer = NextAnswer frame; after = after }) names at.sound judged
                   refl);
             })
@@ -312,18 +311,22 @@ module _ {D N S : Type 0} {d : DiskGhosts D} {n : NamerGhosts N S} where
           steps = λ office names at. absurd (never office names at);
           crash = λ office names at. absurd (never office names at);
           in_kind = tt;
+          awake = λ e. absurd cc;
+          halts = λ not. works_same old new stays.halted stays.quiet.halted_same;
           counted = counted_fine counted_new fine (λ e. cc);
         }
         never_refused content digest (Damaged file found) kind never = record {
           steps = λ office names at. absurd (never office names at);
           crash = λ office names at. absurd (never office names at);
           in_kind = tt;
+          awake = λ e. absurd cc;
+          halts = λ not. works_same old new stays.halted stays.quiet.halted_same;
           counted = counted_fine counted_new fine (λ e. cc);
         }
 
         -- ---- a piece that was read
 
-        module _ (asked : Asked) (next : Next.Piece asked ≡ next_in restore.rows restore.place) (piece : List ℕ)
+        module _ (asked : Asked) (next : Next.Piece asked ≡ next_in restore.removed restore.rows restore.place) (piece : List ℕ)
             (piece_is : (all : Files) → told old.journal ≡ Some all
             → piece ≡ take (room_of asked) (drop asked.from (contents_of all asked.content)))
             (place : Place S) (behind : IsBehind n.holds n.digest_of restore.place asked piece place) where
@@ -332,10 +335,9 @@ module _ {D N S : Type 0} {d : DiskGhosts D} {n : NamerGhosts N S} where
               given_next (F.Piece piece) place moves
               (λ office names at.
               let p = piece_at office names at asked next in
-              gives_of office names at (F.Piece piece) place
-              (piece_gives (contents_of at.all) (given (slots old)) restore.rows (found office names at).is.rows n restore.place asked p piece
-              (piece_is at.all at.told_is) (value office names at) (shown_at office names at)
-              (named office names at asked.content p.is_asked.is_given) place behind))
+              piece_gives (contents_of at.all) (given (slots old)) restore.removed restore.rows (found office names at).is.rows n restore.place asked p
+              piece (piece_is at.all at.told_is) (value office names at).position (shown_at office names at)
+              (named office names at asked.content p.is_asked.is_given) place behind)
 
           pub next_wrong : (digest : List ℕ) → Some digest ≡ wrong_in place → (refusal : Refusal) → IsDamagedOr asked.content digest refusal
               → Runs old (ReadNext session) (Err refusal) new
@@ -346,46 +348,60 @@ module _ {D N S : Type 0} {d : DiskGhosts D} {n : NamerGhosts N S} where
               step office names at p place behind wrong)
             where
               step : (office : Office) (names : Names) (at : IsRunning old office names)
-                  → (p : IsPiece (contents_of at.all) (given (slots old)) restore.rows (found office names at).is.rows n restore.place asked)
+                  → (p : IsPiece (contents_of at.all) (given (slots old)) restore.removed restore.rows (found office names at).is.rows n restore.place asked)
                   → (at_place : Place S) → IsBehind n.holds n.digest_of restore.place asked piece at_place → Some digest ≡ wrong_in at_place → ⊥
+              step office names at p (Removal row) b e = cc
               step office names at p (Entry row) b e = cc
               step office names at p (Content row) b e = cc
               step office names at p (Piece row given' digest') b e = cc
               step office names at p (Wrong content' digest') b e =
-                  never_wrong (contents_of at.all) (given (slots old)) restore.rows (found office names at).is.rows n restore.place asked p piece
+                  never_wrong (contents_of at.all) (given (slots old)) restore.removed restore.rows (found office names at).is.rows n restore.place asked p piece
                   (piece_is at.all at.told_is) (named office names at asked.content p.is_asked.is_given) content' digest' b
 
-      -- ---- an entry
+      -- ---- a removal and an entry
 
       module _ (new : StoreParts D N S d n) (same : IsSameBut old new) where
-        pub next_entry : (row : ℕ) → Next.Entry row ≡ next_in restore.rows restore.place
+        pub next_removal : (row : ℕ) → Next.Removal row ≡ next_in restore.removed restore.rows restore.place
+            → MovesTo old.sessions index restore (at_removal (row + 1) (slice_get restore.removed (row + 1))) new.sessions
+            → (frame : Frame) → frame ≡ removal_in restore.removed row → Runs old (ReadNext session) (Ok (NextAnswer frame)) new
+        next_removal row next moves frame is =
+            given_next old new (looks_still old) same (counted_none (count_of old)) (λ e. e) frame
+            (at_removal (row + 1) (slice_get restore.removed (row + 1))) moves
+            (λ office names at.
+            let here = is_removal restore.removed restore.rows restore.place row next in
+            subst (λ (f : Frame). Gives office names at f (at_removal (row + 1) (slice_get restore.removed (row + 1)))) (sym is)
+            (removal_gives (contents_of at.all) (given (slots old)) restore.removed restore.rows (found office names at).is.rows n
+            (value office names at).position row
+            (subst (IsAt n.holds restore.removed (tree office names at) (value office names at).position) here.here (shown_at office names at))
+            here.found here.there))
+
+        pub next_entry : (row : ℕ) → Next.Entry row ≡ next_in restore.removed restore.rows restore.place
             → MovesTo old.sessions index restore (behind_entry row (slice_get restore.rows row)) new.sessions
             → (frame : Frame) → frame ≡ entry_in restore.rows row → Runs old (ReadNext session) (Ok (NextAnswer frame)) new
         next_entry row next moves frame is =
             given_next old new (looks_still old) same (counted_none (count_of old)) (λ e. e) frame (behind_entry row (slice_get restore.rows row)) moves
             (λ office names at.
-            let here = is_entry (contents_of at.all) (given (slots old)) restore.rows (found office names at).is.rows n restore.place row
+            let here = is_entry (contents_of at.all) (given (slots old)) restore.removed restore.rows (found office names at).is.rows n restore.place row
             (shown_at office names at).within next in
-            gives_of office names at frame (behind_entry row (slice_get restore.rows row))
-            (subst (λ (f : Frame). PlaceLaws.Gives n.holds (shown office names at) f (behind_entry row (slice_get restore.rows row))) (sym is)
-            (entry_gives (contents_of at.all) (given (slots old)) restore.rows (found office names at).is.rows n (value office names at)
-            (few office names at) row
-            (subst (IsAt n.holds (shown office names at).tree (value office names at).position) here (shown_at office names at)))))
+            subst (λ (f : Frame). Gives office names at f (behind_entry row (slice_get restore.rows row))) (sym is)
+            (entry_gives (contents_of at.all) (given (slots old)) restore.removed restore.rows (found office names at).is.rows n
+            (value office names at).position (few office names at) row
+            (subst (IsAt n.holds restore.removed (tree office names at) (value office names at).position) here (shown_at office names at))))
 
       -- ---- a content that is known to be wrong
 
-      pub next_known : (content : PoolId) (digest : List ℕ) → Next.Wrong content digest ≡ next_in restore.rows restore.place
+      pub next_known : (content : PoolId) (digest : List ℕ) → Next.Wrong content digest ≡ next_in restore.removed restore.rows restore.place
           → (refusal : Refusal) → IsDamagedOr content digest refusal → Runs old (ReadNext session) (Err refusal) old
       next_known content digest next refusal kind =
           never_refused old old (looks_still old) (same_parts old) (counted_none (count_of old)) (λ e. e) content digest refusal kind
           (λ office names at.
-          not_wrong (contents_of at.all) (given (slots old)) restore.rows (found office names at).is.rows n restore.place content digest
+          not_wrong (contents_of at.all) (given (slots old)) restore.removed restore.rows (found office names at).is.rows n restore.place content digest
           (shown_at office names at).within next)
 
       -- ---- a piece that couldn't be read
 
       module _ (mid : StoreParts D N S d n) (looks : Looks old mid) (asked : Asked)
-          (next : Next.Piece asked ≡ next_in restore.rows restore.place) where
+          (next : Next.Piece asked ≡ next_in restore.removed restore.rows restore.place) where
         pub next_fault : {T : Type 0} (refusal : Refusal) → IsPieceFault old asked.content asked.from (room_of asked) refusal
             → Counted (count_of old) (count_of mid) (Failed {T = T} (Err refusal)) → Runs old (ReadNext session) (Err refusal) mid
         next_fault (Broken rule) fault counted = absurd fault
@@ -397,11 +413,11 @@ module _ {D N S : Type 0} {d : DiskGhosts D} {n : NamerGhosts N S} where
         next_fault (Damaged file content) fault counted =
             runs_reads old mid (ReadNext session) (Err (Damaged file content)) (reads_of old mid looks)
             (λ office names at. absurd (never office names at)) (λ office names at. absurd (never office names at)) tt
-            (counted_fine counted (λ e. cc) (λ e. cc))
+            (λ e. absurd cc) (counted_fine counted (λ e. cc) (λ e. cc))
           where
             never : (office : Office) (names : Names) → IsRunning old office names → ⊥
             never office names at =
                 let p = piece_at office names at asked next in
                 piece_not_damaged old asked.content asked.from (room_of asked) file content fault office names at p.is_asked.is_given
-                (room_fits (contents_of at.all) (given (slots old)) restore.rows (found office names at).is.rows n restore.place asked p
+                (room_fits (contents_of at.all) (given (slots old)) restore.removed restore.rows (found office names at).is.rows n restore.place asked p
                 (take (room_of asked) (drop asked.from (contents_of at.all asked.content))) refl)

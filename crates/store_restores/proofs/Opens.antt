@@ -18,39 +18,41 @@ use Rattle.pool_changes.specs.Slots.{is_live, is_given, claims_of}
 use Rattle.pool_changes.specs.Kept.{slots_of}
 use Rattle.pool_changes.specs.Listed.{index_of}
 use Rattle.pool_store.specs.declared.pool.Pool.{Pool}
-use Rattle.backup_views.specs.declared.kept.Views.{Views}
 use Rattle.merge_view.specs.Views.{Rows}
-use Rattle.stored_trees.specs.Resolved.{IsTold, IsToldContent, AreTold}
+use Rattle.stored_trees.specs.Resolved.{resolved, IsTold, IsToldContent, AreTold}
 use Rattle.stored_trees.specs.ResolvedLaws.{AreTold-kept}
 use Rattle.stored_trees.specs.Occurrences.{is_content, names as names_of, occurrences}
 use Rattle.office_catalog.specs.Known.{Known}
 use Rattle.office_model.specs.declared.answer.Answer.TheVariants.{Restore as RestoreAnswer}
+use Rattle.office_model.specs.declared.event.Event.{Event}
 use Rattle.office_model.specs.declared.event.Event.TheVariants.{OpenRead}
-use Rattle.office_model.specs.declared.refusal.BrokenRule.{BrokenRule}
 use Rattle.office_model.specs.declared.refusal.BrokenRule.TheVariants.{NumbersSpent}
 use Rattle.office_model.specs.declared.refusal.Refusal.{Refusal}
 use Rattle.office_model.specs.declared.refusal.Refusal.TheVariants.{Broken, Halted, DiskFault, Damaged, Memory}
 use Rattle.receipts.specs.declared.session.SessionName.{SessionName}
 use Rattle.office_model.specs.Meaning.{Carried, Judged, ◌>>=◌, ◌>>◌, breaks}
 use Rattle.office_model.specs.Office.{Office, Restore, Names, last_sequence, numbered_as, with_restores}
-use Rattle.office_model.specs.Parts.{backup_of}
 use Rattle.office_model.specs.laws.StateLaws.{AreSound-carried}
 use Rattle.office_model.specs.events.OpenDump.{next_session}
 use Rattle.office_model.specs.events.OpenRead as OpenReadEvent
 use Rattle.office_files.specs.Pooled.{contents_of, IsListed}
 use Rattle.open_sessions.specs.declared.sessions.Sessions.{Sessions}
-use Rattle.open_sessions.specs.Opened.{IsRestore, claims_in, AreAlike}
+use Rattle.open_sessions.specs.Opened.{AreRowsOf, IsRestore, claims_in, AreAlike}
+use Rattle.open_sessions.specs.Places.{fresh}
 use Rattle.open_sessions.specs.PlaceLaws.{IsAt-start}
 use Rattle.open_sessions.specs.CallLaws.{AreSessions-restore_opened, claims_in-restore_opened}
 use Rattle.store_parts.specs.declared.parts.StoreParts.{StoreParts}
-use Rattle.store_parts.specs.Held.{given, IsKeptView}
+use Rattle.store_parts.specs.Held.{given}
 use Rattle.store_parts.specs.States.{slots, IsRunning, staging_of}
 use Rattle.store_parts.specs.StoredLaws.{listed_live}
-use Rattle.store_parts.specs.Runs.{Reads, Runs}
+use Rattle.store_parts.specs.Runs.{Runs}
 use Rattle.store_parts.specs.RunLaws.{counted_fine, runs_reads, runs_refused, runs_memory, runs_read_fault}
 use Rattle.store_dumps.specs.Claims.{Gains}
 use Rattle.store_reads.specs.Shown.{ShowsBackup, IsLoaded, IsRefusal, Looks}
-use Rattle.store_restores.specs.Opening.{session_of, fresh, IsOpened, HasOpened, HasKept}
+use Rattle.store_restores.specs.Opening.{session_of, IsOpened, HasOpened, HasKept}
+use Rattle.store_restores.specs.Since.{removed_since, rows_since, ShowsBase, IsBaseLoaded}
+use Rattle.store_restores.proofs.Behind.{reads_of}
+use Rattle.store_restores.proofs.Parts.{since_part, since_rows, since_frames}
 use Rattle.store_restores.proofs.Running.{count_of, near_gained, running_kept, sessions_given, running_stays, runs_ok, runs_same}
 
 -- ---- rows that are told name given contents
@@ -97,83 +99,79 @@ spent sequence h = grind (arith, nat_tests)
 unspent : (sequence : ℕ) → sequence < 2 ^ 64 - 1 → nat_le last_sequence sequence ≡ false
 unspent sequence h = grind (arith, nat_tests)
 
-abbrev opened : Office → Tree → Office
-opened office tree =
-    numbered_as (with_restores office (office.restores ++ OpenReadEvent.new_restore (next_session office) tree ∷ [])) (office.sequence + 1)
+abbrev opened : Office → Tree → Option Tree → Office
+opened office tree base =
+    numbered_as (with_restores office (office.restores ++ OpenReadEvent.new_restore (next_session office) tree base ∷ [])) (office.sequence + 1)
 
 module _ {D N S : Type 0} {d : DiskGhosts D} {n : NamerGhosts N S} where
-  pub reads_of : (old mid : StoreParts D N S d n) → Looks old mid → Reads old mid
-  reads_of old mid looks = record {
-    quiet = looks.quiet;
-    pool_same = looks.pool_same;
-    catalog_same = looks.catalog_same;
-    counts_same = looks.counts_same;
-    partials_same = looks.partials_same;
-    sessions_same = looks.sessions_same;
-    halted_same = looks.halted_same;
-    view = λ office names at.
-        subst (λ (views : Views). IsKeptView views.kept office.hosts at.shown) (sym looks.views_same) at.view;
-  }
-
   -- what is open since the files were read
-  pub opened_looks : (old mid : StoreParts D N S d n) → Looks old mid → (rows : Rows) (session : SessionName) (new : Sessions S)
-      → IsOpened mid.sessions mid.catalog.epoch rows session new → IsOpened old.sessions old.catalog.epoch rows session new
-  opened_looks old mid looks rows session new opened =
-      subst (λ (s : Sessions S). IsOpened s old.catalog.epoch rows session new) looks.sessions_same
-      (subst (λ (k : Known). IsOpened mid.sessions k.epoch rows session new) looks.catalog_same opened)
+  pub opened_looks : (old mid : StoreParts D N S d n) → Looks old mid → (rows removed given : Rows) (session : SessionName) (new : Sessions S)
+      → IsOpened mid.sessions mid.catalog.epoch rows removed given session new
+      → IsOpened old.sessions old.catalog.epoch rows removed given session new
+  opened_looks old mid looks rows removed given session new opened =
+      subst (λ (s : Sessions S). IsOpened s old.catalog.epoch rows removed given session new) looks.sessions_same
+      (subst (λ (k : Known). IsOpened mid.sessions k.epoch rows removed given session new) looks.catalog_same opened)
 
-  module _ (old mid : StoreParts D N S d n) (name : List ℕ) (number : ℕ) (looks : Looks old mid) where
+  module _ (old mid : StoreParts D N S d n) (name : List ℕ) (number : ℕ) (base : Option ℕ) (looks : Looks old mid) where
+    abbrev event : Event
+    event = OpenRead name number base
+
     -- ---- refused
 
-    rule_first : (rule : BrokenRule) (office : Office) → backup_of office.hosts name number ≡ Err rule
-        → OpenReadEvent.carried name number office ≡ Err rule
-    rule_first rule office e = rw e refl
-
-    pub open_refused : {T : Type 0} (refusal : Refusal) → IsRefusal old (λ office. backup_of office.hosts name number) refusal
-        → Counted (count_of old) (count_of mid) (Failed {T = T} (Err refusal)) → Runs old (OpenRead name number) (Err refusal) mid
+    pub open_refused : {T : Type 0} (refusal : Refusal) → IsRefusal old (λ office. OpenReadEvent.carried name number base office) refusal
+        → Counted (count_of old) (count_of mid) (Failed {T = T} (Err refusal)) → Runs old (OpenRead name number base) (Err refusal) mid
     open_refused (Broken rule) is counted =
-        runs_refused old mid (OpenRead name number) rule (reads_of old mid looks)
-        (λ office names at. rule_first rule office (is office names at)) (counted_fine counted (λ e. cc) (λ e. e))
+        runs_refused old mid event rule (reads_of old mid looks) (λ office names at. is office names at)
+        (counted_fine counted (λ e. cc) (λ e. e))
     open_refused (Damaged file found) is counted =
-        runs_reads old mid (OpenRead name number) (Err (Damaged file found)) (reads_of old mid looks)
+        runs_reads old mid event (Err (Damaged file found)) (reads_of old mid looks)
         (λ office names at. absurd (is office names at)) (λ office names at. absurd (is office names at)) tt
-        (counted_fine counted (λ e. cc) (λ e. cc))
+        (λ e. absurd cc) (counted_fine counted (λ e. cc) (λ e. cc))
     open_refused DiskFault is counted =
-        runs_read_fault old mid (OpenRead name number) (reads_of old mid looks) (λ office names. refl) counted refl
+        runs_read_fault old mid event (reads_of old mid looks) (λ office names. refl) counted refl
     open_refused Memory is counted =
-        runs_memory old mid (OpenRead name number) (reads_of old mid looks) (counted_fine counted (λ e. cc) (λ e. e))
+        runs_memory old mid event (reads_of old mid looks) (counted_fine counted (λ e. cc) (λ e. e))
     open_refused Halted is counted = absurd is
 
-    module _ (rows : Rows) (loaded : IsLoaded old name number rows) {failed : Type 0}
-        (counted : Counted (count_of old) (count_of mid) failed) (fine : failed → ⊥) where
-      judged_by : (office : Office) (names : Names) (at : IsRunning old office names)
-          → OpenReadEvent.carried name number office
-          ≡ (breaks NumbersSpent (nat_le last_sequence office.sequence)
-          >> Ok (record { answer = RestoreAnswer (next_session office); after = opened office (loaded office names at).backup.tree }))
-      judged_by office names at = rw (loaded office names at).is
-          (moved (nat_le last_sequence office.sequence)
-          (office.restores ++ OpenReadEvent.new_restore (next_session office) (loaded office names at).backup.tree ∷ []))
-        where
-          made : List Restore → Judged Carried
-          made restores = Ok (record {
-            answer = RestoreAnswer (next_session office);
-            after = numbered_as (with_restores office restores) (office.sequence + 1);
-          })
+    module _ (rows : Rows) (loaded : IsLoaded old name number rows) (older : Option Rows) (loaded_base : IsBaseLoaded old name base older)
+        {failed : Type 0} (counted : Counted (count_of old) (count_of mid) failed) (fine : failed → ⊥) where
+      module _ (office : Office) (names : Names) (at : IsRunning old office names) where
+        abbrev tree_of : Tree
+        tree_of = (loaded office names at).backup.tree
 
-          moved : (b : Bool) (restores : List Restore)
-              → ((breaks NumbersSpent b >> Ok restores) >>= made) ≡ (breaks NumbersSpent b >> made restores)
-          moved true restores = refl
-          moved false restores = refl
+        abbrev base_tree : Option Tree
+        base_tree = (loaded_base office names at).tree
 
-      sequence_is : (office : Office) (names : Names) → IsRunning old office names → office.sequence ≡ mid.sessions.sequence
-      sequence_is office names at = sym at.sessions.sequence ∙ ap (λ (s : Sessions S). s.sequence) (sym looks.sessions_same)
+        judged_by : OpenReadEvent.carried name number base office
+            ≡ (breaks NumbersSpent (nat_le last_sequence office.sequence)
+            >> Ok (record { answer = RestoreAnswer (next_session office); after = opened office tree_of base_tree }))
+        judged_by = rw (loaded office names at).is (rw (loaded_base office names at).is
+            (moved (nat_le last_sequence office.sequence)
+            (office.restores ++ OpenReadEvent.new_restore (next_session office) tree_of base_tree ∷ [])))
+          where
+            made : List Restore → Judged Carried
+            made restores = Ok (record {
+              answer = RestoreAnswer (next_session office);
+              after = numbered_as (with_restores office restores) (office.sequence + 1);
+            })
 
-      pub open_spent : 2 ^ 64 - 1 ≤ mid.sessions.sequence → Runs old (OpenRead name number) (Err (Broken NumbersSpent)) mid
+            moved : (b : Bool) (restores : List Restore)
+                → ((breaks NumbersSpent b >> Ok restores) >>= made) ≡ (breaks NumbersSpent b >> made restores)
+            moved true restores = refl
+            moved false restores = refl
+
+        sequence_is : office.sequence ≡ mid.sessions.sequence
+        sequence_is = sym at.sessions.sequence ∙ ap (λ (s : Sessions S). s.sequence) (sym looks.sessions_same)
+
+      pub open_spent : 2 ^ 64 - 1 ≤ mid.sessions.sequence → Runs old (OpenRead name number base) (Err (Broken NumbersSpent)) mid
       open_spent many =
-          runs_refused old mid (OpenRead name number) NumbersSpent (reads_of old mid looks)
+          runs_refused old mid event NumbersSpent (reads_of old mid looks)
           (λ office names at. judged_by office names at
           ∙ ap (λ b. breaks NumbersSpent b
-          >> Ok (record { answer = RestoreAnswer (next_session office); after = opened office (loaded office names at).backup.tree }))
+          >> Ok (record {
+            answer = RestoreAnswer (next_session office);
+            after = opened office (tree_of office names at) (base_tree office names at);
+          }))
           (ap (nat_le last_sequence) (sequence_is office names at) ∙ spent mid.sessions.sequence many))
           (counted_fine counted fine (λ e. e))
 
@@ -193,15 +191,22 @@ module _ {D N S : Type 0} {d : DiskGhosts D} {n : NamerGhosts N S} where
       }
 
       pub open_memory : (new : StoreParts D N S d n) → HasKept mid new → new.journal ≡ mid.journal
-          → Runs old (OpenRead name number) (Err Memory) new
+          → Runs old (OpenRead name number base) (Err Memory) new
       open_memory new kept journal =
-          runs_same old new (OpenRead name number) (kept_since new kept).quiet
+          runs_same old new event (kept_since new kept).quiet (kept_since new kept).halted
           (subst (λ (j : Journal D d). Counted (count_of old) (d.fault_count j.disk) failed) (sym journal) counted) fine
           (λ office names at. running_kept old new office names at (kept_since new kept))
 
       -- ---- opened
 
-      opened_since : (new : StoreParts D N S d n) (session : SessionName) → HasOpened mid rows session new → HasOpened old rows session new
+      abbrev removed : Rows
+      removed = removed_since older rows
+
+      abbrev given_rows : Rows
+      given_rows = rows_since older rows
+
+      opened_since : (new : StoreParts D N S d n) (session : SessionName) → HasOpened mid rows removed given_rows session new
+          → HasOpened old rows removed given_rows session new
       opened_since new session has = record {
         quiet = Quiet-then old.journal mid.journal new.journal looks.quiet has.quiet;
         catalog = has.catalog ∙ looks.catalog_same;
@@ -210,15 +215,18 @@ module _ {D N S : Type 0} {d : DiskGhosts D} {n : NamerGhosts N S} where
         views = has.views ∙ looks.views_same;
         halted = has.halted ∙ looks.halted_same;
         form = has.form ∙ ap (λ (p : Pool N S n). p.in_one_file) looks.pool_same;
-        sessions = opened_looks old mid looks rows session new.sessions has.sessions;
+        sessions = opened_looks old mid looks rows removed given_rows session new.sessions has.sessions;
         claims = subst (λ (p : Pool N S n). ((id : PoolId) → 0 < occurrences id rows → is_given (slots_of p.names id) ≡ true)
             → Gains (λ id. occurrences id rows) (slots_of p.names) (slots new)) looks.pool_same has.claims;
       }
 
-      module _ (new : StoreParts D N S d n) (session : SessionName) (has : HasOpened old rows session new) (office : Office) (names : Names)
-          (at : IsRunning old office names) where
+      module _ (new : StoreParts D N S d n) (session : SessionName) (has : HasOpened old rows removed given_rows session new)
+          (office : Office) (names : Names) (at : IsRunning old office names) where
         abbrev shows : ShowsBackup (IsListed (index_of (slots old))) (contents_of at.all) office.hosts name number rows
         shows = loaded office names at
+
+        abbrev shows_base : ShowsBase (IsListed (index_of (slots old))) (contents_of at.all) office.hosts name base older
+        shows_base = loaded_base office names at
 
         told : AreTold (given (slots old)) (contents_of at.all) rows
         told = AreTold-kept (IsListed (index_of (slots old))) (given (slots old)) (contents_of at.all) (contents_of at.all)
@@ -227,19 +235,29 @@ module _ {D N S : Type 0} {d : DiskGhosts D} {n : NamerGhosts N S} where
         gains : Gains (λ id. occurrences id rows) (slots old) (slots new)
         gains = has.claims (λ id some. named_given (given (slots old)) (contents_of at.all) id rows told some)
 
+        abbrev restore : Restore
+        restore = OpenReadEvent.new_restore (next_session office) shows.backup.tree shows_base.tree
+
         abbrev next : Office
-        next = opened office shows.backup.tree
+        next = opened office shows.backup.tree shows_base.tree
 
         named : session ≡ next_session office
         named = has.sessions.name_is ∙ λ i. session_of (ap (λ (k : Known). k.epoch) at.catalog_is i) (at.sessions.sequence i)
 
-        is_restore : IsRestore n.holds (given (slots old)) (contents_of at.all)
-            (OpenReadEvent.new_restore (next_session office) shows.backup.tree) (fresh session rows)
+        whole_rows : AreRowsOf (given (slots old)) (contents_of at.all) rows
+        whole_rows = record { whole = shows.whole; told = told }
+
+        is_restore : IsRestore n.holds (given (slots old)) (contents_of at.all) restore (fresh session rows removed given_rows)
         is_restore = record {
           name = named;
           tree = shows.tree;
-          rows = record { whole = shows.whole; told = told };
-          place = IsAt-start shows.backup.tree n.holds;
+          whole = whole_rows;
+          rows = since_rows (IsListed (index_of (slots old))) (given (slots old)) (contents_of at.all) shows_base.tree older shows_base.rows
+              rows whole_rows;
+          part = since_part older rows;
+          frames = since_frames (IsListed (index_of (slots old))) (contents_of at.all) at.stands.one shows_base.tree older shows_base.rows
+              shows.backup.tree rows shows.tree shows.whole shows.told;
+          place = IsAt-start (resolved (contents_of at.all) given_rows) n.holds removed;
         }
 
         claimed : (id : PoolId) → claims_of (slots new id) ≡ claims_in new.sessions id
@@ -247,10 +265,11 @@ module _ {D N S : Type 0} {d : DiskGhosts D} {n : NamerGhosts N S} where
           arith,
           (gains id).claims,
           at.claimed id,
-          claims_in-restore_opened old.sessions new.sessions has.sessions.beside id (fresh session rows) has.sessions.restores,
+          claims_in-restore_opened old.sessions new.sessions has.sessions.beside id (fresh session rows removed given_rows)
+              has.sessions.restores,
         )
 
-        running_opened : OpenReadEvent.carried name number office ≡ Ok (record { answer = RestoreAnswer session; after = next })
+        running_opened : OpenReadEvent.carried name number base office ≡ Ok (record { answer = RestoreAnswer session; after = next })
             → IsRunning new next names
         running_opened judged =
             running_stays old new office next names at
@@ -266,24 +285,25 @@ module _ {D N S : Type 0} {d : DiskGhosts D} {n : NamerGhosts N S} where
             })
             (sessions_given old new office names at next.volatile (λ id g. (gains id).given ∙ g)
             (AreSessions-restore_opened old.sessions new.sessions has.sessions.beside n.holds (given (slots old)) (contents_of at.all)
-            (staging_of at.all names) office.volatile at.sessions (OpenReadEvent.new_restore (next_session office) shows.backup.tree) (fresh session rows)
+            (staging_of at.all names) office.volatile at.sessions restore (fresh session rows removed given_rows)
             is_restore has.sessions.restores has.sessions.sequence))
             claimed refl refl
-            (AreSound-carried office names (OpenRead name number) (record { answer = RestoreAnswer session; after = next }) names at.sound judged
+            (AreSound-carried office names event (record { answer = RestoreAnswer session; after = next }) names at.sound judged
             refl)
 
       pub open_made : (new : StoreParts D N S d n) (session : SessionName) → mid.sessions.sequence < 2 ^ 64 - 1
-          → HasOpened mid rows session new → new.journal ≡ mid.journal → Runs old (OpenRead name number) (Ok (RestoreAnswer session)) new
+          → HasOpened mid rows removed given_rows session new → new.journal ≡ mid.journal
+          → Runs old (OpenRead name number base) (Ok (RestoreAnswer session)) new
       open_made new session few mid_has journal =
           let has = opened_since new session mid_has in
-          runs_ok old new (OpenRead name number) has.quiet
+          runs_ok old new event has.quiet has.halted
           (subst (λ (j : Journal D d). Counted (count_of old) (d.fault_count j.disk) failed) (sym journal) counted) fine
           (RestoreAnswer session)
           (λ office names at.
-          let after : Office = opened office (loaded office names at).backup.tree in
+          let after : Office = opened office (tree_of office names at) (base_tree office names at) in
           let passes : nat_le last_sequence office.sequence ≡ false
           = ap (nat_le last_sequence) (sequence_is office names at) ∙ unspent mid.sessions.sequence few in
-          let judged : OpenReadEvent.carried name number office ≡ Ok (record { answer = RestoreAnswer session; after = after })
+          let judged : OpenReadEvent.carried name number base office ≡ Ok (record { answer = RestoreAnswer session; after = after })
           = judged_by office names at
           ∙ ap (λ b. breaks NumbersSpent b >> Ok (record { answer = RestoreAnswer (next_session office); after = after })) passes
           ∙ ap (λ (s : SessionName). Ok (record { answer = RestoreAnswer s; after = after }))

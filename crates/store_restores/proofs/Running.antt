@@ -40,7 +40,7 @@ use Rattle.store_parts.specs.States.{slots, IsRunning, staging_of}
 use Rattle.store_parts.specs.Runs.{MayRecover, Runs}
 use Rattle.store_parts.specs.StoredLaws.{stored_found}
 use Rattle.store_parts.specs.StepLaws.{step_memory, recover_before}
-use Rattle.store_parts.specs.RunLaws.{counted_fine}
+use Rattle.store_parts.specs.RunLaws.{counted_fine, works_same}
 use Rattle.store_dumps.specs.Claims.{LetsGo, Gains}
 use Rattle.store_restores.specs.Opening.{HasKept}
 
@@ -209,7 +209,7 @@ module _ {D N S : Type 0} {d : DiskGhosts D} {n : NamerGhosts N S} where
     pub judged : (meaning_of event).carried office names ≡ Ok (record { answer = answer; after = next })
     pub running : IsRunning new next names
 
-  module _ (old new : StoreParts D N S d n) (event : Event) (quiet : Quiet old.journal new.journal) {failed : Type 0}
+  module _ (old new : StoreParts D N S d n) (event : Event) (quiet : Quiet old.journal new.journal) (halted : new.halted ≡ old.halted) {failed : Type 0}
       (counted : Counted (count_of old) (count_of new) failed) (fine : failed → ⊥) where
     pub runs_ok : (answer : Answer)
         → ((office : Office) (names : Names) → IsRunning old office names → Makes event answer office names new)
@@ -221,6 +221,8 @@ module _ {D N S : Type 0} {d : DiskGhosts D} {n : NamerGhosts N S} where
           record { next = Running made.next names; step = (made.judged, stay office names); undamaged = tt; in_state = made.running };
       crash = λ office names at. crash_quiet old new office names at quiet ((meaning_of event).carried office names);
       in_kind = in_kind;
+      awake = λ e. absurd cc;
+      halts = λ not. works_same old new halted quiet.halted_same;
       counted = counted_fine counted fine (λ e. absurd cc);
     }
 
@@ -236,5 +238,7 @@ module _ {D N S : Type 0} {d : DiskGhosts D} {n : NamerGhosts N S} where
       };
       crash = λ office names at. crash_quiet old new office names at quiet ((meaning_of event).carried office names);
       in_kind = tt;
+      awake = λ e. absurd cc;
+      halts = λ not. works_same old new halted quiet.halted_same;
       counted = counted_fine counted fine (λ e. absurd cc);
     }

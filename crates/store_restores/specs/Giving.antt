@@ -1,4 +1,5 @@
 -- What a restore gives from its rows.
+--     removal_in removed row      the frame of the removal of a row
 --     entry_in rows row      the frame of the entry of a row; behind the last row the end
 --     room_of asked, is_last asked      how many bytes the asked piece has, and whether it is the last of its content
 --     HasTaken holds place content      the digest at a place took in these bytes of its content, and no more
@@ -27,13 +28,23 @@ use Rattle.open_sessions.specs.declared.sessions.Asked.{Asked}
 use Rattle.open_sessions.specs.declared.sessions.Next.{Next}
 use Rattle.open_sessions.specs.declared.sessions.OpenRestore.{OpenRestore}
 use Rattle.open_sessions.specs.declared.sessions.Place.{Place}
-use Rattle.open_sessions.specs.declared.sessions.Place.TheVariants.{Entry, Content, Piece, Wrong}
+use Rattle.open_sessions.specs.declared.sessions.Place.TheVariants.{Removal, Entry, Content, Piece, Wrong}
 use Rattle.open_sessions.specs.declared.sessions.Sessions.{Sessions}
 use Rattle.open_sessions.specs.Opened.{OnlyRestores}
-use Rattle.open_sessions.specs.Places.{behind_entry}
+use Rattle.open_sessions.specs.Places.{at_removal, behind_entry}
 use Rattle.store_parts.specs.declared.parts.StoreParts.{StoreParts}
 use Rattle.store_reads.specs.Shown.{node_in}
 use Rattle.store_reads.specs.Pieces.{IsPieceFault}
+
+-- ---- removals
+
+-- a place stands at none that isn't there
+abbrev pub removal_told : Option (List ℕ × Record) → Frame
+removal_told None = F.End 0
+removal_told (Some row) = F.Deleted row.0
+
+abbrev pub removal_in : Rows → ℕ → Frame
+removal_in removed row = removal_told (slice_get removed row)
 
 -- ---- entries
 
@@ -62,6 +73,7 @@ abbrev pub is_last : Asked → Bool
 is_last asked = nat_le (asked.size - asked.from) 65536
 
 abbrev pub HasTaken : {S : Type 0} → (S → List ℕ → Type 0) → Place S → List ℕ → Type 0
+HasTaken holds (Removal row) content = ⊥
 HasTaken holds (Entry row) content = ⊥
 HasTaken holds (Content row) content = content ≡ []
 HasTaken holds (Piece row given digest) content = holds digest content
@@ -70,6 +82,7 @@ HasTaken holds (Wrong content' digest) content = ⊥
 module _ {S : Type 0} (holds : S → List ℕ → Type 0) (digest_of : List ℕ → List ℕ) where
   -- behind the last piece comes the next row's entry, if the digest of all pieces is the one in the content's name
   abbrev pub IsBehind : Place S → Asked → List ℕ → Place S → Type 0
+  IsBehind place asked piece (Removal row) = ⊥
   IsBehind place asked piece (Entry row) =
       (row ≡ asked.row + 1) × (is_last asked ≡ true)
       × ((content : List ℕ) → HasTaken holds place content → asked.content.digest ≡ digest_of (content ++ piece))
@@ -82,6 +95,7 @@ module _ {S : Type 0} (holds : S → List ℕ → Type 0) (digest_of : List ℕ 
       × ((content : List ℕ) → HasTaken holds place content → digest ≡ digest_of (content ++ piece))
 
 abbrev pub wrong_in : {S : Type 0} → Place S → Option (List ℕ)
+wrong_in (Removal row) = None
 wrong_in (Entry row) = None
 wrong_in (Content row) = None
 wrong_in (Piece row given digest) = None
@@ -122,6 +136,10 @@ module _ {D N S : Type 0} {d : DiskGhosts D} {n : NamerGhosts N S} where
 
   -- a piece is given only if its file has it, and the last one only if all pieces have the digest of the name
   abbrev pub GivesNext : Next → StoreParts D N S d n → ℕ → OpenRestore S → Reply → StoreParts D N S d n → Type 0
+  GivesNext (Next.Removal row) old at restore (Ok answer) new =
+      (answer ≡ NextAnswer (removal_in restore.removed row))
+      × MovesTo old.sessions at restore (at_removal (row + 1) (slice_get restore.removed (row + 1))) new.sessions
+  GivesNext (Next.Removal row) old at restore (Err refusal) new = (refusal ≡ R.Memory) × (new.sessions ≡ old.sessions)
   GivesNext (Next.Entry row) old at restore (Ok answer) new =
       (answer ≡ NextAnswer (entry_in restore.rows row))
       × MovesTo old.sessions at restore (behind_entry row (slice_get restore.rows row)) new.sessions

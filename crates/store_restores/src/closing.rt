@@ -23,6 +23,6 @@ pub fn close_read<D: Disk, N: Namer>(
 {
     let at = parts.restore(restore)?;
     let closed = parts.sessions.take_restore(at);
-    release_rows(&mut parts.pool, closed.rows.rows());
+    release_rows(&mut parts.pool, closed.whole.rows());
     Ok(Answer::Done)
 }

@@ -31,7 +31,9 @@ fn digest_so_far<N: Namer>(namer: &N, place: Place<N::State>) -> N::State
 {
     match place {
         Place::Piece { digest, .. } => digest,
-        Place::Entry(_) | Place::Content(_) | Place::Wrong { .. } => namer.start(),
+        Place::Removal(_) | Place::Entry(_) | Place::Content(_) | Place::Wrong { .. } => {
+            namer.start()
+        }
     }
 }
 
@@ -71,6 +73,6 @@ pub(crate) fn wrong_at<S: Drop>(place: &Place<S>) -> Option<[u8; 16]>
 {
     match place {
         Place::Wrong { digest, .. } => Some(*digest),
-        Place::Entry(_) | Place::Content(_) | Place::Piece { .. } => None,
+        Place::Removal(_) | Place::Entry(_) | Place::Content(_) | Place::Piece { .. } => None,
     }
 }

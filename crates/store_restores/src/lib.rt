@@ -2,7 +2,8 @@
 //! The crate knows the parts of a store, and no other event.
 //!
 //! Each row of an open restore claims the content that it names, so a restore ends with the tree that it began with,
-//! whatever is deleted and cleaned meanwhile. Restores of one backup hold its rows in memory once, and so does the view that is
+//! whatever is deleted and cleaned meanwhile. A restore with a base tells first which paths of the base are removed, and gives then the
+//! entries that the base lacks or has otherwise; both are found at its opening, and the base's rows let go. Restores of one backup hold its rows in memory once, and so does the view that is
 //! kept, if it is theirs. A restore stands at a place, from which the next frame is found at once: all
 //! frames of a tree take a time that is linear in it, and each content is read once, when its first piece is asked for.
 //!
@@ -17,12 +18,14 @@
 //! pieces have the digest of its name.
 #![tactic(auto)]
 
+mod bases;
 mod closing;
 mod digests;
 mod giving;
 mod opening;
 mod reading;
 mod sharing;
+mod since;
 
 pub use closing::close_read;
 pub use opening::open_read;

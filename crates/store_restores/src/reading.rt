@@ -11,7 +11,7 @@ ghost use Rattle.store_restores.specs.Finding.{place_of, HasRestore};
 ghost use Rattle.store_restores.specs.Giving.{IsDamagedOr, GivesNext};
 
 use crate::digests::{place_behind, room_of, wrong_at};
-use crate::giving::give_entry;
+use crate::giving::{give_entry, give_removal};
 use disk_trait::{Bytes, Disk, FileId, PoolId};
 use office_model::{Answer, Frame, Refusal, SessionName};
 use open_sessions::{Asked, Next, Place};
@@ -45,7 +45,7 @@ fn give_piece<D: Disk, N: Namer>(
     requires there { at < length parts.old.sessions.restores.items }
     requires row { asked.now.row < 2 ^ 64 - 1 }
     requires is { (restore : OpenRestore N.State) → slice_get parts.old.sessions.restores.items at ≡ Some restore
-        → NextPiece asked.now ≡ next_in restore.rows restore.place }
+        → NextPiece asked.now ≡ next_in restore.removed restore.rows restore.place }
     ensures runs { (session : SessionNameValue) → Some at ≡ place_of parts.old.sessions.restores.items session
         → Runs parts.old (ReadNext session) result parts.new }
     ensures gives { (restore : OpenRestore N.State) → slice_get parts.old.sessions.restores.items at ≡ Some restore
@@ -78,11 +78,15 @@ pub fn read_next<D: Disk, N: Namer>(
     ensures runs { Runs parts.old (ReadNext restore) result parts.new }
     ensures gives { (at : ℕ) (session : OpenRestore N.State) → Some at ≡ place_of parts.old.sessions.restores.items restore
         → slice_get parts.old.sessions.restores.items at ≡ Some session
-        → GivesNext (next_in session.rows session.place) parts.old at session result parts.new }
+        → GivesNext (next_in session.removed session.rows session.place) parts.old at session result parts.new }
     ensures here { HasRestore parts.old restore result }
 {
     let at = parts.restore(restore)?;
     match parts.sessions.next(at) {
+        Next::Removal(row) => match give_removal(&mut parts.sessions, alloc, at, row) {
+            Ok(frame) => Ok(Answer::Next(frame)),
+            Err(_) => Err(Refusal::Memory),
+        },
         Next::Entry(row) => match give_entry(&mut parts.sessions, alloc, at, row) {
             Ok(frame) => Ok(Answer::Next(frame)),
             Err(_) => Err(Refusal::Memory),

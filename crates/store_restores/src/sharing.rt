@@ -51,7 +51,7 @@ fn share_restore<S: Drop>(sessions: &Sessions<S>, rows: &[Row]) -> Option<Shared
     ensures { IfSome result (λ shared. shared ≡ rows.now) }
 {
     for restore in sessions.restores.iter() {
-        if let Some(shared) = share_if(&restore.rows, rows) {
+        if let Some(shared) = share_if(&restore.whole, rows) {
             return Some(shared);
         }
     }

@@ -27,6 +27,7 @@ fn write_piece<D: Disk>(
     bytes: &[u8],
 ) -> Result<(), JournalFault>
     requires { journal.old.halted ≡ false }
+    ensures ready { journal.new.halted ≡ journal.old.halted }
     ensures running { IsErrOf result JournalFault.Halted → ⊥ }
     ensures no_memory_asked { IsErrOf result JournalFault.Memory → ⊥ }
     ensures staged { (all : Files) → told journal.old ≡ Some all → Staged journal.old (StageFile number) all journal.new }

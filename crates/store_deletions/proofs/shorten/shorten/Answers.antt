@@ -10,7 +10,7 @@ pub returns-in-Err-clause-runs : goal.returns-in-Err-clause-runs
 returns-in-Err-clause-runs g c = λ event answer shortening.
     runs_unplanned c.args.parts.now event answer c.args.host c.args.numbers.now shortening c.plan_deletion.new.parts
     (record { quiet = c.in-Err.ensures.quiet; others = c.in-Err.ensures.others }) c.in-Err.refusal c.in-Err.ensures.refused
-    c.in-Err.ensures.counted
+    c.in-Err.ensures.awake c.in-Err.ensures.counted
 
 pub write-requires-clause-changes : goal.write-requires-clause-changes
 write-requires-clause-changes g c =

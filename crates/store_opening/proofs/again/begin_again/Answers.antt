@@ -1,4 +1,4 @@
-use Rattle.std.proofs.Common.{inl, inr}
+use Rattle.std.proofs.Common.{◌∙◌, inl, inr}
 use Rattle.journal_view.specs.ViewLaws.{FindsOnly-then, Quiet-then, seen_some}
 use Rattle.store_opening.specs.Begins.{MayLeave}
 use Rattle.store_opening.specs.KeptTablesLaws.{tables_can, tables_then}
@@ -111,3 +111,11 @@ returns-in-Err-begin-clause-tables g c = λ a b may.
     let raw = some_files _ may.tells in
     let mid = c.in-Ok.ensures.done raw.0 raw.1 (openable g.D.Disk _ c.args.journal.now.disk a b may.each raw) in
     tables_then _ _ _ _ mid.found mid.has (c.begin.ensures.tables mid.found mid.told_is)
+
+pub returns-in-Err-clause-stays : goal.returns-in-Err-clause-stays
+returns-in-Err-clause-stays g c = λ plain ready.
+    (c.in-Err.ensures.memory (plain_memory c.in-Err.refusal c.in-Err.ensures.kind plain) ready).halted_same ∙ ready
+
+pub returns-in-Err-begin-clause-stays : goal.returns-in-Err-begin-clause-stays
+returns-in-Err-begin-clause-stays g c = λ plain ready.
+    (c.in-Err-begin.ensures.quiet (plain_not _ plain)).halted_same ∙ c.in-Ok.ensures.ready

@@ -1,5 +1,5 @@
 use Rattle.store_opening.specs.KeptTablesLaws.{tables_closed}
-use Rattle.store_opening.proofs.Running.{started_of, tables_parts}
+use Rattle.store_opening.proofs.Running.{started_of, tables_parts, at_work}
 use Rattle.store_opening.proofs.Reopening.{left_of, left_at, closed_foreign}
 use Rattle.store_opening.proofs.Settling.{closed_one}
 use Rattle.store_opening.proofs.Whole.{whole_parts, buckets_parts, listed_parts, spent_closed}
@@ -48,3 +48,7 @@ returns-in-Ok-clause-tables g c = λ all is.
 pub returns-in-Err-clause-left_tables : goal.returns-in-Err-clause-left_tables
 returns-in-Err-clause-left_tables g c = λ all is.
     tables_closed c.begin.new.journal c.close.result c.close.ensures all (c.begin.ensures.tables all is)
+
+pub returns-in-Ok-clause-ready : goal.returns-in-Ok-clause-ready
+returns-in-Ok-clause-ready g c =
+    at_work c.parts_of.result c.begin.new.journal c.in-Ok.found 0 0 c.in-Ok.ensures.ready c.parts_of.ensures.is c.parts_of.ensures.journal

@@ -2,6 +2,7 @@
 use Rattle.std.proofs.Common.{refl}
 use Rattle.store_parts.specs.RefusalLaws.{runs_broken_by}
 use Rattle.store_partials.specs.DropLaws.{runs_no_host, runs_no_partial, head_none, head_some, runs_drop_refused, drop_planned, runs_not_written, runs_dropped}
+use Rattle.store_partials.specs.HeedLaws.{heeded_awake}
 use Rattle.store_partials.proofs.dropping.drop_partial.Goals as goal
 
 pub returns-in_err-place-clause-runs : goal.returns-in_err-place-clause-runs
@@ -20,7 +21,8 @@ returns-in-Err-clause-runs g c =
     runs_drop_refused c.args.parts.now c.args.host.now c.in_ok-place.place c.in_ok-place.ensures.found
     (head_some c.args.parts.now.partials c.in_ok-place.place c.of_host.result c.is_none.result
     c.of_host.ensures c.is_none.ensures c.if-is_none.false) c.plan_drop.new.parts c.in-Err.refusal c.in-Err.ensures.quiet
-    c.in-Err.ensures.others c.in-Err.ensures.refused c.in-Err.ensures.counted
+    c.in-Err.ensures.others c.in-Err.ensures.refused (heeded_awake _ _ c.in-Err.refusal c.in-Err.ensures.partial)
+    c.in-Err.ensures.counted
 
 pub write-requires-clause-changes : goal.write-requires-clause-changes
 write-requires-clause-changes g c =

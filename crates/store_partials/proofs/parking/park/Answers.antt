@@ -2,7 +2,7 @@
 use Rattle.store_parts.specs.RefusalLaws.{runs_broken_by}
 use Rattle.store_partials.specs.Heeding.{IsKnownFor}
 use Rattle.store_partials.specs.ParkLaws.{runs_no_session, runs_not_planned, changes_planned, counted_planned, held_planned, runs_not_written, runs_parked}
-use Rattle.store_partials.specs.HeedLaws.{heeds_not_planned, refused_for_name}
+use Rattle.store_partials.specs.HeedLaws.{heeded_awake, heeds_not_planned, refused_for_name}
 use Rattle.store_partials.proofs.parking.park.Goals as goal
 
 pub returns-in_err-at-clause-runs : goal.returns-in_err-at-clause-runs
@@ -13,7 +13,10 @@ returns-in_err-at-clause-runs g c =
 pub returns-in-Err-clause-runs : goal.returns-in-Err-clause-runs
 returns-in-Err-clause-runs g c =
     runs_not_planned c.args.parts.now c.plan_park.new.parts c.args.session c.in_ok-at.at c.in-Err.refusal
-    c.in_ok-at.ensures.within c.in-Err.ensures.quiet c.in-Err.ensures.others c.in-Err.ensures.refused c.in-Err.ensures.counted
+    c.in_ok-at.ensures.within c.in-Err.ensures.quiet c.in-Err.ensures.others c.in-Err.ensures.refused
+    (heeded_awake _ _ c.in-Err.refusal
+    (refused_for_name c.args.parts.now c.args.session c.in_ok-at.at c.in_ok-at.ensures.found c.in_ok-at.ensures.within c.in-Err.refusal
+    c.in-Err.ensures.partial)) c.in-Err.ensures.counted
 
 pub returns-in-Err-clause-heeds : goal.returns-in-Err-clause-heeds
 returns-in-Err-clause-heeds g c =

@@ -34,7 +34,7 @@ returns-in-Ok-clause-runs g c =
     let there = slice_get_read _ _ _ _ refl c.in-Some.ensures.within c.index.ensures in
     runs_piece_taken c.args.parts.now c.args.number c.in-Some.at c.index.result.now c.in-Some.ensures.index there c.args.bytes.now
     _ refl (record { dumps = refl; restores = refl; readers = refl; sequence = refl }) c.in-Ok.ensures.staged c.extend_stage.ensures.next
-    c.in-Ok.ensures.counted (λ e. absurd cc) (sym c.is_bad_piece.ensures ∙ c.if-is_bad_piece.false)
+    c.in-Ok.ensures.counted (λ e. absurd cc) c.in-Ok.ensures.ready (sym c.is_bad_piece.ensures ∙ c.if-is_bad_piece.false)
     (sym c.is_too_large.ensures.is ∙ c.if-is_too_large.false) c.in-Ok.ensures.bytes
     (c.extend_stage.ensures.extended c.index.result.now there)
 
