@@ -1,7 +1,7 @@
 -- A run of `demo`, from what the layers below it say.
 --     does_demo, demo_complete
 use Rattle.std.specs.Prelude.{◌||◌}
-use Rattle.std.proofs.Common.{◌≡◌, ℕ, ◌-◌, ◌^◌, ◌<◌, Bool, true, List, Option, refl, sym, ◌∙◌, subst, inl, inr, arith}
+use Rattle.std.proofs.Common.{◌≡◌, ℕ, ◌-◌, ◌^◌, ◌<◌, Bool, true, false, List, Option, refl, sym, ◌∙◌, subst, inl, inr, arith}
 use Rattle.fault_counts.specs.Counts.{Rose}
 use Rattle.disk_trait.specs.declared.disk.Disk.{Ghosts as DiskGhosts}
 use Rattle.pool_name.specs.declared.namer.Namer.{Ghosts as NamerGhosts}
@@ -16,6 +16,7 @@ use Rattle.journal_view.specs.View.{FindsNow}
 use Rattle.office_store.specs.declared.store.Store.{Store}
 use Rattle.office_store.specs.declared.port.DirectPort.{DirectPort}
 use Rattle.office_store.specs.Moves.{Moves}
+use Rattle.office_store.specs.Serves.{is_stopped}
 use Rattle.stream_traits.specs.Seen.{LinkSeen}
 use Rattle.settings_file.specs.declared.read.Settings.{Settings}
 use Rattle.settings_file.specs.Document.{IsSettings}
@@ -35,7 +36,8 @@ use Rattle.admin_cli.proofs.DemoStops.{demo_stops}
 use Rattle.admin_cli.proofs.EndLaws.{rule_ends, call_ends, all_ends, said_rose}
 use Rattle.admin_cli.proofs.FolderStops.{wider}
 use Rattle.admin_cli.proofs.RefusalLaws.{file_of}
-use Rattle.admin_cli.proofs.RunLaws.{is_served, EndsWell}
+use Rattle.admin_cli.proofs.CauseLaws.{demo_fails}
+use Rattle.admin_cli.proofs.RunLaws.{is_served, leads, EndsWell}
 
 -- ---- a run that opened its store
 
@@ -56,7 +58,8 @@ module _ {D N S : Type 0} {d : DiskGhosts D} {n : NamerGhosts N S} (disk : D) (s
     → (o : Opened a b store.parts) × ComesToOne d n.digest_of disk store.parts.journal.disk a b o.office
     × FindsNow store.parts.journal (HasTablesFound (d.files disk) (d.uncertain disk)))
     (calm : d.fault_count store.parts.journal.disk ≡ d.fault_count disk)
-    (listed : AreThePoolFiles (d.files disk) (slots_of store.parts.pool.names)) where
+    (listed : AreThePoolFiles (d.files disk) (slots_of store.parts.pool.names))
+    (ready : is_stopped store.parts ≡ false) where
   pub does_demo : (number : ℕ) (line : Option Line) (settings : List ℕ) (read : Settings) (port port' : DirectPort D N S d n)
       (link link' : LinkSeen) (moments : Option (List ℕ)) (end : DemoEnd) (disk' : D) (failed halted : Bool) (note : Note)
       → AsksFor (Demo number) line → IsSettings settings read → port.store ≡ store
@@ -78,17 +81,20 @@ module _ {D N S : Type 0} {d : DiskGhosts D} {n : NamerGhosts N S} (disk : D) (s
         halted = store'.parts.halted || store'.parts.journal.halted;
         shows = record {
           calls = shows.calls;
-          moved = is_served disk store store' settles calm listed shows.calls moved;
+          moved = leads disk store store' settles calm listed ready shows.calls moved;
           ends = shows.ends;
         };
         says = says;
         cause = λ a b stands.
-            let served = is_served disk store store' settles calm listed shows.calls moved a b stands in (
+            let served = is_served disk store store' settles calm listed ready shows.calls moved a b stands in (
               has_cause d n.digest_of disk store'.parts.journal.disk shows.calls _ a b number end shows.ends served,
               served.rose,
             );
         later = omega (arith, calm, moved.later);
         unasked = refl;
+        stops = λ is.
+            demo_fails d n.digest_of disk store'.parts.journal.disk (store'.parts.halted || store'.parts.journal.halted) shows.calls
+            (leads disk store store' settles calm listed ready shows.calls moved) number end failed shows.ends is;
         note_is = refl;
       })
 

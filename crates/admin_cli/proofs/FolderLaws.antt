@@ -25,6 +25,7 @@ use Rattle.journal_view.specs.View.{FindsNow}
 use Rattle.office_store.specs.declared.store.Store.{Store}
 use Rattle.office_store.specs.declared.port.DirectPort.{DirectPort}
 use Rattle.office_store.specs.Moves.{Moves}
+use Rattle.office_store.specs.Serves.{is_stopped}
 use Rattle.stream_traits.specs.Seen.{LinkSeen}
 use Rattle.call_scripts.specs.Scripts.{EndRefused}
 use Rattle.folder_trait.specs.declared.folder.Folder.{Ghosts as FolderGhosts}
@@ -53,7 +54,8 @@ use Rattle.admin_cli.specs.Folders.{note_of_dump, note_of_restore, IsCauseAtWork
 use Rattle.admin_cli.proofs.EndLaws.{rule_ends, call_ends, all_ends, said_rose}
 use Rattle.admin_cli.proofs.FolderStops.{refused_at_work, wider}
 use Rattle.admin_cli.proofs.RefusalLaws.{file_of}
-use Rattle.admin_cli.proofs.RunLaws.{is_served, EndsWell}
+use Rattle.admin_cli.proofs.CauseLaws.{restore_fails}
+use Rattle.admin_cli.proofs.RunLaws.{leads, EndsWell}
 
 -- ---- by how it ended
 
@@ -126,7 +128,7 @@ module _ {D : Type 0} (d : DiskGhosts D) (digest_of : List ℕ → List ℕ) (di
       → IsTree is_dir tree → told ≡ Some tree → StandsForEither d digest_of disk a b
       → Dumped (LeadsOnDisk d digest_of halted) disk disk' told moments moments' kind host number → HoldsBackup d digest_of disk' host number tree
   dump_holds told moments moments' kind host number tree a b is_tree is stands dumped =
-      let served : IsServed d digest_of disk disk' dumped.calls halted a b = dumped.moved a b stands in
+      let served : IsServed d digest_of disk disk' dumped.calls halted a b = dumped.moved.served a b stands in
       let made = is_dump kind tree host dumped.now dumped.later number dumped.calls (reopened served.office) served.names served.opening
       served.last (d.fault_count disk') served.history (dumped.whole tree is is_tree) in
       holds host number tree served.last
@@ -148,7 +150,7 @@ module _ {D : Type 0} (d : DiskGhosts D) (digest_of : List ℕ → List ℕ) (di
       → StandsForEither d digest_of disk a b → Restored (LeadsOnDisk d digest_of halted) disk disk' told told' host number entries
       → GivesBackup d digest_of disk a b host number entries told'
   gives told told' host number entries a b telling stands made =
-      let served : IsServed d digest_of disk disk' made.calls halted a b = made.moved a b stands in
+      let served : IsServed d digest_of disk disk' made.calls halted a b = made.moved.served a b stands in
       let shown = restored_tree (λ (p : D) calls (q : D). calls ≡ made.calls) disk disk' told told' host number entries
       (reopened served.office) served.names served.opening served.last (d.fault_count disk')
       (λ calls is. subst (λ c. Leads (Running (reopened served.office) served.names) served.opening c served.last (d.fault_count disk')) (sym is)
@@ -196,27 +198,27 @@ module _ {D : Type 0} (d : DiskGhosts D) (digest_of : List ℕ → List ℕ) (di
       (a b : Durable) → StandsForEither d digest_of disk a b
       → Dumps (LeadsOnDisk d digest_of halted) disk disk' told moments moments' kind host result
       → HasDumpCause result (d.fault_count disk) (d.fault_count disk') × (halted ≡ true → Rose (d.fault_count disk) (d.fault_count disk'))
-  dump_cause told moments moments' kind host (Ok number) a b stands is = (tt, (is.moved a b stands).rose)
+  dump_cause told moments moments' kind host (Ok number) a b stands is = (tt, (is.moved.served a b stands).rose)
   dump_cause told moments moments' kind host (Err (P.Refused refusal)) a b stands is =
-      (refused_by is.calls is.aborts refusal a b is.so (is.moved a b stands), (is.moved a b stands).rose)
-  dump_cause told moments moments' kind host (Err (P.BadPath rule)) a b stands is = (tt, (is.moved a b stands).rose)
-  dump_cause told moments moments' kind host (Err P.BadTarget) a b stands is = (tt, (is.moved a b stands).rose)
-  dump_cause told moments moments' kind host (Err P.FileTooLarge) a b stands is = (tt, (is.moved a b stands).rose)
-  dump_cause told moments moments' kind host (Err P.Folder) a b stands is = (tt, (is.moved a b stands).rose)
-  dump_cause told moments moments' kind host (Err P.Memory) a b stands is = (tt, (is.moved a b stands).rose)
+      (refused_by is.calls is.aborts refusal a b is.so (is.moved.served a b stands), (is.moved.served a b stands).rose)
+  dump_cause told moments moments' kind host (Err (P.BadPath rule)) a b stands is = (tt, (is.moved.served a b stands).rose)
+  dump_cause told moments moments' kind host (Err P.BadTarget) a b stands is = (tt, (is.moved.served a b stands).rose)
+  dump_cause told moments moments' kind host (Err P.FileTooLarge) a b stands is = (tt, (is.moved.served a b stands).rose)
+  dump_cause told moments moments' kind host (Err P.Folder) a b stands is = (tt, (is.moved.served a b stands).rose)
+  dump_cause told moments moments' kind host (Err P.Memory) a b stands is = (tt, (is.moved.served a b stands).rose)
 
   restore_cause : (told told' : Option Tree) (host : List ℕ) (number : ℕ) (result : Result ℕ RestoreRefusal) (a b : Durable)
       → StandsForEither d digest_of disk a b → Restores (LeadsOnDisk d digest_of halted) disk disk' told told' host number result
       → HasRestoreCause result (d.fault_count disk) (d.fault_count disk') × (halted ≡ true → Rose (d.fault_count disk) (d.fault_count disk'))
-  restore_cause told told' host number (Ok entries) a b stands is = (tt, (is.moved a b stands).rose)
+  restore_cause told told' host number (Ok entries) a b stands is = (tt, (is.moved.served a b stands).rose)
   restore_cause told told' host number (Err (F.Refused refusal)) a b stands is = (
     refused_by is.calls [] refusal a b is.stops.1
-        (subst (λ calls. IsServed d digest_of disk disk' calls halted a b) (sym (append-nil is.calls)) (is.moved a b stands)),
-    (is.moved a b stands).rose,
+        (subst (λ calls. IsServed d digest_of disk disk' calls halted a b) (sym (append-nil is.calls)) (is.moved.served a b stands)),
+    (is.moved.served a b stands).rose,
   )
-  restore_cause told told' host number (Err F.NotEmpty) a b stands is = (tt, (is.moved a b stands).rose)
-  restore_cause told told' host number (Err F.Folder) a b stands is = (tt, (is.moved a b stands).rose)
-  restore_cause told told' host number (Err F.Memory) a b stands is = (tt, (is.moved a b stands).rose)
+  restore_cause told told' host number (Err F.NotEmpty) a b stands is = (tt, (is.moved.served a b stands).rose)
+  restore_cause told told' host number (Err F.Folder) a b stands is = (tt, (is.moved.served a b stands).rose)
+  restore_cause told told' host number (Err F.Memory) a b stands is = (tt, (is.moved.served a b stands).rose)
 
 -- ---- a run that opened its store
 
@@ -225,7 +227,8 @@ module _ {D N S : Type 0} {d : DiskGhosts D} {n : NamerGhosts N S} (disk : D) (s
     → (o : Opened a b store.parts) × ComesToOne d n.digest_of disk store.parts.journal.disk a b o.office
     × FindsNow store.parts.journal (HasTablesFound (d.files disk) (d.uncertain disk)))
     (calm : d.fault_count store.parts.journal.disk ≡ d.fault_count disk)
-    (listed : AreThePoolFiles (d.files disk) (slots_of store.parts.pool.names)) where
+    (listed : AreThePoolFiles (d.files disk) (slots_of store.parts.pool.names))
+    (ready : is_stopped store.parts ≡ false) where
   abbrev PortMoves : DirectPort D N S d n → List Call → DirectPort D N S d n → Type 0
   PortMoves p calls q = Moves p.store calls q.store
 
@@ -233,7 +236,7 @@ module _ {D N S : Type 0} {d : DiskGhosts D} {n : NamerGhosts N S} (disk : D) (s
   over : (port port' : DirectPort D N S d n) → port.store ≡ store → store' ≡ port'.store → (calls : List Call) → PortMoves port calls port'
       → LeadsOnDisk d n.digest_of (store'.parts.halted || store'.parts.journal.halted) disk calls store'.parts.journal.disk
   over port port' port_is store_is calls moved =
-      is_served disk store store' settles calm listed calls
+      leads disk store store' settles calm listed ready calls
       (subst (λ q. Moves store calls q) (sym store_is) (subst (λ p. Moves p calls port'.store) port_is moved))
 
   dump_later : (port port' : DirectPort D N S d n) (told : Option Tree) (moments moments' : Option (List ℕ)) (kind : Kind) (host : List ℕ)
@@ -331,6 +334,9 @@ module _ {D N S : Type 0} {d : DiskGhosts D} {n : NamerGhosts N S} (disk : D) (s
               restore_cause d n.digest_of disk store'.parts.journal.disk halted' (f.tree folder) (f.tree folder') host number result a b stands
               restores;
           later = restore_later port port' (f.tree folder) (f.tree folder') host number result port_is store_is made;
+          stops = λ is.
+              restore_fails d n.digest_of disk store'.parts.journal.disk halted' (f.tree folder) (f.tree folder') host number result failed
+              restores is;
           unasked = refl;
           note_is = refl;
         })

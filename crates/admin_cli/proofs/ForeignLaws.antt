@@ -1,4 +1,5 @@
 -- Which file a night names: over any disk, a table that isn't there, or is in no table's grammar.
+--     IsOfNight, called      which events a night calls
 --     night_foreign
 use Rattle.std.specs.Prelude.{map}
 use Rattle.std.specs.List.{All}
@@ -28,7 +29,7 @@ use Rattle.admin_cli.specs.Nights.{note_of_all, note_of_night, IsDamagedTable}
 
 -- ---- which events a night calls, whatever is answered
 
-abbrev IsOfNight : Event → Type 0
+abbrev pub IsOfNight : Event → Type 0
 IsOfNight E.Hosts = Unit {0}
 IsOfNight (E.Expire name now) = Unit {0}
 IsOfNight (E.Clean bucket) = Unit {0}
@@ -63,7 +64,7 @@ events_of_night moment buckets hosts =
     (All-append IsOfNight (map E.Clean buckets) (E.Sweep ∷ []) (All-map IsOfNight E.Clean buckets (any_bucket buckets))
     (All-cons IsOfNight E.Sweep [] tt (All-nil IsOfNight)))
 
-called : (moment : ℕ) (buckets : List ℕ) (made : List Call) (event : Event) → night_script moment buckets made ≡ Some event
+pub called : (moment : ℕ) (buckets : List ℕ) (made : List Call) (event : Event) → night_script moment buckets made ≡ Some event
     → IsOfNight event
 called moment buckets [] event is = let e : E.Hosts ≡ event = cc (is) in subst IsOfNight e tt
 called moment buckets ((asked, Ok (A.Hosts hosts)) ∷ made) event is =

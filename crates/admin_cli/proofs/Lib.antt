@@ -1,3 +1,4 @@
+pub mod CauseLaws
 pub mod DemoLaws
 pub mod DemoStops
 pub mod EndLaws
@@ -8,6 +9,7 @@ pub mod HeadlineLaws
 pub mod HostLaws
 pub mod MigrationLaws
 pub mod NightLaws
+pub mod OtherLaws
 pub mod RefusalLaws
 pub mod RunLaws
 pub mod ServerLaws

@@ -28,6 +28,7 @@ use Rattle.store_opening.specs.KeptTables.{HasTablesFound}
 use Rattle.office_store.specs.declared.store.Store.{Store}
 use Rattle.office_store.specs.declared.port.DirectPort.{DirectPort}
 use Rattle.office_store.specs.Moves.{Moves}
+use Rattle.office_store.specs.Serves.{is_stopped}
 use Rattle.stream_traits.specs.Seen.{LinkSeen}
 use Rattle.settings_file.specs.declared.read.Settings.{Settings}
 use Rattle.settings_file.specs.Document.{IsSettings}
@@ -48,7 +49,8 @@ use Rattle.admin_cli.specs.Run.{StandsForEither, IsServed, IsComplete}
 use Rattle.admin_cli.proofs.EndLaws.{call_ends, all_ends, said_rose}
 use Rattle.admin_cli.proofs.FolderStops.{wider, refused_at_work}
 use Rattle.admin_cli.proofs.RefusalLaws.{file_of}
-use Rattle.admin_cli.proofs.RunLaws.{is_served, EndsWell}
+use Rattle.admin_cli.proofs.CauseLaws.{migration_fails}
+use Rattle.admin_cli.proofs.RunLaws.{is_served, leads, EndsWell}
 
 -- ---- what its calls lead to
 
@@ -124,7 +126,8 @@ module _ {D N S : Type 0} {d : DiskGhosts D} {n : NamerGhosts N S} (disk : D) (s
     → (o : Opened a b store.parts) × ComesToOne d n.digest_of disk store.parts.journal.disk a b o.office
     × FindsNow store.parts.journal (HasTablesFound (d.files disk) (d.uncertain disk)))
     (calm : d.fault_count store.parts.journal.disk ≡ d.fault_count disk)
-    (listed : AreThePoolFiles (d.files disk) (slots_of store.parts.pool.names)) where
+    (listed : AreThePoolFiles (d.files disk) (slots_of store.parts.pool.names))
+    (ready : is_stopped store.parts ≡ false) where
   pub does_migration : (line : Option Line) (settings : List ℕ) (read : Settings) (port port' : DirectPort D N S d n)
       (link link' : LinkSeen) (moments : Option (List ℕ)) (end : MigrationEnd) (disk' : D) (failed halted : Bool) (note : Note)
       → AsksFor Migrate line → IsSettings settings read → port.store ≡ store
@@ -137,14 +140,18 @@ module _ {D N S : Type 0} {d : DiskGhosts D} {n : NamerGhosts N S} (disk : D) (s
       asked is_read port_is works says store_is disk_is halted_is note_is =
       let moved : Moves store works.calls store' =
       subst (λ q. Moves store works.calls q) (sym store_is) (subst (λ p. Moves p works.calls port'.store) port_is works.moved) in
-      let at = is_served disk store store' settles calm listed works.calls moved in
+      let at = is_served disk store store' settles calm listed ready works.calls moved in
       rw (note_is, disk_is, halted_is) (record {
         asked = asked;
         read = file_of settings read is_read;
         end = end;
         failed = failed;
         halted = store'.parts.halted || store'.parts.journal.halted;
-        works = record { calls = works.calls; moved = at; ends = works.ends };
+        works = record {
+          calls = works.calls;
+          moved = leads disk store store' settles calm listed ready works.calls moved;
+          ends = works.ends;
+        };
         says = says;
         cause = λ a b stands. (
           has_cause d n.digest_of disk store'.parts.journal.disk works.calls _ a b (at a b stands) end works.ends,
@@ -156,6 +163,9 @@ module _ {D N S : Type 0} {d : DiskGhosts D} {n : NamerGhosts N S} (disk : D) (s
             (subst (λ (e : MigrationEnd). Ends e works.calls) is works.ends);
         later = omega (arith, calm, moved.later);
         unasked = refl;
+        stops = λ is.
+            migration_fails d n.digest_of disk store'.parts.journal.disk (store'.parts.halted || store'.parts.journal.halted) works.calls
+            (leads disk store store' settles calm listed ready works.calls moved) end failed works.ends is;
         note_is = refl;
       })
 

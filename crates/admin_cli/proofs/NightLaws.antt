@@ -22,6 +22,7 @@ use Rattle.journal_view.specs.View.{FindsNow}
 use Rattle.office_store.specs.declared.store.Store.{Store}
 use Rattle.office_store.specs.declared.port.DirectPort.{DirectPort}
 use Rattle.office_store.specs.Moves.{Moves}
+use Rattle.office_store.specs.Serves.{is_stopped}
 use Rattle.stream_traits.specs.Seen.{LinkSeen}
 use Rattle.settings_file.specs.declared.read.Settings.{Settings}
 use Rattle.settings_file.specs.Values.{if_nights, number_in}
@@ -39,7 +40,8 @@ use Rattle.admin_cli.specs.Command.{AsksFor}
 use Rattle.admin_cli.specs.Nights.{note_of_all, note_of_refused, note_of_night, IsRefusedFor, HasCause, Says, DoesNight}
 use Rattle.admin_cli.specs.Run.{IsServed, IsComplete}
 use Rattle.admin_cli.proofs.ForeignLaws.{night_foreign}
-use Rattle.admin_cli.proofs.RunLaws.{is_served, EndsWell}
+use Rattle.admin_cli.proofs.CauseLaws.{night_fails}
+use Rattle.admin_cli.proofs.RunLaws.{is_served, leads, EndsWell}
 use Rattle.admin_cli.proofs.StopLaws.{later_by, night_stops}
 
 -- ---- the period
@@ -83,7 +85,8 @@ module _ {D N S : Type 0} {d : DiskGhosts D} {n : NamerGhosts N S} (disk : D) (s
     → (o : Opened a b store.parts) × ComesToOne d n.digest_of disk store.parts.journal.disk a b o.office
     × FindsNow store.parts.journal (HasTablesFound (d.files disk) (d.uncertain disk)))
     (calm : d.fault_count store.parts.journal.disk ≡ d.fault_count disk)
-    (listed : AreThePoolFiles (d.files disk) (slots_of store.parts.pool.names)) where
+    (listed : AreThePoolFiles (d.files disk) (slots_of store.parts.pool.names))
+    (ready : is_stopped store.parts ≡ false) where
   pub does_night : (scheduled : Bool) (line : Option Line) (settings : List ℕ) (read : Settings) (port port' : DirectPort D N S d n)
       (link link' : LinkSeen) (moments moments' : Option (List ℕ)) (end : NightEnd) (disk' : D) (failed halted : Bool) (note : Note)
       → AsksFor (Night scheduled) line → IsSettings settings read → port.store ≡ store
@@ -110,18 +113,22 @@ module _ {D N S : Type 0} {d : DiskGhosts D} {n : NamerGhosts N S} (disk : D) (s
           clock = works.clock;
           due = works.due;
           calls = works.calls;
-          moved = is_served disk store store' settles calm listed works.calls moved;
+          moved = leads disk store store' settles calm listed ready works.calls moved;
           ends = works.ends;
         };
         says = says;
         cause = λ a b stands.
             has_cause d n.digest_of disk store'.parts.journal.disk works.calls _ a b end works.moment
             (local_of works.moment (ahead_at read.zone works.moment)).day read.period works.ends
-            (is_served disk store store' settles calm listed works.calls moved a b stands);
+            (is_served disk store store' settles calm listed ready works.calls moved a b stands);
         later = omega (arith, calm, moved.later);
         foreign = λ file is.
             night_foreign store store' works.calls works.moment (local_of works.moment (ahead_at read.zone works.moment)).day read.period end
             failed (store'.parts.halted || store'.parts.journal.halted) file moved works.ends is;
+        stops = λ is.
+            night_fails d n.digest_of disk store'.parts.journal.disk (store'.parts.halted || store'.parts.journal.halted) works.calls
+            (leads disk store store' settles calm listed ready works.calls moved) works.moment
+            (local_of works.moment (ahead_at read.zone works.moment)).day read.period end failed works.ends is;
         note_is = refl;
       })
 
@@ -169,5 +176,5 @@ module _ {D : Type 0} (d : DiskGhosts D) (digest_of : List ℕ → List ℕ) (di
       → link.faults ≡ linked → link'.faults ≡ linked' → IsComplete d digest_of disk disk' line settings linked linked' doors doors' entered entered' note
   night_complete doors doors' entered entered' line settings link link' moments moments' s is is' = λ a b stands said file m same l same_link calm g same_folder.
       subst (λ (told : Note). EndsWell d digest_of disk disk' linked linked' note told a b) (sym s.note_is)
-      (night_ends a b s.end s.failed s.halted link link' is is' s.says (s.works.moved a b stands).rose (s.cause a b stands)
+      (night_ends a b s.end s.failed s.halted link link' is is' s.says (s.works.moved.served a b stands).rose (s.cause a b stands)
       m same l same_link)

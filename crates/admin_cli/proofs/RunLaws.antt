@@ -1,5 +1,5 @@
 -- A run of `pipe`, and one that opened no store, from what the layers below it say.
---     is_served      the calls lead from the disk that came in to that handed back
+--     is_served, leads      the calls lead from the disk that came in to that handed back
 --     serves, refuses_early, lacks_memory, is_cause, refuses
 --     serves_complete, refused_complete, refused_tells      how such runs end
 use Rattle.std.specs.Prelude.{IsSome, ◌||◌, ◌⊎◌, ◌++◌}
@@ -25,6 +25,9 @@ use Rattle.store_opening.specs.SettlesLaws.{only_after}
 use Rattle.office_store.specs.declared.store.Store.{Store}
 use Rattle.office_store.specs.declared.port.DirectPort.{DirectPort}
 use Rattle.office_store.specs.Moves.{MayRecoverIn, Moves, Goes}
+use Rattle.office_store.specs.Serves.{is_stopped}
+use Rattle.office_store.specs.Halts.{HasStopCause}
+use Rattle.office_store.specs.HaltsLaws.{halted_since, failed_since}
 use Rattle.office_store.specs.EndLaws.{is_halted, halted_rose, halted_as, left_of, second_left}
 use Rattle.store_opening.specs.KeptTablesLaws.{old_found}
 use Rattle.stream_traits.specs.Seen.{LinkSeen}
@@ -41,7 +44,7 @@ use Rattle.admin_cli.specs.Statuses.{status_of}
 use Rattle.command_line.specs.Line.{Line, Task, Pipe}
 use Rattle.admin_cli.specs.Command.{AsksFor}
 use Rattle.admin_cli.specs.Asked.{IsSettingsFile, defaults_of, IsRefused, TellsRefusals}
-use Rattle.admin_cli.specs.Run.{note_of, note_of_refusal, StandsForEither, IsServed, Serves, IsUnopened, IsNotOpened, IsCause, Refuses, IsComplete}
+use Rattle.admin_cli.specs.Run.{note_of, note_of_refusal, StandsForEither, IsServed, LeadsOnDisk, Serves, IsUnopened, IsNotOpened, IsCause, Refuses, IsComplete}
 use Rattle.admin_cli.proofs.RefusalLaws.{none_said, said_task, file_of, refused_for_memory, tells_refused, tells_unopened}
 
 module _ {D N S : Type 0} {d : DiskGhosts D} {n : NamerGhosts N S} (disk : D) (store store' : Store D N S d n)
@@ -49,7 +52,8 @@ module _ {D N S : Type 0} {d : DiskGhosts D} {n : NamerGhosts N S} (disk : D) (s
     → (o : Opened a b store.parts) × ComesToOne d n.digest_of disk store.parts.journal.disk a b o.office
     × FindsNow store.parts.journal (HasTablesFound (d.files disk) (d.uncertain disk)))
     (calm : d.fault_count store.parts.journal.disk ≡ d.fault_count disk)
-    (listed : AreThePoolFiles (d.files disk) (slots_of store.parts.pool.names)) where
+    (listed : AreThePoolFiles (d.files disk) (slots_of store.parts.pool.names))
+    (ready : is_stopped store.parts ≡ false) where
   pub is_served : (calls : List Call) → Moves store calls store' → (a b : Durable) → StandsForEither d n.digest_of disk a b
       → IsServed d n.digest_of disk store'.parts.journal.disk calls (store'.parts.halted || store'.parts.journal.halted) a b
   is_served calls moved a b stands =
@@ -99,6 +103,18 @@ module _ {D N S : Type 0} {d : DiskGhosts D} {n : NamerGhosts N S} (disk : D) (s
           (halted_rose (Running (reopened o.office) o.names) (d.fault_count store.parts.journal.disk) g.leads.entries g.leads.legal refl
           (ap is_halted (sym g.leads.state_is) ∙ sym (halted_as store' g.next g.in_state) ∙ halted)))
 
+  pub leads : (calls : List Call) → Moves store calls store'
+      → LeadsOnDisk d n.digest_of (store'.parts.halted || store'.parts.journal.halted) disk calls store'.parts.journal.disk
+  leads calls moved = record {
+    served = is_served calls moved;
+    stopped = λ halted. cause (halted_since store store' calls moved.each ready halted);
+    failed = λ failed. cause (failed_since store store' calls moved.each ready failed);
+  }
+    where
+      cause : HasStopCause (d.fault_count store.parts.journal.disk) (d.fault_count store'.parts.journal.disk) calls
+          → HasStopCause (d.fault_count disk) (d.fault_count store'.parts.journal.disk) calls
+      cause has = subst (λ (k : ℕ). HasStopCause k (d.fault_count store'.parts.journal.disk) calls) calm has
+
   pub serves : (defaults : Defaults) (line : Option Line) (settings : List ℕ) (read : Settings) (port port' : DirectPort D N S d n) (link link' : LinkSeen) (moments moments' : Option (List ℕ))
       (end : End) (disk' : D) (halted : Bool) (note : Note)
       → AsksFor Pipe line → IsSettings settings read → defaults ≡ defaults_of read → port.store ≡ store
@@ -127,7 +143,7 @@ module _ {D N S : Type 0} {d : DiskGhosts D} {n : NamerGhosts N S} (disk : D) (s
             exchanges = served.talk.exchanges;
             are = served.talk.are;
             made = served.talk.made;
-            moved = is_served (calls_of served.talk.exchanges ++ served.talk.made) moved;
+            moved = leads (calls_of served.talk.exchanges ++ served.talk.made) moved;
             clock = served.talk.clock;
             taken = served.talk.taken;
             left_is = served.talk.left_is;
@@ -236,7 +252,7 @@ module _ {D : Type 0} (d : DiskGhosts D) (digest_of : List ℕ → List ℕ) (di
       subst (λ (told : Note). EndsWell told a b) (sym s.note_is)
       (served_complete a b s.end s.halted
       (λ e. subst (λ (k : ℕ). Rose k linked') is (subst (λ (k : ℕ). Rose link.faults k) is' (s.talk.counted.rose e)))
-      (s.talk.talk.moved a b stands).rose m same l same_link)
+      (s.talk.talk.moved.served a b stands).rose m same l same_link)
 
   pub refused_tells : (line : Option Line) (settings : List ℕ)
       → (IsRefused line settings note × (disk' ≡ disk)) ⊎ IsNotOpened d digest_of disk disk' line settings note

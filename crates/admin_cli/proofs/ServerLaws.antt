@@ -17,6 +17,7 @@ use Rattle.store_opening.specs.KeptTables.{HasTablesFound}
 use Rattle.journal_view.specs.View.{FindsNow}
 use Rattle.office_store.specs.declared.store.Store.{Store}
 use Rattle.office_store.specs.Moves.{Moves}
+use Rattle.office_store.specs.Serves.{is_stopped}
 use Rattle.request_events.specs.declared.defaults.Defaults.{Defaults}
 use Rattle.turn_port.specs.Comes.{calls_in}
 use Rattle.door_server.specs.declared.worker.Worker.{Worker}
@@ -30,14 +31,15 @@ use Rattle.admin_cli.specs.Command.{AsksFor}
 use Rattle.admin_cli.specs.Asked.{defaults_of}
 use Rattle.admin_cli.specs.Run.{IsComplete}
 use Rattle.admin_cli.specs.Servers.{has_risen, note_of_served, counts_of, ServesDoors, ServesNobody}
-use Rattle.admin_cli.proofs.RunLaws.{is_served, EndsWell}
+use Rattle.admin_cli.proofs.RunLaws.{leads, EndsWell}
 
 module _ {D N S : Type 0} {d : DiskGhosts D} {n : NamerGhosts N S} (disk : D) (store store' : Store D N S d n)
     (settles : (a b : Durable) → IsOf n.digest_of (d.files disk) (d.uncertain disk) a b
     → (o : Opened a b store.parts) × ComesToOne d n.digest_of disk store.parts.journal.disk a b o.office
     × FindsNow store.parts.journal (HasTablesFound (d.files disk) (d.uncertain disk)))
     (calm : d.fault_count store.parts.journal.disk ≡ d.fault_count disk)
-    (listed : AreThePoolFiles (d.files disk) (slots_of store.parts.pool.names)) {T C G L : Type 0} (l : Ghosts L)
+    (listed : AreThePoolFiles (d.files disk) (slots_of store.parts.pool.names))
+    (ready : is_stopped store.parts ≡ false) {T C G L : Type 0} (l : Ghosts L)
     (coming given_back : T → Option (List L)) (faults : T → ℕ) (moments_of : C → Option (List ℕ)) where
   pub serves_doors : (defaults : Defaults) (line : Option Line) (settings listen : List ℕ) (connections : Option ℕ) (read : Settings)
       (before after : List (Worker T C G)) (counts : List ℕ) (disk' : D) (failed halted : Bool) (note : Note)
@@ -60,7 +62,7 @@ module _ {D N S : Type 0} {d : DiskGhosts D} {n : NamerGhosts N S} (disk : D) (s
         is_read = is_read;
         halted = store'.parts.halted || store'.parts.journal.halted;
         log = all.log;
-        moved = is_served disk store store' settles calm listed (calls_in all.log) moved;
+        moved = leads disk store store' settles calm listed ready (calls_in all.log) moved;
         each = all.each;
         only = all.only;
         later = omega (arith, calm, moved.later);
@@ -79,7 +81,7 @@ module _ {D N S : Type 0} {d : DiskGhosts D} {n : NamerGhosts N S} (disk : D) (s
         read = read;
         is_read = is_read;
         halted = store'.parts.halted || store'.parts.journal.halted;
-        moved = is_served disk store store' settles calm listed [] moved;
+        moved = leads disk store store' settles calm listed ready [] moved;
         untouched = same;
         later = omega (arith, calm, moved.later);
         note_is = note_is;
@@ -108,7 +110,7 @@ module _ {D : Type 0} (d : DiskGhosts D) (digest_of : List ℕ → List ℕ) (di
     doors_complete s = λ a b stands said file m same few same_link calm g same_folder.
         subst (λ (told : Note). EndsWell d digest_of disk disk' linked linked' note told a b) (sym s.note_is)
         (risen_ends a b (has_risen (counts_of faults before) (counts_of faults after)) s.halted (rw calm (none_rose (counts_of faults before)))
-        (s.moved a b stands).rose m same)
+        (s.moved.served a b stands).rose m same)
 
     pub nobody_complete : ServesNobody d digest_of l coming given_back faults moments_of disk disk' line settings before after note
         → IsComplete d digest_of disk disk' line settings linked linked' (counts_of faults before) (counts_of faults after) entered entered' note

@@ -49,4 +49,5 @@ module _ {D : Type 0} (d : DiskGhosts D) (digest_of : List ℕ → List ℕ) whe
         × (halted ≡ true → Rose (d.fault_count disk) (d.fault_count disk'))
     pub later : d.fault_count disk ≤ d.fault_count disk'
     pub unasked : moments' ≡ moments
+    pub stops : note ≡ N.DiskFailed → Rose (d.fault_count disk) (d.fault_count disk')
     pub note_is : note ≡ note_of_demo end failed halted

@@ -84,7 +84,7 @@ Says (Some text) link link' failed = SaysText text link link' failed
 module _ {D : Type 0} (d : DiskGhosts D) (digest_of : List ℕ → List ℕ) where
   -- the words ask for `night`, the store was opened, and the night was done by the settings that were read: its calls lead from the
   -- disk that came in to that handed back, and its line, if it ran to its end, was said on the link. Over any disk a file is named only
-  -- if it is a table that the disk handed back holds none in
+  -- if it is a table that the disk handed back holds none in, and the disk's failure told only if its count rose
   pub record DoesNight (disk disk' : D) (line : Option Line) (settings : List ℕ) (link link' : LinkSeen)
       (moments moments' : Option (List ℕ)) (note : Note) : Type 0 where
     pub scheduled : Bool
@@ -99,4 +99,5 @@ module _ {D : Type 0} (d : DiskGhosts D) (digest_of : List ℕ → List ℕ) whe
     pub cause : (a b : Durable) → StandsForEither d digest_of disk a b → HasCause end (d.fault_count disk) (d.fault_count disk')
     pub later : d.fault_count disk ≤ d.fault_count disk'
     pub foreign : (file : FileId) → note ≡ Foreign file → IsDamagedTable (option_map seen (d.files disk')) file
+    pub stops : note ≡ DiskFailed → Rose (d.fault_count disk) (d.fault_count disk')
     pub note_is : note ≡ note_of_night end failed halted

@@ -1,6 +1,7 @@
 -- What the program promises for its command `pipe`.
 --     note_of      the note of a run that served its connection
 --     IsServed      one legal history of the calls, from one of the offices that the disk stood for, and what the disk is left with
+--     LeadsOnDisk      so, if the disk stood for one; and why the store is halted, whatever the disk
 --     Serves, Refuses      a connection was served; no store was opened
 --     IsComplete      how a run ends if nothing failed
 use Rattle.std.specs.Prelude.{◌≡◌, ℕ, ◌-◌, ◌^◌, ◌<◌, ◌≤◌, Bool, true, false, List, Option, Some, option_map, IsSome, ◌⊎◌, if◌then◌else◌}
@@ -24,6 +25,7 @@ use Rattle.store_opening.specs.Reopens.{first_of, second_of}
 use Rattle.store_opening.specs.Settles.{IsStopped}
 use Rattle.store_opening.specs.Whole.{AreListed, SaysSpent}
 use Rattle.office_store.specs.Moves.{MayRecoverIn}
+use Rattle.office_store.specs.Halts.{HasStopCause, HasFailed}
 use Rattle.settings_file.specs.declared.read.Settings.{Settings}
 use Rattle.settings_file.specs.Document.{IsSettings}
 use Rattle.browse_http.specs.declared.end.End.{End}
@@ -88,9 +90,13 @@ module _ {D : Type 0} (d : DiskGhosts D) (digest_of : List ℕ → List ℕ) whe
     pub crash : LeavesOnly d.moment d.left_since synced disk' (Finds (λ found.
         IsEither digest_of office (raised office) found ⊎ MayRecoverIn digest_of (Running (reopened office) names) opening calls found))
 
-  -- the calls lead from one disk to another, if whatever a crash of the first leaves stands for one of two offices
-  abbrev pub LeadsOnDisk : (halted : Bool) → D → List Call → D → Type 0
-  LeadsOnDisk halted disk calls disk' = (a b : Durable) → StandsForEither disk a b → IsServed disk disk' calls halted a b
+  -- The calls lead from one disk to another, if whatever a crash of the first leaves stands for one of two offices. Over any disk the
+  -- store is halted at their end, or one of them answered so or that the disk failed, only if the disk's count rose or a reopening among
+  -- them found a file that isn't the store's.
+  pub record LeadsOnDisk (halted : Bool) (disk : D) (calls : List Call) (disk' : D) : Type 0 where
+    pub served : (a b : Durable) → StandsForEither disk a b → IsServed disk disk' calls halted a b
+    pub stopped : halted ≡ true → HasStopCause (d.fault_count disk) (d.fault_count disk') calls
+    pub failed : HasFailed calls → HasStopCause (d.fault_count disk) (d.fault_count disk') calls
 
   -- the words ask for `pipe`, the store was opened, and one connection was served by the settings that were read: its talk, over
   -- calls that lead from the disk that came in to that handed back

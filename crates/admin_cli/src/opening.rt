@@ -1,6 +1,6 @@
 //! The opening of the store.
 
-ghost use Rattle.std.specs.Prelude.{◌≡◌, IfOk, IfErr};
+ghost use Rattle.std.specs.Prelude.{◌≡◌, false, IfOk, IfErr};
 ghost use Rattle.journal_view.specs.View.{FindsNow};
 ghost use Rattle.pool_changes.specs.Kept.{slots_of};
 ghost use Rattle.pool_store.specs.Opening.{AreThePoolFiles};
@@ -9,6 +9,7 @@ ghost use Rattle.store_opening.specs.declared.fault.OpenRefusal.{OpenRefusal};
 ghost use Rattle.store_opening.specs.Opens.{IsOf, Opened};
 ghost use Rattle.store_opening.specs.Settles.{ComesToOne};
 ghost use Rattle.store_opening.specs.KeptTables.{HasTablesFound};
+ghost use Rattle.office_store.specs.Serves.{is_stopped};
 ghost use Rattle.admin_cli.specs.Run.{note_of_refusal, IsUnopened};
 
 use crate::note::Note;
@@ -39,6 +40,7 @@ pub fn open_store<D: Disk, N: Namer>(
         → (o : Opened a b store.parts) × ComesToOne ⟦<D as Disk>⟧ N.digest_of disk store.parts.journal.disk a b o.office
         × FindsNow store.parts.journal (HasTablesFound (D.files disk) (D.uncertain disk))) }
     ensures listed { IfOk result (λ store. AreThePoolFiles (D.files disk) (slots_of store.parts.pool.names)) }
+    ensures ready { IfOk result (λ store. is_stopped store.parts ≡ false) }
     ensures counted { IfOk result (λ store. D.fault_count store.parts.journal.disk ≡ D.fault_count disk) }
     ensures refused { IfErr result (λ refused. (refusal : OpenRefusal) × (refused.1 ≡ note_of_refusal refusal)
         × IsUnopened ⟦<D as Disk>⟧ N.digest_of disk refused.0 refusal) }

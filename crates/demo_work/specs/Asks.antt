@@ -13,7 +13,7 @@ use Rattle.backup_rules.specs.declared.settings.Setting.TheVariants.{FillCycle}
 use Rattle.backup_rules.specs.Values.{RuleSet, RuleChanges}
 use Rattle.backup_rules.specs.Changes.{default_rules, no_change, with_number, changed}
 use Rattle.tree_frames.specs.declared.nodes.Frame.{Frame}
-use Rattle.tree_frames.specs.declared.nodes.Frame.TheVariants.{Entry, Piece, End}
+use Rattle.tree_frames.specs.declared.nodes.Frame.TheVariants.{Deleted, Entry, Piece, End}
 use Rattle.receipts.specs.declared.session.SessionName.{SessionName}
 use Rattle.office_model.specs.declared.event.Event.{Event}
 use Rattle.office_model.specs.declared.event.Event.TheVariants as E
@@ -83,7 +83,7 @@ event_of dump (Q.Clean bucket) = E.Clean bucket
 event_of dump Q.Sweep = E.Sweep
 event_of dump Q.Stats = E.Stats
 event_of dump (Q.Backups host) = E.Backups (host_name host)
-event_of dump (Q.OpenRead host number) = E.OpenRead (host_name host) number
+event_of dump (Q.OpenRead host number) = E.OpenRead (host_name host) number None
 event_of dump (Q.ReadNext restore) = E.ReadNext restore
 event_of dump (Q.CloseRead restore) = E.CloseRead restore
 
@@ -109,6 +109,7 @@ first_read _ = []
 
 -- behind the end a restore is closed
 abbrev pub read_behind : SessionName → Frame → Ask
+read_behind restore (Deleted path) = Q.ReadNext restore
 read_behind restore (Entry path node) = Q.ReadNext restore
 read_behind restore (Piece bytes) = Q.ReadNext restore
 read_behind restore (End count) = Q.CloseRead restore

@@ -5,3 +5,4 @@ pub mod Told
 pub mod Ends
 pub mod Texts
 pub mod Steps
+pub mod CallLaws

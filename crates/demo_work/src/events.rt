@@ -202,10 +202,14 @@ fn backups(alloc: Global, host: u64) -> Result<Event, AllocError>
 
 /// A backup is opened.
 fn open_read(alloc: Global, host: u64, number: u32) -> Result<Event, AllocError>
-    ensures { IfOk result (λ event. event ≡ E.OpenRead (host_name host) number) }
+    ensures { IfOk result (λ event. event ≡ E.OpenRead (host_name host) number None) }
 {
     let host = host_name(alloc, host)?;
-    Ok(Event::OpenRead { host, number })
+    Ok(Event::OpenRead {
+        host,
+        number,
+        base: None,
+    })
 }
 
 /// The event of an ask, by the dump that was opened last; or want of memory.

@@ -46,7 +46,7 @@ fn read_behind(restore: SessionName, frame: &Frame) -> Ask
     ensures { result ≡ read_behind restore frame.now }
 {
     match frame {
-        Frame::Entry { .. } | Frame::Piece(_) => Ask::ReadNext { restore },
+        Frame::Deleted(_) | Frame::Entry { .. } | Frame::Piece(_) => Ask::ReadNext { restore },
         Frame::End(_) => Ask::CloseRead { restore },
     }
 }

@@ -77,6 +77,7 @@ fn rule_status(rule: BrokenRule) -> StatusCode
         BrokenRule::BadBucket => StatusCode::UNPROCESSABLE_ENTITY,
         BrokenRule::BadPiece => StatusCode::BAD_REQUEST,
         BrokenRule::TokensFull => StatusCode::UNPROCESSABLE_ENTITY,
+        BrokenRule::NumberBehind => StatusCode::CONFLICT,
     }
 }
 

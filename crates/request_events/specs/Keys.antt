@@ -51,6 +51,7 @@ keys_of (A.Host H.Contact) pairs = needed (codes "good") ∷ []
 keys_of (A.Backup B.List) pairs = optional (codes "path") ∷ []
 keys_of (A.Backup B.Lookup) pairs = needed (codes "path") ∷ []
 keys_of (A.Backup B.OpenFile) pairs = needed (codes "path") ∷ []
+keys_of (A.Backup B.OpenRead) pairs = optional (codes "base") ∷ []
 keys_of (A.Backup B.Keep) pairs = needed (codes "on") ∷ []
 keys_of (A.Session S.Put) pairs = put_keys (value_of (codes "kind") pairs)
 keys_of (A.Session S.Remove) pairs = needed (codes "path") ∷ optional (codes "token") ∷ []

@@ -1,8 +1,9 @@
 -- The values of a query.
 --     value_in, value_or      the value of a key in a form, which must be there, or stands for another where it is absent
 --     token_in      the token of the request, if it has one
+--     base_in      the number of the base, if it has one
 --     path_in, place_in      the path that the query names;  the same, or the root
-use Rattle.std.specs.Prelude.{ℕ, Bool, true, false, List, codes, Option, Some, None, Result, Ok, Err, bytes_eq, if◌then◌else◌}
+use Rattle.std.specs.Prelude.{ℕ, ◌-◌, ◌^◌, Bool, true, false, List, codes, Option, Some, None, Result, Ok, Err, bytes_eq, if◌then◌else◌}
 use Rattle.std.specs.Option.{option_map, option_map_or}
 use Rattle.attr_records.specs.PathRules.{broken_path_rule}
 use Rattle.attr_records.specs.declared.paths.BadPath.{BadPath}
@@ -55,6 +56,14 @@ token_of text = token_read text (decode_sized text 16)
 -- None where the key is absent
 abbrev pub token_in : List Pair → Said (Option Token)
 token_in pairs = or_refuse (BadQuery Value) (value_or (λ text. option_map Some (token_of text)) None (codes "token") pairs)
+
+-- 0 to 4,294,967,295
+abbrev pub base_of : List ℕ → Option ℕ
+base_of text = number_of (2 ^ 32 - 1) text
+
+-- None where the key is absent
+abbrev pub base_in : List Pair → Said (Option ℕ)
+base_in pairs = or_refuse (BadQuery Value) (value_or (λ text. option_map Some (base_of text)) None (codes "base") pairs)
 
 -- a text as a path, refused for the first rule of paths that it breaks
 abbrev pub path_or : List ℕ → Option BadPath → Said (List ℕ)

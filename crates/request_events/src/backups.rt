@@ -4,7 +4,7 @@ ghost use Rattle.request_events.specs.Said.{Says};
 ghost use Rattle.request_events.specs.BackupEvents.{backup_event};
 
 use crate::refusal::RequestFault;
-use crate::values::{flag_in, path_in, place_in};
+use crate::values::{base_in, flag_in, path_in, place_in};
 use attr_records::HostName;
 use http_query::Query;
 use http_routes::BackupAction;
@@ -38,7 +38,10 @@ pub fn backup_event(
             let path = path_in(alloc, query)?;
             Ok(Event::OpenFile { host, number, path })
         }
-        BackupAction::OpenRead => Ok(Event::OpenRead { host, number }),
+        BackupAction::OpenRead => {
+            let base = base_in(query)?;
+            Ok(Event::OpenRead { host, number, base })
+        }
         BackupAction::Keep => {
             let on = flag_in(query, "on")?;
             Ok(Event::Keep { host, number, on })

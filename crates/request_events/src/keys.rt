@@ -72,6 +72,11 @@ const TOKEN: Key = Key {
     needed: false,
 };
 
+const BASE: Key = Key {
+    name: "base",
+    needed: false,
+};
+
 /// The key `path` of a listing, which is of the root without it.
 const PLACE: Key = Key {
     name: "path",
@@ -175,6 +180,7 @@ pub fn keys_of(action: Action, query: &Query) -> &'static [Key]
         Action::Host(HostAction::Contact) => &[GOOD],
         Action::Backup(BackupAction::List) => &[PLACE],
         Action::Backup(BackupAction::Lookup | BackupAction::OpenFile) => &[PATH],
+        Action::Backup(BackupAction::OpenRead) => &[BASE],
         Action::Backup(BackupAction::Keep) => &[ON],
         Action::Session(SessionAction::Put) => put_keys(query),
         Action::Session(SessionAction::Remove) => &[PATH, TOKEN],

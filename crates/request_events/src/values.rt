@@ -1,7 +1,7 @@
 ghost use Rattle.std.specs.Prelude.{◌≡◌, codes};
 ghost use Rattle.http_query.specs.declared.keys.QueryRule.TheVariants.{Value};
 ghost use Rattle.request_events.specs.Said.{Says, or_refuse};
-ghost use Rattle.request_events.specs.Values.{value_in, dump_kind_of, flag_of, bucket_of, lower_token, token_of, token_in, path_of_text, path_in, place_in};
+ghost use Rattle.request_events.specs.Values.{value_in, dump_kind_of, flag_of, bucket_of, lower_token, token_of, token_in, base_in, path_of_text, path_in, place_in};
 ghost use Rattle.request_events.specs.declared.refusal.RequestRefusal.TheVariants.{BadQuery};
 
 use crate::refusal::{RequestFault, RequestRefusal};
@@ -125,6 +125,19 @@ pub fn token_in(query: &Query) -> Result<Option<Token>, RequestFault>
     match query.value("token") {
         Some(text) => match token_of(text) {
             Some(token) => Ok(Some(token)),
+            None => Err(BAD_VALUE),
+        },
+        None => Ok(None),
+    }
+}
+
+/// The number of a base, by the key `base`, or None if the key is absent.
+pub fn base_in(query: &Query) -> Result<Option<u32>, RequestFault>
+    ensures { Says result (base_in query.now) }
+{
+    match query.value("base") {
+        Some(text) => match read_number(text.as_bytes(), u32::MAX as u64) {
+            Some(number) => Ok(Some(number as u32)),
             None => Err(BAD_VALUE),
         },
         None => Ok(None),

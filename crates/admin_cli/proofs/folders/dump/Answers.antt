@@ -10,7 +10,7 @@ returns-in-Err g c = λ line bytes path read asked is.
 
 pub returns : goal.returns
 returns g c = λ line bytes path read asked is.
-    inl (does_dump c.args.disk c.in-Ok.store c.into_store-store.result c.in-Ok.ensures.opened c.in-Ok.ensures.counted c.in-Ok.ensures.listed
+    inl (does_dump c.args.disk c.in-Ok.store c.into_store-store.result c.in-Ok.ensures.opened c.in-Ok.ensures.counted c.in-Ok.ensures.listed c.in-Ok.ensures.ready
     g.F.Folder line bytes _ path read _ _ _ _ _ _ _ _ _ _ _ _ g.met.F.Folder.is_tree is c.new-port.ensures c.into_store-store.ensures c.close.ensures
     c.is_halted-halted.ensures c.args.kind _ asked
     (dumps_by _ _ _ _ _ _ _ _ _ c.dump_folder-dumped.ensures.ok c.dump_folder-dumped.ensures.err) c.dump_folder-dumped.ensures.cause

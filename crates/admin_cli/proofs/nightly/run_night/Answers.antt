@@ -10,7 +10,7 @@ returns-in-Err g c = λ line bytes asked is.
 
 pub returns : goal.returns
 returns g c = λ line bytes asked is.
-    inl (does_night c.args.disk c.in-Ok.store c.into_store-store.result c.in-Ok.ensures.opened c.in-Ok.ensures.counted c.in-Ok.ensures.listed
+    inl (does_night c.args.disk c.in-Ok.store c.into_store-store.result c.in-Ok.ensures.opened c.in-Ok.ensures.counted c.in-Ok.ensures.listed c.in-Ok.ensures.ready
     c.args.scheduled line bytes c.args.settings.now _ _ _ _ _ _ _ _ _ _ _ asked is c.new-port.ensures
     (rw c.as_slice.ensures.value at c.night-end.ensures)
     (rw c.text.ensures at c.say-failed.ensures) c.into_store-store.ensures c.close.ensures c.is_halted-halted.ensures c.note_of_night.ensures)

@@ -15,6 +15,6 @@ returns-in-Err-open_store g c = λ line bytes asked is.
 
 pub returns : goal.returns
 returns g c = λ line bytes asked is.
-    inl (serves c.args.disk c.in-Ok-open_store.store c.into_store-store.result c.in-Ok-open_store.ensures.opened c.in-Ok-open_store.ensures.counted c.in-Ok-open_store.ensures.listed
+    inl (serves c.args.disk c.in-Ok-open_store.store c.into_store-store.result c.in-Ok-open_store.ensures.opened c.in-Ok-open_store.ensures.counted c.in-Ok-open_store.ensures.listed c.in-Ok-open_store.ensures.ready
     _ line bytes c.args.settings _ _ _ _ _ _ _ _ _ _ asked is c.in-Ok.ensures c.new-port.ensures c.serve_connection-end.ensures
     c.into_store-store.ensures c.close.ensures c.is_halted-halted.ensures c.note_of.ensures)

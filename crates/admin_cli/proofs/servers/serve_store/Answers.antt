@@ -20,7 +20,7 @@ returns-in-Err-open_store g c = λ line bytes listen connections asked is.
 
 pub returns-in_default : goal.returns-in_default
 returns-in_default g c = λ line bytes listen connections asked is.
-    inl (inr (serves_nobody c.args.disk c.in-Ok-open_store.store c.in-Ok-open_store.store c.in-Ok-open_store.ensures.opened c.in-Ok-open_store.ensures.counted c.in-Ok-open_store.ensures.listed
+    inl (inr (serves_nobody c.args.disk c.in-Ok-open_store.store c.in-Ok-open_store.store c.in-Ok-open_store.ensures.opened c.in-Ok-open_store.ensures.counted c.in-Ok-open_store.ensures.listed c.in-Ok-open_store.ensures.ready
     _ _ _ _ _ line bytes listen connections c.args.settings _ _ _ _ asked is (Moves-none c.in-Ok-open_store.store)
     (ap (λ w. w.items) c.without_memory.ensures.workers)
     c.without_memory.ensures.disk c.without_memory.ensures.note))
@@ -29,14 +29,14 @@ pub returns-in-Err-serve_workers : goal.returns-in-Err-serve_workers
 returns-in-Err-serve_workers g c = λ line bytes listen connections asked is.
     let back = c.in-Err-serve_workers.ensures.err in
     let none = c.without_memory-in-Err-serve_workers.ensures in
-    inl (inr (serves_nobody c.args.disk c.in-Ok-open_store.store c.in-Ok-open_store.store c.in-Ok-open_store.ensures.opened c.in-Ok-open_store.ensures.counted c.in-Ok-open_store.ensures.listed
+    inl (inr (serves_nobody c.args.disk c.in-Ok-open_store.store c.in-Ok-open_store.store c.in-Ok-open_store.ensures.opened c.in-Ok-open_store.ensures.counted c.in-Ok-open_store.ensures.listed c.in-Ok-open_store.ensures.ready
     _ _ _ _ _ line bytes listen connections c.args.settings _ _ _ _ asked is (Moves-none c.in-Ok-open_store.store)
     (ap (λ w. w.items) (none.workers ∙ back.1))
     (none.disk ∙ ap (λ store. store.parts.journal.disk) back.0) none.note))
 
 pub returns : goal.returns
 returns g c = λ line bytes listen connections asked is.
-    inl (inl (serves_doors c.args.disk c.in-Ok-open_store.store c.in-Ok-serve_workers.served.store c.in-Ok-open_store.ensures.opened c.in-Ok-open_store.ensures.counted c.in-Ok-open_store.ensures.listed _ _ _ _ _ _ line bytes listen connections c.args.settings _ _ _ _ _ _ _ asked is c.in-Ok.ensures
+    inl (inl (serves_doors c.args.disk c.in-Ok-open_store.store c.in-Ok-serve_workers.served.store c.in-Ok-open_store.ensures.opened c.in-Ok-open_store.ensures.counted c.in-Ok-open_store.ensures.listed c.in-Ok-open_store.ensures.ready _ _ _ _ _ _ line bytes listen connections c.args.settings _ _ _ _ _ _ _ asked is c.in-Ok.ensures
     c.in-Ok-serve_workers.ensures.ok
     (rw c.as_slice.ensures.value at c.in-Ok-counts_of.ensures)
     (rw (c.as_slice-2.ensures.value, c.as_slice-3.ensures.value) at c.has_risen-failed.ensures)
