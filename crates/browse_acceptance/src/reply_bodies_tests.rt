@@ -274,6 +274,8 @@ fn frames_have_their_bytes(rt: HostRuntime) -> Result<(), Fail> {
     expect_frame(alloc, entry, bytes)?;
     let piece = Frame::Piece(Bytes::from_slice(alloc, b"hello")?);
     expect_frame(alloc, piece, b"D\0\0\0\x05hello")?;
+    let lost = Frame::Deleted(PathName::read(alloc, b"a/b")?);
+    expect_frame(alloc, lost, b"X\0\x03a/b")?;
     expect_frame(alloc, Frame::End(1), b"Z\0\0\0\x01")
 }
 

@@ -12,7 +12,7 @@ use stream_traits::Moment;
 use wake_schedule::Zone;
 
 /// Heads without their ends, each of which has an event.
-const TAKEN: [&str; 34] = [
+const TAKEN: [&str; 35] = [
     "GET /hosts",
     "PUT /hosts/pc1",
     "PUT /hosts/pc1/rules",
@@ -38,6 +38,7 @@ const TAKEN: [&str; 34] = [
     "GET /hosts/pc1/backups/0/entry?path=a",
     "GET /hosts/pc1/backups/0/file?path=a%2Fb+c",
     "POST /hosts/pc1/backups/0/restores",
+    "POST /hosts/pc1/backups/1/restores?base=0",
     "POST /hosts/pc1/backups/0/keep?on=1",
     "GET /restores/1-0/next",
     "DELETE /restores/1-0",
@@ -60,7 +61,7 @@ const MISSING: RequestRefusal = RequestRefusal::BadQuery(QueryRule::Missing);
 const VALUE: RequestRefusal = RequestRefusal::BadQuery(QueryRule::Value);
 
 /// Heads without their ends, and why each is refused.
-const REFUSED: [(&str, RequestRefusal); 44] = [
+const REFUSED: [(&str, RequestRefusal); 50] = [
     ("GET /host", RequestRefusal::NoRoute),
     ("PUT /hosts", RequestRefusal::NoMethod(Route::Hosts)),
     (
@@ -128,6 +129,12 @@ const REFUSED: [(&str, RequestRefusal); 44] = [
         "POST /hosts/a/dumps?kind=full&token=0123456789abcdef0123456789abcdef&token=x",
         REPEATED,
     ),
+    ("POST /hosts/a/backups/1/restores?base=x", VALUE),
+    ("POST /hosts/a/backups/1/restores?base=4294967296", VALUE),
+    ("POST /hosts/a/backups/1/restores?base", VALUE),
+    ("POST /hosts/a/backups/1/restores?base=0&base=0", REPEATED),
+    ("POST /hosts/a/backups/1/restores?number=0", UNKNOWN),
+    ("GET /hosts/a/backups/1/list?base=0", UNKNOWN),
     // Routes that take none.
     (
         "POST /dumps/1-0/commit?token=0123456789abcdef0123456789abcdef",
@@ -433,6 +440,30 @@ fn a_file_is_read_part_by_part(rt: HostRuntime) -> Result<(), Fail> {
         number == 3 && path.as_slice() == b"a/b".as_slice(),
         "another file",
     )
+}
+
+/// The targets of restores, and the base of each.
+const BASES: &[(&str, Option<u32>)] = &[
+    ("1/restores?base=0", Some(0)),
+    ("0/restores?base=4294967295", Some(u32::MAX)),
+    ("1/restores?b%61se=%31", Some(1)),
+    ("1/restores", None),
+];
+
+fn expect_base(alloc: Global, target: &str, wanted: Option<u32>) -> Result<(), Fail> {
+    let line = format!(in alloc; "POST /hosts/pc1/backups/{target}")?;
+    match asked_by_line(alloc, line.as_str())? {
+        Ok(Event::OpenRead { base, .. }) => expect(base == wanted, "another base"),
+        _ => Err(Fail::new("no restore")),
+    }
+}
+
+#[test]
+fn a_restore_has_its_base(rt: HostRuntime) -> Result<(), Fail> {
+    for (target, wanted) in BASES {
+        expect_base(rt.alloc(), target, *wanted)?;
+    }
+    Ok(())
 }
 
 #[test]

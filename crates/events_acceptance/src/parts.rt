@@ -80,7 +80,7 @@ fn carry_out<N: Namer>(
         Event::Lookup { host, number, path } => lookup(parts, alloc, host, *number, path),
         // No request reads a file in one event, so one that opens it stands for that.
         Event::OpenFile { host, number, path } => read_file(parts, alloc, host, *number, path),
-        Event::OpenRead { host, number } => open_read(parts, alloc, host, *number),
+        Event::OpenRead { host, number, base } => open_read(parts, alloc, host, *number, *base),
         Event::ReadNext { restore } => read_next(parts, alloc, *restore),
         Event::CloseRead { restore } => close_read(parts, *restore),
         Event::Clean { bucket } => clean(parts, alloc, *bucket),

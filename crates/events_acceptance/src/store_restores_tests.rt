@@ -2,7 +2,7 @@ ghost use Rattle.std.specs.Prelude.{IfOk};
 ghost use Rattle.attr_tables.specs.Records.{IsSound};
 
 use crate::parts::{Parts, expect_rows, parts_with, reply_to};
-use attr_records::{Attr, Link, LinkTarget, PathName};
+use attr_records::{Attr, Dir, HostName, Link, LinkTarget, PathName};
 use attr_tables::{Record, Row as TableRow, StoredFile, Table, write_table};
 use disk_trait::{Bytes, Disk, DiskRoom, FileId, MemoryDisk, PoolId};
 use office_model::{Answer, Event, Frame, Node, Refusal, SessionName};
@@ -18,7 +18,10 @@ const ROOM: DiskRoom = DiskRoom {
 
 const NUMBER: u32 = 5;
 
-// A frame: an entry's kind, its path and a file's size; a piece's first byte and its length; the count of the end.
+// The number of an older backup.
+const OLDER: u32 = 4;
+
+// A frame: an entry's kind, its path and a file's size; a piece's first byte and its length; a removed path; the count of the end.
 struct Wanted(u8, &'static [u8], u64);
 
 // All frames of the backup, the last one twice.
@@ -78,6 +81,14 @@ fn push(alloc: Global, table: &mut Table, path: &[u8], node: Record) -> Result<(
     Ok(())
 }
 
+fn dir_of() -> Record
+    ensures { IsSound result }
+{
+    Record::Dir(Dir {
+        attr: Attr::dir_default(),
+    })
+}
+
 fn table_of(alloc: Global) -> Result<Bytes, Fail> {
     let mut table = Table::new(alloc);
     push(alloc, &mut table, b"e", file_of(0, 0))?;
@@ -108,7 +119,7 @@ fn is_entry(path: &PathName, node: &Node, wanted: &Wanted) -> bool {
     match node {
         Node::File(file) => wanted.0 == b'f' && file.size == wanted.2,
         Node::Link(_) => wanted.0 == b'l',
-        Node::Dir(_) => false,
+        Node::Dir(_) => wanted.0 == b'd',
     }
 }
 
@@ -123,6 +134,7 @@ fn is_frame(frame: &Frame, wanted: &Wanted) -> bool {
     match frame {
         Frame::Entry { path, node } => is_entry(path, node, wanted),
         Frame::Piece(piece) => is_piece(piece, wanted),
+        Frame::Deleted(path) => wanted.0 == b'x' && path.as_slice() == wanted.1,
         Frame::End(count) => wanted.0 == b'z' && u64::from(*count) == wanted.2,
     }
 }
@@ -176,9 +188,14 @@ fn a_restore_gives_each_frame_of_its_backup(rt: HostRuntime) -> Result<(), Fail>
     expect_rows(alloc, &mut parts, &CLOSE)
 }
 
-const NO_BACKUP: [Row; 2] = [
+const NO_BACKUP: [Row; 3] = [
     Row(
         "POST /hosts/a/backups/4/restores",
+        "",
+        "{\"refused\":\"NoBackup\"}",
+    ),
+    Row(
+        "POST /hosts/a/backups/5/restores?base=4",
         "",
         "{\"refused\":\"NoBackup\"}",
     ),
@@ -215,4 +232,72 @@ fn another_content_is_damaged_in_the_place_of_its_last_piece(rt: HostRuntime) ->
     let alloc = rt.alloc();
     expect_damaged(alloc, &content_of(alloc, b'x', b'c')?)?;
     expect_damaged(alloc, &content_of(alloc, b'b', 0)?)
+}
+
+// What the older backup has in the place of the newer one's rows: a directory with a file and another one, another large file,
+// and no link.
+fn older_table(alloc: Global) -> Result<Bytes, Fail> {
+    let mut table = Table::new(alloc);
+    push(alloc, &mut table, b"d", dir_of())?;
+    push(alloc, &mut table, b"d/d", dir_of())?;
+    push(alloc, &mut table, b"d/d/f", file_of(65_536, b'a'))?;
+    push(alloc, &mut table, b"d/e", file_of(0, 0))?;
+    push(alloc, &mut table, b"g", file_of(65_536, b'a'))?;
+    push(alloc, &mut table, b"l", Record::Deleted)?;
+    Ok(write_table(alloc, &table)?)
+}
+
+// The frames from the older backup to the newer one, the last one twice: the lost directory once, then the changed file and the
+// link.
+const SINCE: [Wanted; 7] = [
+    Wanted(b'x', b"d", 0),
+    Wanted(b'f', b"g", 65_537),
+    Wanted(b'p', b"b", 65_536),
+    Wanted(b'p', b"c", 1),
+    Wanted(b'l', b"l", 0),
+    Wanted(b'z', b"", 2),
+    Wanted(b'z', b"", 2),
+];
+
+// And back.
+const BACK: [Wanted; 9] = [
+    Wanted(b'x', b"l", 0),
+    Wanted(b'd', b"d", 0),
+    Wanted(b'd', b"d/d", 0),
+    Wanted(b'f', b"d/d/f", 65_536),
+    Wanted(b'p', b"a", 65_536),
+    Wanted(b'f', b"d/e", 0),
+    Wanted(b'f', b"g", 65_536),
+    Wanted(b'p', b"a", 65_536),
+    Wanted(b'z', b"", 5),
+];
+
+// The frames of a restore of the backup of this number since that of another.
+fn expect_since(alloc: Global, number: u32, base: u32, frames: &[Wanted]) -> Result<(), Fail> {
+    let mut disk = disk_of(alloc, &content_of(alloc, b'b', b'c')?)?;
+    let table = older_table(alloc)?;
+    disk.write(FileId::Table(0, OLDER), table.as_slice())?;
+    let mut parts = parts_with(alloc, disk, &[OLDER, NUMBER])?;
+    let event = Event::OpenRead {
+        host: HostName::read(alloc, b"a")?,
+        number,
+        base: Some(base),
+    };
+    match reply_to(alloc, &mut parts, &event)? {
+        Ok(Answer::Restore(_)) => {}
+        _ => return Err(Fail::new("no restore")),
+    }
+    for wanted in frames {
+        expect_next(alloc, &mut parts, wanted)?;
+    }
+    Ok(())
+}
+
+// From the older backup to the newer one, and back; nothing leads from a backup to itself.
+#[test]
+fn a_restore_since_a_base_gives_what_leads_from_it(rt: HostRuntime) -> Result<(), Fail> {
+    let alloc = rt.alloc();
+    expect_since(alloc, NUMBER, OLDER, &SINCE)?;
+    expect_since(alloc, OLDER, NUMBER, &BACK)?;
+    expect_since(alloc, NUMBER, NUMBER, &[Wanted(b'z', b"", 0)])
 }

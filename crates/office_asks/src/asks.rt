@@ -34,6 +34,8 @@ pub enum Ask {
     Commit(u64),
     /// Of an epoch.
     CommitIn(u64, u64),
+    /// With this number.
+    Adopt(u64, u32),
     Abort(u64),
     Park(u64),
     Resume(&'static str),
@@ -43,6 +45,8 @@ pub enum Ask {
     Lookup(&'static str, u32, &'static str),
     Read(&'static str, u32, &'static str),
     Restore(&'static str, u32),
+    /// With a base.
+    RestoreSince(&'static str, u32, u32),
     Next(u64),
     Close(u64),
     Keep(&'static str, u32),
@@ -223,6 +227,13 @@ fn partial_event(alloc: Global, ask: Ask) -> Result<Event, Fail> {
             dump: SessionName { epoch, sequence },
             now: moment(START),
         }),
+        Ask::Adopt(sequence, number) => Ok(Event::Adopt {
+            dump: session(sequence),
+            number,
+            start: START,
+            end: START + DAY,
+            kind: Kind::Full,
+        }),
         Ask::Park(sequence) => Ok(Event::Park {
             dump: session(sequence),
         }),
@@ -240,6 +251,14 @@ fn partial_event(alloc: Global, ask: Ask) -> Result<Event, Fail> {
         }),
         _ => session_event(alloc, ask),
     }
+}
+
+fn open_read(alloc: Global, name: &str, number: u32, base: Option<u32>) -> Result<Event, Fail> {
+    Ok(Event::OpenRead {
+        host: host(alloc, name)?,
+        number,
+        base,
+    })
 }
 
 /// An event of a backup, or what else there is.
@@ -269,10 +288,8 @@ fn backup_event(alloc: Global, ask: Ask) -> Result<Event, Fail> {
             number,
             path: path(alloc, place)?,
         }),
-        Ask::Restore(name, number) => Ok(Event::OpenRead {
-            host: host(alloc, name)?,
-            number,
-        }),
+        Ask::Restore(name, number) => open_read(alloc, name, number, None),
+        Ask::RestoreSince(name, number, base) => open_read(alloc, name, number, Some(base)),
         Ask::Keep(name, number) => Ok(Event::Keep {
             host: host(alloc, name)?,
             number,

@@ -121,6 +121,29 @@ const DROPPED: &[(Ask, &str)] = &[
     (Ask::Stats, "1 0 0 0 0 0 0"),
 ];
 
+const ADOPTED: &[(Ask, &str)] = &[
+    (Ask::Host("pc1"), "done"),
+    (Ask::Adopt(0, 3), "NoSession"),
+    (Ask::Full("pc1"), "1-0"),
+    (Ask::File(0, "a", "hello"), "done"),
+    (Ask::Adopt(0, 3), "3"),
+    (Ask::Adopt(0, 3), "NoSession"),
+    (Ask::Backups("pc1"), "3 filled next 4 dump false"),
+    (Ask::Full("pc1"), "1-1"),
+    (Ask::Adopt(1, 3), "NumberBehind"),
+    (Ask::Adopt(1, 4), "4"),
+    (Ask::FullWith("pc1", 1), "1-2"),
+    (Ask::Adopt(2, 7), "7"),
+    (Ask::Adopt(2, 9), "7"),
+    (Ask::FullWith("pc1", 1), "already 7"),
+    (Ask::Full("pc1"), "1-3"),
+    (Ask::Commit(3), "8"),
+    (Ask::Incr("pc1"), "1-4"),
+    (Ask::Adopt(4, 4_294_967_295), "4294967295"),
+    (Ask::Full("pc1"), "NumbersSpent"),
+    (Ask::Read("pc1", 3, "a"), "hello"),
+];
+
 const ONE_CONTENT: &[(Ask, &str)] = &[
     (Ask::Host("pc1"), "done"),
     (Ask::Host("pc2"), "done"),
@@ -244,6 +267,49 @@ const CLEANING: &[(Ask, &str)] = &[
     (Ask::Reopen, "epoch 2"),
     (Ask::Commit(3), "NoSession"),
     (Ask::Full("pc1"), "2-0"),
+];
+
+const SINCE: &[(Ask, &str)] = &[
+    (Ask::Host("pc1"), "done"),
+    (Ask::Full("pc1"), "1-0"),
+    (Ask::Dir(0, "d"), "done"),
+    (Ask::File(0, "d/x", "x"), "done"),
+    (Ask::Dir(0, "k"), "done"),
+    (Ask::File(0, "s", "same"), "done"),
+    (Ask::File(0, "t", "old"), "done"),
+    (Ask::Commit(0), "0"),
+    (Ask::Incr("pc1"), "1-1"),
+    (Ask::Remove(1, "d"), "done"),
+    (Ask::Remove(1, "k"), "done"),
+    (Ask::Link(1, "k"), "done"),
+    (Ask::File(1, "t", "new"), "done"),
+    (Ask::Commit(1), "1"),
+    (Ask::RestoreSince("pc9", 1, 0), "NoHost"),
+    (Ask::RestoreSince("pc1", 1, 2), "NoBackup"),
+    (Ask::RestoreSince("pc1", 2, 1), "NoBackup"),
+    (Ask::RestoreSince("pc1", 1, 0), "1-2"),
+    (Ask::RestoreSince("pc1", 0, 1), "1-3"),
+    (Ask::RestoreSince("pc1", 1, 1), "1-4"),
+    (Ask::Delete("pc1", 0), "done"),
+    (Ask::Next(2), "lost d"),
+    (Ask::Next(2), "lost k"),
+    (Ask::Next(2), "link k"),
+    (Ask::Next(2), "file t"),
+    (Ask::Next(2), "3 bytes"),
+    (Ask::Next(2), "end 2"),
+    (Ask::Next(2), "end 2"),
+    (Ask::Next(3), "lost k"),
+    (Ask::Next(3), "dir d"),
+    (Ask::Next(3), "file d/x"),
+    (Ask::Next(3), "1 bytes"),
+    (Ask::Next(3), "dir k"),
+    (Ask::Next(3), "file t"),
+    (Ask::Next(3), "3 bytes"),
+    (Ask::Next(3), "end 4"),
+    (Ask::Next(4), "end 0"),
+    (Ask::RestoreSince("pc1", 1, 0), "NoBackup"),
+    (Ask::Close(2), "done"),
+    (Ask::Next(2), "NoSession"),
 ];
 
 const CONTACTS: &[(Ask, &str)] = &[
@@ -385,6 +451,7 @@ pub const DUMP_EXAMPLES: &[&[(Ask, &str)]] = &[
     READERS,
     PARTIALS,
     DROPPED,
+    ADOPTED,
     ONE_CONTENT,
 ];
 
@@ -394,6 +461,7 @@ pub const TREE_EXAMPLES: &[&[(Ask, &str)]] = &[
     KINDS,
     DELETED,
     CLEANING,
+    SINCE,
     CONTACTS,
     EXPIRY,
 ];

@@ -24,6 +24,10 @@ fn lines_text(alloc: Global, lines: &[Line]) -> Result<String, Fail> {
 
 fn frame_text(alloc: Global, frame: &Frame) -> Result<String, Fail> {
     match frame {
+        Frame::Deleted(path) => {
+            let path = String::from_utf8_lossy(alloc, path.as_slice())?;
+            Ok(format!(in alloc; "lost {path}")?)
+        }
         Frame::Entry { path, node } => {
             let path = String::from_utf8_lossy(alloc, path.as_slice())?;
             Ok(format!(in alloc; "{} {path}", kind_of(node))?)

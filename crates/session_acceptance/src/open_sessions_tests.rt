@@ -5,7 +5,7 @@ use attr_tables::{Record, Table};
 use backup_rules::Kind;
 use dump_session::{PutFault, RemoveFault, Session};
 use office_model::SessionName;
-use open_sessions::{OpenDump, OpenRestore, Place, Sessions};
+use open_sessions::{OpenDump, OpenRestore, Sessions};
 use receipts::TokenSet;
 use shared_tables::SharedTable;
 use std::alloc::{AllocError, Global};
@@ -83,11 +83,8 @@ fn dump_of(alloc: Global, sequence: u64, host: usize) -> Result<OpenDump, AllocE
 fn restore_of(alloc: Global, sequence: u64) -> Result<OpenRestore<u8>, AllocError>
     ensures { IfOk result (λ restore. restore.name.sequence ≡ sequence) }
 {
-    Ok(OpenRestore {
-        name: name_of(sequence),
-        rows: SharedTable::new(alloc, Table::new(alloc))?,
-        place: Place::Entry(0),
-    })
+    let rows = SharedTable::new(alloc, Table::new(alloc))?;
+    Ok(OpenRestore::new(name_of(sequence), rows.share()?, Table::new(alloc), rows))
 }
 
 // Dumps 0 and 1 of the hosts 5 and 4, and restore 2.

@@ -20,7 +20,7 @@ use store_parts::StoreParts;
 use store_readers::{open_file, read_part};
 use store_stages::{put_staged, stage_drop, stage_open, stage_piece};
 
-type Parts = StoreParts<MemoryDisk, Md5Namer>;
+pub type Parts = StoreParts<MemoryDisk, Md5Namer>;
 
 const ROOM: DiskRoom = DiskRoom {
     changes: 200,
@@ -37,7 +37,7 @@ const OPENED: Steps = &[
 ];
 
 /// The parts of a store that was opened on a disk without files.
-fn blank_parts(alloc: Global) -> Result<Parts, Fail> {
+pub fn blank_parts(alloc: Global) -> Result<Parts, Fail> {
     let disk = MemoryDisk::new(alloc, Vec::new(alloc), ROOM)?;
     match open(alloc, disk, Md5Namer) {
         Ok(parts) => Ok(parts),
@@ -46,7 +46,7 @@ fn blank_parts(alloc: Global) -> Result<Parts, Fail> {
 }
 
 /// Fails where the store is halted.
-fn expect_ready(parts: &Parts) -> Result<(), Fail>
+pub fn expect_ready(parts: &Parts) -> Result<(), Fail>
     ensures store { OnOk result (parts.now.halted ≡ false) }
     ensures journal { OnOk result (parts.now.journal.halted ≡ false) }
 {

@@ -85,6 +85,7 @@ fn add_frame(bytes: &mut Vec<u8>, frame: &Frame) -> Result<bool, Fail> {
             bytes.extend_from_slice(piece.as_slice())?;
             Ok(false)
         }
+        Frame::Deleted(_) => Err(Fail::new("a path that was lost")),
         Frame::Entry { .. } => Ok(false),
         Frame::End(_) => Ok(true),
     }

@@ -1,7 +1,10 @@
-//! Tests of large contents in the store: stages, puts of stages, readers; with stops and faults at each call. And of partial dumps. They
+//! Tests of large contents in the store: stages, puts of stages, readers; with stops and faults at each call. And of partial dumps, and of dumps
+//! that are adopted. They
 //! use only what the crates show, and stand apart from them, so that each crate is proved once.
 #![tactic(auto)]
 
+#[cfg(test)]
+mod adopted;
 #[cfg(test)]
 mod altered;
 #[cfg(test)]

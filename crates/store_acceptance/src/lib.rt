@@ -1,9 +1,11 @@
 //! What a store keeps, shown by examples of the whole program, and nothing else: contents of one digest, trees over several backups
-//! with the exact bytes of their tables, the last number of a host, stops and faults around a commit's decision, requests that are tried
+//! with the exact bytes of their tables, restores with a base, the last number of a host, stops and faults around a commit's decision, requests that are tried
 //! again with their tokens, nights, what goes by the clock, dumps at the edge of what is usual, and files that were altered. Each test is a talk over `pipe`: requests, line by line,
 //! and the answers to them.
 #![tactic(auto)]
 
+#[cfg(test)]
+mod bases;
 #[cfg(test)]
 mod damaged;
 #[cfg(test)]

@@ -3,8 +3,8 @@ ghost use Rattle.std.specs.Prelude.{◌≡◌, IfOk};
 use attr_records::{Attr, File, Item, PathName};
 use disk_trait::Bytes;
 use restore_stream::{
-    FrameCursor, Made, MadeList, PushFault, ReadStreamFault, WriteStreamFault, frame_bytes,
-    no_stream_begins_another, read_stream, write_stream,
+    Frame, FrameCursor, Made, MadeList, PushFault, ReadStreamFault, WriteStreamFault, frame_bytes,
+    no_stream_begins_another, read_frame, read_stream, write_stream,
 };
 use std::alloc::{AllocError, Global};
 use std::test::Fail;
@@ -28,12 +28,17 @@ const DIR_A: &[u8] =
 const DIR_B: &[u8] =
     b"E\x02\x00\x01b\x00\x00\x01\xed\x00\x00\x00\x00\x00\x00\x00\x00\x00\x00\x00\x00\x00\x00\x00\x00\x00\x00\x00\x00";
 
+// A path that was lost.
+const DELETED: &[u8] = b"X\x00\x05a.txt";
+
 // The parts of an input, and the fault that reading it gives.
-const CASES: [([&[u8]; 3], ReadStreamFault); 16] = [
+const CASES: [([&[u8]; 3], ReadStreamFault); 18] = [
     ([b"", b"", b""], ReadStreamFault::Ended),
     ([b"RS1", b"", b""], ReadStreamFault::Ended),
     ([b"RST1", END, b""], ReadStreamFault::BadStream(0)),
     ([b"RST2", b"D", b""], ReadStreamFault::BadStream(4)),
+    ([b"RST2", DELETED, END], ReadStreamFault::BadStream(4)),
+    ([b"RST2", DIR_A, DELETED], ReadStreamFault::BadStream(33)),
     ([b"RST2", b"E\x00", b""], ReadStreamFault::BadStream(4)),
     ([b"RST2", b"E\x04", b""], ReadStreamFault::BadStream(4)),
     ([b"RST2", b"E\x01\x13\x88a", b""], ReadStreamFault::Ended),
@@ -188,6 +193,41 @@ fn inputs_that_are_no_stream(rt: HostRuntime) -> Result<(), Fail> {
             read_stream(alloc, &mut link).err(),
             Some(ReadStreamFault::Ended)
         );
+    }
+    Ok(())
+}
+
+/// The first byte of a frame, if there is one.
+fn tag_of(frame: Option<Frame>) -> Option<u8> {
+    match frame {
+        None => None,
+        Some(Frame::Deleted(_)) => Some(b'X'),
+        Some(Frame::Entry { .. }) => Some(b'E'),
+        Some(Frame::Piece(_)) => Some(b'D'),
+        Some(Frame::End(_)) => Some(b'Z'),
+    }
+}
+
+#[test]
+fn a_frame_is_read_by_itself(rt: HostRuntime) -> Result<(), Fail> {
+    let alloc = rt.alloc();
+    let lost = Frame::Deleted(PathName::read(alloc, b"a.txt")?);
+    assert_eq!(rt; frame_bytes(alloc, &lost)?.as_slice(), DELETED);
+    for bytes in [DELETED, ENTRY, DIR_A, PIECE, END] {
+        assert_eq!(rt; tag_of(read_frame(alloc, bytes)?), bytes.first().copied());
+        for length in 0..bytes.len() {
+            assert!(rt; read_frame(alloc, &bytes[..length])?.is_none());
+        }
+        let more = joined(alloc, [bytes, b"Z", b""])?;
+        assert!(rt; read_frame(alloc, more.as_slice())?.is_none());
+    }
+    for bytes in [
+        b"X\x00\x00".as_slice(),
+        b"X\x00\x01.",
+        b"D\x00\x00\x00\x00",
+        b"Y",
+    ] {
+        assert!(rt; read_frame(alloc, bytes)?.is_none());
     }
     Ok(())
 }
