@@ -2,7 +2,7 @@
 """`rt`, with the sum of each library and the list of those below it made once: tools/quick_rt.py check --jobs 1, in a crate's folder, as `rt check --jobs 1`.
 
 The kit's rt makes both along every path of crates.txt that leads to a library, which takes minutes before each check of an upper crate.
-Nothing else differs: what it proves and keeps is what rt proves and keeps. It holds to rattle-kit-13f; the gate is run by rt itself."""
+Nothing else differs: what it proves and keeps is what rt proves and keeps. It holds to rattle-kit-13b and 13f; the gate is run by rt itself."""
 import importlib.machinery
 import importlib.util
 import os
