@@ -2,13 +2,12 @@
 
 use crate::ends::{Case, Machine, QUIET, Want, disk_of, expect_end, link_of, new_clock, words_of};
 use crate::files::{COMMIT, COMMITTED, CONTENT, READ};
-use admin_cli::{Done, run};
+use admin_cli::{Done, Store, run};
 use caller_doors::ListDoor;
 use command_line::Parsed;
 use disk_trait::{Disk, MemoryDisk};
 use folder_trait::{MemoryFolder, NoProgress};
 use office_model::{Answer, Event, Refusal};
-use office_store::Store;
 use pool_name::Md5Namer;
 use std::alloc::Global;
 use std::test::Fail;

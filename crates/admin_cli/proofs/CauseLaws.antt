@@ -9,7 +9,7 @@ use Rattle.office_model.specs.declared.event.Event.{Event}
 use Rattle.office_model.specs.declared.refusal.Refusal.{Refusal}
 use Rattle.office_model.specs.declared.refusal.Refusal.TheVariants as R
 use Rattle.office_model.specs.Step.{Call}
-use Rattle.office_store.specs.Halts.{HasFailed}
+use Rattle.serve_workers.specs.Stores.{HasFailed}
 use Rattle.call_scripts.specs.Scripts.{EndRefused}
 use Rattle.night_work.specs.declared.ends.NightEnd.{NightEnd}
 use Rattle.night_work.specs.declared.ends.NightEnd.TheVariants as Night

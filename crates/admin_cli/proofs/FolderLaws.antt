@@ -22,10 +22,7 @@ use Rattle.store_opening.specs.Reopens.{first_of, second_of}
 use Rattle.store_opening.specs.Settles.{ComesToOne}
 use Rattle.store_opening.specs.KeptTables.{HasTablesFound}
 use Rattle.journal_view.specs.View.{FindsNow}
-use Rattle.office_store.specs.declared.store.Store.{Store}
-use Rattle.office_store.specs.declared.port.DirectPort.{DirectPort}
-use Rattle.office_store.specs.Moves.{Moves}
-use Rattle.office_store.specs.Serves.{is_stopped}
+use Rattle.serve_workers.specs.Stores.{Store, DirectPort, Moves, is_stopped}
 use Rattle.stream_traits.specs.Seen.{LinkSeen}
 use Rattle.call_scripts.specs.Scripts.{EndRefused}
 use Rattle.folder_trait.specs.declared.folder.Folder.{Ghosts as FolderGhosts}

@@ -15,10 +15,7 @@ use Rattle.office_model.specs.declared.answer.Answer.TheVariants as A
 use Rattle.office_model.specs.declared.refusal.Refusal.{Refusal}
 use Rattle.office_model.specs.declared.refusal.Refusal.TheVariants as R
 use Rattle.office_model.specs.Step.{Call}
-use Rattle.office_store.specs.declared.store.Store.{Store}
-use Rattle.office_store.specs.Damage.{TellsDamage}
-use Rattle.office_store.specs.Serves.{Serves}
-use Rattle.office_store.specs.Moves.{AreServed, Moves}
+use Rattle.serve_workers.specs.Stores.{Store, TellsDamage, Serves, AreServed, Moves}
 use Rattle.call_scripts.specs.Scripts.{FollowsAfter}
 use Rattle.night_work.specs.declared.ends.NightEnd.{NightEnd}
 use Rattle.night_work.specs.declared.ends.NightEnd.TheVariants as F

@@ -19,10 +19,7 @@ use Rattle.store_opening.specs.Opens.{IsOf, Opened}
 use Rattle.store_opening.specs.Settles.{ComesToOne}
 use Rattle.store_opening.specs.KeptTables.{HasTablesFound}
 use Rattle.journal_view.specs.View.{FindsNow}
-use Rattle.office_store.specs.declared.store.Store.{Store}
-use Rattle.office_store.specs.declared.port.DirectPort.{DirectPort}
-use Rattle.office_store.specs.Moves.{Moves}
-use Rattle.office_store.specs.Serves.{is_stopped}
+use Rattle.serve_workers.specs.Stores.{Store, DirectPort, Moves, is_stopped}
 use Rattle.stream_traits.specs.Seen.{LinkSeen}
 use Rattle.settings_file.specs.declared.read.Settings.{Settings}
 use Rattle.settings_file.specs.Values.{if_nights, number_in}

@@ -10,7 +10,7 @@ use Rattle.office_model.specs.declared.event.Event.{Event}
 use Rattle.office_model.specs.declared.event.Event.TheVariants as E
 use Rattle.office_model.specs.declared.answer.Answer.TheVariants as A
 use Rattle.office_model.specs.Step.{Call}
-use Rattle.office_store.specs.Halts.{FindsForeign, HasStopCause}
+use Rattle.serve_workers.specs.Stores.{FindsForeign, HasStopCause}
 use Rattle.call_scripts.specs.Scripts.{Script, FollowsAfter, Follows, Begins, behind, one_call}
 use Rattle.night_work.specs.declared.ends.NightEnd.{NightEnd}
 use Rattle.night_work.specs.declared.ends.NightEnd.TheVariants as Night

@@ -22,13 +22,7 @@ use Rattle.store_opening.specs.Settles.{ComesToOne}
 use Rattle.store_opening.specs.KeptTables.{HasTablesFound}
 use Rattle.journal_view.specs.View.{FindsNow}
 use Rattle.store_opening.specs.SettlesLaws.{only_after}
-use Rattle.office_store.specs.declared.store.Store.{Store}
-use Rattle.office_store.specs.declared.port.DirectPort.{DirectPort}
-use Rattle.office_store.specs.Moves.{MayRecoverIn, Moves, Goes}
-use Rattle.office_store.specs.Serves.{is_stopped}
-use Rattle.office_store.specs.Halts.{HasStopCause}
-use Rattle.office_store.specs.HaltsLaws.{halted_since, failed_since}
-use Rattle.office_store.specs.EndLaws.{is_halted, halted_rose, halted_as, left_of, second_left}
+use Rattle.serve_workers.specs.Stores.{Store, DirectPort, MayRecoverIn, Moves, Goes, is_stopped, HasStopCause, halted_since, failed_since, is_halted, halted_rose, halted_as, left_of, second_left}
 use Rattle.store_opening.specs.KeptTablesLaws.{old_found}
 use Rattle.stream_traits.specs.Seen.{LinkSeen}
 use Rattle.request_events.specs.declared.defaults.Defaults.{Defaults}

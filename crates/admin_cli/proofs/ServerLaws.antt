@@ -15,11 +15,8 @@ use Rattle.store_opening.specs.Opens.{IsOf, Opened}
 use Rattle.store_opening.specs.Settles.{ComesToOne}
 use Rattle.store_opening.specs.KeptTables.{HasTablesFound}
 use Rattle.journal_view.specs.View.{FindsNow}
-use Rattle.office_store.specs.declared.store.Store.{Store}
-use Rattle.office_store.specs.Moves.{Moves}
-use Rattle.office_store.specs.Serves.{is_stopped}
+use Rattle.serve_workers.specs.Stores.{Store, Moves, is_stopped, calls_in}
 use Rattle.request_events.specs.declared.defaults.Defaults.{Defaults}
-use Rattle.turn_port.specs.Comes.{calls_in}
 use Rattle.door_server.specs.declared.worker.Worker.{Worker}
 use Rattle.serve_workers.specs.Workers.{ServesAll}
 use Rattle.settings_file.specs.declared.read.Settings.{Settings}

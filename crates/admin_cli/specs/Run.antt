@@ -24,8 +24,7 @@ use Rattle.store_opening.specs.Recovers.{SaysWhy}
 use Rattle.store_opening.specs.Reopens.{first_of, second_of}
 use Rattle.store_opening.specs.Settles.{IsStopped}
 use Rattle.store_opening.specs.Whole.{AreListed, SaysSpent}
-use Rattle.office_store.specs.Moves.{MayRecoverIn}
-use Rattle.office_store.specs.Halts.{HasStopCause, HasFailed}
+use Rattle.serve_workers.specs.Stores.{MayRecoverIn, HasStopCause, HasFailed}
 use Rattle.settings_file.specs.declared.read.Settings.{Settings}
 use Rattle.settings_file.specs.Document.{IsSettings}
 use Rattle.browse_http.specs.declared.end.End.{End}

@@ -9,7 +9,7 @@ use Rattle.office_model.specs.declared.event.Event.{Event}
 use Rattle.office_model.specs.Meaning.{Reply}
 use Rattle.turn_lock.specs.declared.object.Entry.{Entry}
 use Rattle.turn_lock.specs.History.{calls_by}
-use Rattle.turn_port.specs.Comes.{calls_in}
+use Rattle.serve_workers.specs.Stores.{calls_in}
 use Rattle.door_server.specs.declared.worker.Worker.{Worker}
 use Rattle.serve_workers.specs.Workers.{is_worker, ServeEach}
 use Rattle.settings_file.specs.declared.read.Settings.{Settings}

@@ -17,8 +17,8 @@ use crate::opening::open_store;
 use crate::saying::say;
 use demo_work::{DemoEnd, demo};
 use disk_trait::Disk;
-use office_store::DirectPort;
 use pool_name::Namer;
+use serve_workers::DirectPort;
 use std::alloc::Global;
 use stream_traits::{Faults, Link};
 

@@ -23,8 +23,8 @@ use folder_restore::{RestoreRefusal, restore_folder};
 use folder_trait::{Folder, Progress};
 use folder_walk::{DumpRefusal, dump_folder};
 use office_model::Refusal;
-use office_store::DirectPort;
 use pool_name::Namer;
+use serve_workers::DirectPort;
 use std::alloc::Global;
 use stream_traits::{Clock, Faults, Link};
 

@@ -24,4 +24,4 @@ mod servers;
 pub use commands::run;
 pub use done::Done;
 pub use note::Note;
-pub use serve_workers::Worker;
+pub use serve_workers::{DirectPort, Store, Worker};

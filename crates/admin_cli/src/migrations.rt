@@ -17,8 +17,8 @@ use crate::opening::open_store;
 use crate::saying::say;
 use disk_trait::Disk;
 use migrate_work::{MigrationEnd, migrate};
-use office_store::DirectPort;
 use pool_name::Namer;
+use serve_workers::DirectPort;
 use std::alloc::Global;
 use stream_traits::{Faults, Link};
 

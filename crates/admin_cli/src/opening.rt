@@ -9,13 +9,13 @@ ghost use Rattle.store_opening.specs.declared.fault.OpenRefusal.{OpenRefusal};
 ghost use Rattle.store_opening.specs.Opens.{IsOf, Opened};
 ghost use Rattle.store_opening.specs.Settles.{ComesToOne};
 ghost use Rattle.store_opening.specs.KeptTables.{HasTablesFound};
-ghost use Rattle.office_store.specs.Serves.{is_stopped};
+ghost use Rattle.serve_workers.specs.Stores.{is_stopped};
 ghost use Rattle.admin_cli.specs.Run.{note_of_refusal, IsUnopened};
 
 use crate::note::Note;
 use disk_trait::Disk;
-use office_store::{OpenRefusal, Store};
 use pool_name::Namer;
+use serve_workers::{OpenRefusal, Store};
 use std::alloc::Global;
 
 /// What is said of a run whose store wasn't opened.

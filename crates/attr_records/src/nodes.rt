@@ -2,7 +2,7 @@ ghost use Rattle.std.specs.Prelude.{◌≡◌, ◌≤◌, IfOk, pos, ℕ, ℤ};
 
 use crate::limits::MAX_FILE_BYTES;
 use crate::names::LinkTarget;
-use disk_trait::Bytes;
+use owned_bytes::Bytes;
 use std::alloc::{AllocError, Global};
 use std::marker::Model;
 

@@ -5,7 +5,6 @@
 //! rose. `MemoryDisk` is the disk that tells its files and fails where it is asked to.
 #![tactic(auto)]
 
-mod bytes;
 mod disk;
 mod ids;
 mod image;
@@ -15,10 +14,10 @@ mod map;
 mod memory;
 mod script_images;
 
-pub use bytes::Bytes;
 pub use disk::{Disk, DiskError, Failed};
 pub use ids::{FileId, PoolId};
 pub use image::Choice;
 pub use list::FileList;
 pub use memory::{DiskRoom, MemoryDisk};
+pub use owned_bytes::Bytes;
 pub use script_images::{ScriptImage, ScriptImages};

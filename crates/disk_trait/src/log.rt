@@ -7,11 +7,11 @@ ghost use Rattle.disk_trait.specs.Maps.{files_of};
 ghost use Rattle.disk_trait.specs.Log.{Call, spanned, call_of, calls_of, IsKept, AreKept, files_with, files_after, log_files, log_uncertain, LogElapses, IsWhole, Kept, Laid, Follows};
 ghost use Rattle.disk_trait.specs.declared.map.FileMap.{FileMap};
 
-use crate::bytes::Bytes;
 use crate::ids::FileId;
 use crate::list::FileList;
 use crate::map::FileMap;
 use crate::memory::DiskRoom;
+use owned_bytes::Bytes;
 use std::alloc::{AllocError, Global};
 
 /// Where bytes lie among all that the disk was given.

@@ -7,9 +7,9 @@ ghost use Rattle.std.specs.BTreeMap.{keys, IsOrdered};
 ghost use Rattle.disk_trait.specs.Order.{file_cmp};
 ghost use Rattle.disk_trait.specs.Maps.{files_of};
 
-use crate::bytes::Bytes;
 use crate::ids::FileId;
 use crate::list::FileList;
+use owned_bytes::Bytes;
 use std::alloc::{AllocError, Global};
 use std::collections::BTreeMap;
 

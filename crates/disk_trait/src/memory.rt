@@ -5,12 +5,12 @@ ghost use Rattle.disk_trait.specs.Files.{no_files, changed, appended, piece, Sam
 ghost use Rattle.disk_trait.specs.Log.{IsWhole, IsWhole-prop};
 ghost use Rattle.disk_trait.specs.Images.{nothing, also, IsWithin, MayLeave, Elapses};
 
-use crate::bytes::Bytes;
 use crate::disk::{Disk, DiskError, Failed};
 use crate::ids::FileId;
 use crate::image::{Choice, image_log};
 use crate::list::FileList;
 use crate::log::Log;
+use owned_bytes::Bytes;
 use std::alloc::{AllocError, Global};
 
 /// How much a disk in memory takes before it is full. The memory for it is taken when the disk is made.

@@ -1,9 +1,9 @@
 //! An input that ends early, over both ports.
 
 use crate::ports::{CONTINUE, Talk, expect_both, expect_from_office, expect_over, new_disk};
+use admin_cli::{DirectPort, Store};
 use browse_http::End;
 use office_model::Port;
-use office_store::{DirectPort, Store};
 use pool_name::Md5Namer;
 use std::alloc::Global;
 use std::test::Fail;

@@ -1,10 +1,10 @@
 use disk_trait::{Choice, Disk, DiskRoom, MemoryDisk};
-use office_store::{DirectPort, Store};
 use office_talks::{HOST, NOW, Row, expect, expect_rows, is_answered, moment_at, place_answered};
 use pool_name::Md5Namer;
 use std::alloc::Global;
 use std::test::Fail;
 use tree_office::TreeOffice;
+use turn_port::{DirectPort, Store};
 
 type TestPort = DirectPort<MemoryDisk, Md5Namer>;
 

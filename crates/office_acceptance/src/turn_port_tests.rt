@@ -2,14 +2,13 @@ ghost use Rattle.std.specs.Prelude.{◌≡◌};
 
 use disk_trait::{DiskRoom, MemoryDisk};
 use office_model::Port;
-use office_store::{DirectPort, Store};
 use office_talks::{NOW, Row, event_at, expect_rows, moment_at};
 use pool_name::Md5Namer;
 use std::alloc::Global;
 use std::sync::Wait;
 use std::test::Fail;
 use tree_office::TreeOffice;
-use turn_port::{StorePass, StoreTurn, TurnPort, close_store, lock_store};
+use turn_port::{DirectPort, Store, StorePass, StoreTurn, TurnPort, close_store, lock_store};
 
 type TestTurn = StoreTurn<MemoryDisk, Md5Namer>;
 

@@ -11,7 +11,7 @@ use Rattle.office_model.specs.declared.event.Event.{Event}
 use Rattle.office_model.specs.Meaning.{Reply}
 use Rattle.office_model.specs.Step.{Call}
 use Rattle.request_events.specs.declared.defaults.Defaults.{Defaults}
-use Rattle.office_store.specs.declared.store.Store.{Store}
+use Rattle.turn_port.specs.Stores.{Store}
 use Rattle.turn_lock.specs.declared.object.Entry.{Entry}
 use Rattle.turn_lock.specs.History.{calls_by}
 use Rattle.turn_port.specs.Asks.{entries_of}

@@ -14,3 +14,4 @@ mod serving;
 
 pub use door_server::Worker;
 pub use serving::{StoreAndWorkers, serve_workers};
+pub use turn_port::{DirectPort, OpenRefusal, Store};

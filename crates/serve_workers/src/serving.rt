@@ -6,13 +6,12 @@ use browse_http::Interface;
 use caller_doors::Door;
 use disk_trait::Disk;
 use door_server::{Worker, serve_callers};
-use office_store::Store;
 use pool_name::Namer;
 use std::alloc::{AllocFailed, Global};
 use std::sync::Wait;
 use std::thread::Threads;
 use stream_traits::{Clock, Faults, Gate};
-use turn_port::{close_store, lock_store};
+use turn_port::{Store, close_store, lock_store};
 
 /// A store, and workers who are to serve it or have served it.
 #[derive(Drop)]

@@ -6,11 +6,11 @@ use crate::plain::office_answers;
 use crate::script::{
     Said, State, States, event_count, plain_after, questions, rows_of, said_in, state_of,
 };
-use admin_cli::Note;
 use disk_trait::{Disk, MemoryDisk};
 use pool_name::Md5Namer;
 use std::alloc::{AllocError, Global};
 use std::test::Fail;
+use store_talks::Note;
 use store_talks::talks::{
     Machine, NOW, Row, Says, blank_disk, expect, input_of, output_of, pipe, put_answer, put_request,
 };

@@ -5,10 +5,10 @@
 use crate::script::{
     Said, State, States, all_said, event_count, questions, rows_of, said_in, state_of,
 };
-use admin_cli::Note;
 use disk_trait::{Choice, MemoryDisk, ScriptImage};
 use pool_name::Md5Namer;
 use std::test::Fail;
+use store_talks::Note;
 use store_talks::talks::{Machine, NOW, blank_disk, expect, expect_talk, image_of, pipe};
 
 /// What uncertain files hold: what was written, nothing, or the one byte FF.

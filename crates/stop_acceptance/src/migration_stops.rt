@@ -1,10 +1,10 @@
 //! The command `migrate` over a store that has tables of both layouts, and each stop in it.
 
-use admin_cli::Note;
 use disk_trait::{Choice, Disk, FileId, MemoryDisk};
 use pool_name::Md5Namer;
 use std::alloc::{AllocError, Global};
 use std::test::Fail;
+use store_talks::Note;
 use store_talks::scripts::Step::{Ask, Dump};
 use store_talks::scripts::{At, Put, Script, expect_script};
 use store_talks::talks::{

@@ -1,11 +1,11 @@
 //! Stops in a night, whose leavings are compared with what the office in memory answers.
 
 use crate::plain::office_answers;
-use admin_cli::Note;
 use disk_trait::{Choice, MemoryDisk};
 use pool_name::Md5Namer;
 use std::alloc::{AllocError, Global};
 use std::test::Fail;
+use store_talks::Note;
 use store_talks::scripts::Step::{Ask, Clean, Dump, Expire};
 use store_talks::scripts::{At, Put, Script, expect_script};
 use store_talks::talks::{

@@ -57,7 +57,7 @@ use Rattle.office_model.specs.UsedNames.{Among}
 use Rattle.office_model.specs.events.Clean.{in_bucket, is_protected}
 use Rattle.office_model.specs.events.Stats.{total}
 use Rattle.office_model.specs.laws.PoolLaws.{byte_exact}
-use Rattle.office_files.specs.Pairs.{AtEachPair}
+use Rattle.office_model.specs.Pairs.{AtEachPair}
 use Rattle.office_files.specs.Pooled.{IsListed, IsPool}
 use Rattle.office_changes.specs.BridgeLaws.{total_of, holds_times, first_pair, later_pairs}
 use Rattle.office_changes.specs.CleanLaws.{with_mark, cleaned_item, IsCleanedIndex}

@@ -12,7 +12,8 @@ use Rattle.pool_changes.specs.Relisted.{added}
 use Rattle.pool_changes.specs.Kept.{IsSame}
 use Rattle.pool_changes.specs.Indexed.{relisted_by}
 use Rattle.pool_changes.specs.Listed.{index_of}
-use Rattle.store_dumps.specs.Claims.{Loses, LetsGo}
+pub use Rattle.store_dumps.specs.Claims.{Loses}
+use Rattle.store_dumps.specs.Claims.{LetsGo}
 
 -- the names with these added
 abbrev pub with_added : List PoolId → Slots → Slots

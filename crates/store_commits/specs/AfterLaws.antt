@@ -38,12 +38,12 @@ use Rattle.office_model.specs.events.Commit.{new_backup, with_commit}
 use Rattle.office_files.specs.Hosts.{index_of_host, IsShown, StandsHost}
 use Rattle.office_files.specs.Layouts.{IsHostFile}
 use Rattle.office_files.specs.Owners.{has_backup}
-use Rattle.office_files.specs.Pairs.{other_at, pair_at}
+use Rattle.office_model.specs.Pairs.{other_at, pair_at}
 use Rattle.office_files.specs.Pooled.{contents_of, IsListed}
 use Rattle.office_files.specs.Stands.{Stands}
 use Rattle.office_changes.specs.Commits.{IsListedWith}
 use Rattle.office_changes.specs.CommitLaws.{backups_alone}
-use Rattle.office_known.specs.KnownLaws.{stands_catalog}
+use Rattle.store_parts.specs.KnownOffice.{stands_catalog}
 use Rattle.office_changes.specs.ChangeLaws.{is_of_host, is_of_index}
 use Rattle.office_changes.specs.PoolLaws.{listed_with, told_with}
 use Rattle.store_parts.specs.declared.parts.StoreParts.{StoreParts}

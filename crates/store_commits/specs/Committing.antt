@@ -26,7 +26,7 @@ use Rattle.office_model.specs.Office.{Office, Host, Dump, Names, IsUnspent, numb
 use Rattle.office_model.specs.Pool.{with_tree}
 use Rattle.office_model.specs.Step.{meaning_of}
 use Rattle.office_model.specs.events.Commit.{Ending, with_commit, ends}
-use Rattle.office_files.specs.Pairs.{other_at}
+use Rattle.office_model.specs.Pairs.{other_at}
 use Rattle.office_files.specs.Pooled.{contents_of}
 use Rattle.office_files.specs.Stands.{Stands}
 use Rattle.store_parts.specs.declared.parts.StoreParts.{StoreParts}

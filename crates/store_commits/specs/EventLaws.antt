@@ -34,7 +34,7 @@ use Rattle.office_model.specs.Step.{Running, IsStep, meaning_of}
 use Rattle.office_model.specs.UsedNames.{AreNamesAfter}
 use Rattle.office_model.specs.events.Commit as CommitEvent
 use Rattle.office_files.specs.Pooled.{contents_of}
-use Rattle.office_known.specs.CatalogLaws.{receipt_known}
+use Rattle.store_parts.specs.KnownOffice.{receipt_known}
 use Rattle.store_parts.specs.declared.parts.StoreParts.{StoreParts}
 use Rattle.store_parts.specs.Held.{given}
 use Rattle.store_parts.specs.States.{slots, IsRunning}

@@ -43,7 +43,7 @@ use Rattle.office_model.specs.laws.StateLaws.{AreSound-carried}
 use Rattle.office_model.specs.events.Commit as CommitEvent
 use Rattle.office_files.specs.Hosts.{index_of_host}
 use Rattle.office_files.specs.Pooled.{contents_of}
-use Rattle.office_known.specs.KnownLaws.{known_of_office}
+use Rattle.store_parts.specs.KnownOffice.{known_of_office}
 use Rattle.store_parts.specs.declared.parts.StoreParts.{StoreParts}
 use Rattle.store_parts.specs.Held.{given, AreCountsOf, heads_of, IsKeptView}
 use Rattle.store_parts.specs.States.{slots, IsRunning, staging_of}

@@ -21,7 +21,7 @@ use Rattle.office_catalog.specs.Known.{Known, with_change, changed_at}
 use Rattle.office_catalog.specs.Changed.{Leads}
 use Rattle.office_files.specs.Layouts.{IsHostFile, IsTableFile}
 use Rattle.office_files.specs.KeptLaws.{IsTableFile-same}
-use Rattle.office_known.specs.KnownLaws.{host_of_catalog}
+use Rattle.store_parts.specs.KnownOffice.{host_of_catalog}
 use Rattle.office_changes.specs.AppliedLaws.{applied_here}
 use Rattle.store_commits.specs.declared.files.HostFiles.{HostFiles}
 use Rattle.store_commits.specs.declared.former.Folding.{Folding}

@@ -11,7 +11,7 @@ use Rattle.office_model.specs.Office.{Durable, Host, Dump, IsUnspent}
 use Rattle.office_model.specs.Parts.{lines_of}
 use Rattle.office_model.specs.events.Commit.{with_commit}
 use Rattle.office_files.specs.Hosts.{index_of_host}
-use Rattle.office_known.specs.KnownLaws.{indices_from, known_of_office}
+use Rattle.store_parts.specs.KnownOffice.{indices_from, known_of_office}
 use Rattle.store_commits.specs.Former.{dropped_of}
 use Rattle.store_commits.specs.Judged.{receipt_by}
 use Rattle.store_commits.specs.LineLaws.{index_committed}

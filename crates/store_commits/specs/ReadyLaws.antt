@@ -19,10 +19,10 @@ use Rattle.ref_counts.specs.Stored.{StoredHost, stored}
 use Rattle.office_catalog.specs.Known.{Known}
 use Rattle.office_model.specs.Office.{Office, Host, Backup, Names}
 use Rattle.office_model.specs.Parts.{lines_of}
-use Rattle.office_known.specs.KnownLaws.{indices_from}
+use Rattle.store_parts.specs.KnownOffice.{indices_from}
 use Rattle.office_files.specs.Hosts.{index_of_host, StandsHost}
 use Rattle.office_files.specs.Layouts.{IsTableFile as IsOfficeTable}
-use Rattle.office_files.specs.Pairs.{other_at, pair_at}
+use Rattle.office_model.specs.Pairs.{other_at, pair_at}
 use Rattle.office_files.specs.Pooled.{contents_of, IsListed}
 use Rattle.host_partials.specs.declared.held.PartialHead.{PartialHead}
 use Rattle.host_partials.specs.Held.{head_at}

@@ -28,7 +28,7 @@ use Rattle.office_files.specs.Pooled.{contents_of}
 use Rattle.office_files.specs.Stands.{Stands}
 use Rattle.office_files.specs.TableLayouts.{WriteNoFirst}
 use Rattle.office_files.specs.TableLayoutLaws.{second_applied}
-use Rattle.office_known.specs.KnownLaws.{known_of_office}
+use Rattle.store_parts.specs.KnownOffice.{known_of_office}
 use Rattle.store_parts.specs.declared.parts.StoreParts.{StoreParts}
 use Rattle.store_parts.specs.Held.{given, AreCountsOf, heads_of, IsKeptView}
 use Rattle.store_parts.specs.States.{slots, IsRunning, staging_of}

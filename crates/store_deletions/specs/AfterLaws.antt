@@ -30,14 +30,13 @@ use Rattle.office_model.specs.Step.{meaning_of}
 use Rattle.office_model.specs.UsedNames.{AreSound, AreNamesAfter}
 use Rattle.office_model.specs.laws.StepLaws.{IsSound-carried}
 use Rattle.office_model.specs.laws.StateLaws.{AreSound-carried}
-use Rattle.office_files.specs.Pairs.{AtEachPair, other_at, pair_at}
+use Rattle.office_model.specs.Pairs.{AtEachPair, other_at, pair_at}
 use Rattle.office_files.specs.Hosts.{index_of_host, StandsHost}
 use Rattle.office_files.specs.Pooled.{contents_of, IsListed}
 use Rattle.office_files.specs.Stands.{Stands}
-use Rattle.office_known.specs.KnownLaws.{known_of_office, stands_catalog}
+use Rattle.store_parts.specs.KnownOffice.{known_of_office, stands_catalog, index_there, host_replaced}
 use Rattle.office_deletion.specs.DeletionLaws.{IsDeletion, lines_left}
 use Rattle.office_deletion.specs.OfficeLaws.{deletion_stands}
-use Rattle.office_known.specs.CatalogLaws.{index_there, host_replaced}
 use Rattle.store_parts.specs.declared.parts.StoreParts.{StoreParts}
 use Rattle.store_parts.specs.Held.{AreCounts, AreCountsOf}
 use Rattle.store_parts.specs.States.{slots, IsRunning}

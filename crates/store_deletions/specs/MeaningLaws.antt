@@ -27,10 +27,9 @@ use Rattle.office_model.specs.laws.ExpireLaws.{flags_fit}
 use Rattle.office_model.specs.events.Delete.{deletable}
 use Rattle.office_model.specs.events.Expire.{unflagged, named_of, without_named, touched}
 use Rattle.office_files.specs.Hosts.{index_of_host}
-use Rattle.office_known.specs.KnownLaws.{known_of_office}
+use Rattle.store_parts.specs.KnownOffice.{known_of_office, named_host, index_found}
 use Rattle.office_deletion.specs.DeletionLaws.{left_backups, deleted_left}
 use Rattle.office_deletion.specs.ExpiryLaws.{flagged_count, flagged_none, flagged_some, unflagged_none, expired_left}
-use Rattle.office_known.specs.CatalogLaws.{named_host, index_found}
 use Rattle.store_deletions.specs.Shortens.{broken_at, broken_rule, named_numbers, Shortens, Shortening}
 
 -- the line of a number stands where its backup does

@@ -32,7 +32,7 @@ use Rattle.office_files.specs.KeptLaws.{IsHostFile-same}
 use Rattle.office_files.specs.Pooled.{contents_of, IsListed}
 use Rattle.office_files.specs.TableLayouts.{WriteNoFirst}
 use Rattle.office_changes.specs.BoundLaws.{few_counted_in}
-use Rattle.office_known.specs.KnownLaws.{host_of_catalog}
+use Rattle.store_parts.specs.KnownOffice.{host_of_catalog}
 use Rattle.office_deletion.specs.DeletionLaws.{length_lines, length_rows, rows_of, left_backups, lines_left, as_backups, are_whole, IsChangedTo, IsDeletion}
 use Rattle.office_deletion.specs.DeletionLaws as D
 use Rattle.store_parts.specs.Held.{AreCounts}

@@ -30,7 +30,7 @@ use Rattle.office_model.specs.Office.{Office, Names, with_hosts}
 use Rattle.office_model.specs.Step.{IsAnswerTo, meaning_of}
 use Rattle.office_model.specs.UsedNames.{AreSound, AreNamesAfter}
 use Rattle.office_files.specs.TableLayoutLaws.{second_applied}
-use Rattle.office_known.specs.KnownLaws.{known_of_office}
+use Rattle.store_parts.specs.KnownOffice.{known_of_office}
 use Rattle.store_parts.specs.declared.parts.StoreParts.{StoreParts}
 use Rattle.store_parts.specs.Held.{IsKeptView, AreCountsOf}
 use Rattle.store_parts.specs.HeadLaws.{heads-stay}

@@ -20,7 +20,7 @@ use Rattle.office_model.specs.Office.{Office, Host, Names, with_hosts}
 use Rattle.office_model.specs.Meaning.{Reply, ReadsAndCommits, breaks}
 use Rattle.office_model.specs.Step.{IsAnswerTo, meaning_of}
 use Rattle.office_model.specs.UsedNames.{AreSound, AreNamesAfter}
-use Rattle.office_known.specs.KnownLaws.{known_of_office}
+use Rattle.store_parts.specs.KnownOffice.{known_of_office}
 use Rattle.office_deletion.specs.ExpiryLaws.{flagged_numbers}
 use Rattle.store_deletions.specs.Planned.{left_host}
 

@@ -8,8 +8,7 @@ use Rattle.backup_index.specs.Index.{Index}
 use Rattle.office_catalog.specs.Known.{Known}
 use Rattle.office_model.specs.Office.{Durable, Host}
 use Rattle.office_files.specs.Hosts.{index_of_host}
-use Rattle.office_known.specs.CatalogLaws.{index_found}
-use Rattle.office_known.specs.KnownLaws.{known_of_office, index_at}
+use Rattle.store_parts.specs.KnownOffice.{index_found, known_of_office, index_at}
 
 -- the index that was read
 pub index_read : (hosts found : List Index) (place : ℕ) (index : Index) → found ≡ hosts → place < length hosts

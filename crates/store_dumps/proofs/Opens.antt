@@ -46,7 +46,7 @@ use Rattle.office_model.specs.UsedNames.{AreNamesAfter}
 use Rattle.office_model.specs.laws.StateLaws.{AreSound-carried}
 use Rattle.office_model.specs.events.OpenDump as OpenDumpModel
 use Rattle.office_files.specs.Pooled.{contents_of}
-use Rattle.office_known.specs.CatalogLaws.{IsNamed, named_host}
+use Rattle.store_parts.specs.KnownOffice.{IsNamed, named_host}
 use Rattle.store_parts.specs.declared.parts.StoreParts.{StoreParts}
 use Rattle.store_parts.specs.Held.{given}
 use Rattle.store_parts.specs.Refusals.{IsReadFault}

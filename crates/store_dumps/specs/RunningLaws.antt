@@ -40,7 +40,7 @@ use Rattle.office_model.specs.History.{IsUndamaged}
 use Rattle.office_model.specs.UsedNames.{AreSound, AreNamesAfter}
 use Rattle.office_files.specs.Pooled.{contents_of}
 use Rattle.office_files.specs.Stands.{Stands}
-use Rattle.office_known.specs.KnownLaws.{known_of_office}
+use Rattle.store_parts.specs.KnownOffice.{known_of_office}
 use Rattle.store_parts.specs.declared.parts.StoreParts.{StoreParts}
 use Rattle.store_parts.specs.Held.{given, AreCountsOf, heads_of, IsKeptView, IsStored}
 use Rattle.store_parts.specs.States.{slots, IsWorking, IsRunning, staging_of}

@@ -25,7 +25,7 @@ use Rattle.backup_rules.specs.declared.lines.Kind.{Kind}
 use Rattle.open_sessions.specs.declared.sessions.OpenDump.{OpenDump}
 use Rattle.open_sessions.specs.Opened.{IsDump, keeping_behind, IsFreshFor}
 use Rattle.open_sessions.specs.SessionLaws.{dump_index_of_host-sessions}
-use Rattle.office_files.specs.Pairs.{AtEachPair}
+use Rattle.office_model.specs.Pairs.{AtEachPair}
 use Rattle.office_model.specs.declared.answer.Answer.{Answer}
 use Rattle.office_model.specs.declared.answer.Answer.TheVariants.{Done, Already, Dump as DumpAnswer}
 use Rattle.office_model.specs.declared.answer.AnswerKind.TheVariants.{Dump as DumpKind}

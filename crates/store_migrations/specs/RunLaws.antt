@@ -40,12 +40,12 @@ use Rattle.office_catalog.specs.Known.{Known, host_named, names_of}
 use Rattle.office_files.specs.Hosts.{StandsHost}
 use Rattle.office_files.specs.Layouts.{IsTableFile as IsStoredTable}
 use Rattle.office_files.specs.Owners.{has_backup}
-use Rattle.office_files.specs.Pairs.{pair_at, other_at}
+use Rattle.office_model.specs.Pairs.{pair_at, other_at}
 use Rattle.office_files.specs.Pooled.{contents_of, IsListed}
 use Rattle.office_files.specs.Stands.{Stands}
 use Rattle.office_files.specs.TableLayouts.{is_first_layout, is_among, AreSecondBut, WriteNoFirst}
 use Rattle.office_files.specs.TableLayoutLaws.{second_applied}
-use Rattle.office_known.specs.CatalogLaws.{IsNamed, named_host, host_found, index_found}
+use Rattle.store_parts.specs.KnownOffice.{IsNamed, named_host, host_found, index_found}
 use Rattle.store_parts.specs.declared.parts.StoreParts.{StoreParts}
 use Rattle.store_parts.specs.Held.{AreCountsOf}
 use Rattle.store_parts.specs.States.{slots, IsRunning}

@@ -19,13 +19,13 @@ use Rattle.partial_files.specs.declared.partial.PartialFile.{PartialFile}
 use Rattle.office_model.specs.Office.{Durable, Host, Partial}
 use Rattle.office_files.specs.FoundLaws.{partial_found}
 use Rattle.office_files.specs.Hosts.{StandsPartial}
-use Rattle.office_files.specs.Pairs.{other_at, same_elements}
+use Rattle.office_model.specs.Pairs.{other_at, same_elements}
 use Rattle.office_files.specs.Pooled.{contents_of, IsListed}
 use Rattle.office_files.specs.Stands.{Stands}
 use Rattle.office_changes.specs.BoundLaws.{length-map_values}
 use Rattle.office_catalog.specs.Known.{Known, IsCatalog, names_of}
 use Rattle.office_catalog.specs.Held.{HoldsCatalog}
-use Rattle.office_known.specs.KnownLaws.{indices_from, one_catalog}
+use Rattle.store_parts.specs.KnownOffice.{indices_from, one_catalog}
 use Rattle.host_counts.specs.Held.{HasCounts, TellsCounts, AreTold, IsForeign}
 use Rattle.host_partials.specs.declared.held.PartialHead.{PartialHead}
 use Rattle.host_partials.specs.Held.{HasPartial, HasNone, TellsHead, AreTold as ArePartialsTold, IsForeign as IsForeignToPartials, head_of_file}

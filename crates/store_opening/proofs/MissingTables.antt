@@ -26,12 +26,12 @@ use Rattle.office_model.specs.Office.{Durable, Host, Backup}
 use Rattle.office_model.specs.Parts.{lines_of}
 use Rattle.office_files.specs.Hosts.{index_of_host, StandsHost}
 use Rattle.office_files.specs.Layouts.{IsTableFile}
-use Rattle.office_files.specs.Pairs.{other_at}
+use Rattle.office_model.specs.Pairs.{other_at}
 use Rattle.office_files.specs.Pooled.{contents_of, IsListed}
 use Rattle.office_files.specs.Stands.{StandsFor}
 use Rattle.office_catalog.specs.Known.{Known}
 use Rattle.office_catalog.specs.Held.{HoldsCatalog}
-use Rattle.office_known.specs.KnownLaws.{index_at, known_of_office, one_catalog}
+use Rattle.store_parts.specs.KnownOffice.{index_at, known_of_office, one_catalog}
 use Rattle.store_opening.specs.declared.fault.OpenRefusal.TheVariants.{Foreign}
 use Rattle.store_opening.specs.Recovers.{Holds}
 use Rattle.store_opening.specs.Tables.{is_table, noted, first_gap, first_of_hosts, HasTables, IsMissingTable}

@@ -44,7 +44,7 @@ use Rattle.office_catalog.specs.Known.{Known, with_epoch}
 use Rattle.office_catalog.specs.Known as K
 use Rattle.office_catalog.specs.Changed.{after, Leads}
 use Rattle.office_catalog.specs.Held.{HoldsCatalog, HoldsIndex, HoldsNames}
-use Rattle.office_known.specs.KnownLaws.{indices_from, known_of_office, stands_catalog, head_of_catalog}
+use Rattle.store_parts.specs.KnownOffice.{indices_from, known_of_office, stands_catalog, head_of_catalog}
 use Rattle.store_parts.specs.Held.{AreCountsOf, AreUsed, heads_of, IsEither, IsStored, MayBe}
 use Rattle.store_parts.specs.StoredLaws.{stored_found, either_left}
 use Rattle.store_parts.specs.WriteLaws.{tells_in_kept}

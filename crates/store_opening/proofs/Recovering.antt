@@ -28,7 +28,7 @@ use Rattle.office_files.specs.Stands.{Stands, StandsFor}
 use Rattle.office_catalog.specs.Held.{HoldsCatalog, IsForeign as IsForeignToCatalog}
 use Rattle.host_counts.specs.Held.{AreTold}
 use Rattle.host_partials.specs.Held.{AreTold as ArePartialsTold}
-use Rattle.office_known.specs.KnownLaws.{one_catalog}
+use Rattle.store_parts.specs.KnownOffice.{one_catalog}
 use Rattle.office_pool.specs.FitLaws.{fits_stands}
 use Rattle.store_parts.specs.Held.{IsEither, IsStored}
 use Rattle.store_parts.specs.WriteLaws.{tells_in_kept}

@@ -21,7 +21,7 @@ use Rattle.office_changes.specs.ChangeLaws.{is_of_index}
 use Rattle.office_catalog.specs.Known.{Known}
 use Rattle.office_catalog.specs.Held.{HoldsCatalog}
 use Rattle.office_files.specs.Stands.{StandsFor}
-use Rattle.office_known.specs.KnownLaws.{indices_from, known_of_office, one_catalog}
+use Rattle.store_parts.specs.KnownOffice.{indices_from, known_of_office, one_catalog}
 use Rattle.store_opening.specs.Strays.{has_line, is_known, is_stray, first_stray, HasNoStray, IsNamedByByte, IsStray}
 
 -- ---- the first stray of a list

@@ -35,7 +35,7 @@ use Rattle.office_catalog.specs.Held.{HoldsCatalog}
 use Rattle.office_model.specs.Office.{Durable, Host, Partial}
 use Rattle.office_files.specs.Hosts.{IsShown, StandsPartial, StandsHost}
 use Rattle.office_files.specs.OneLaws.{one_listing}
-use Rattle.office_files.specs.Pairs.{AtEachPair, other_at}
+use Rattle.office_model.specs.Pairs.{AtEachPair, other_at}
 use Rattle.office_files.specs.Pooled.{contents_of, IsListed}
 use Rattle.office_files.specs.Stands.{StandsFor}
 use Rattle.office_changes.specs.BridgeLaws.{shown_whole, shown_told}

@@ -42,7 +42,7 @@ use Rattle.office_catalog.specs.Changed.{after}
 use Rattle.office_catalog.specs.Held.{HoldsCatalog}
 use Rattle.office_changes.specs.ChangeLaws.{is_of_index}
 use Rattle.office_files.specs.Owners.{owner_of}
-use Rattle.office_known.specs.KnownLaws.{head_of_catalog}
+use Rattle.store_parts.specs.KnownOffice.{head_of_catalog}
 use Rattle.office_model.specs.Office.{last_sequence}
 use Rattle.store_parts.specs.declared.parts.StoreParts.{StoreParts}
 use Rattle.store_parts.specs.WriteLaws.{tells_in_kept}

@@ -48,8 +48,7 @@ use Rattle.office_files.specs.KeptLaws.{tells_kept, one_kept, pool_kept}
 use Rattle.office_files.specs.Stands.{Stands}
 use Rattle.office_files.specs.TableLayouts.{WriteNoFirst}
 use Rattle.office_files.specs.TableLayoutLaws.{second_applied}
-use Rattle.office_known.specs.KnownLaws.{known_of_office}
-use Rattle.office_known.specs.CatalogLaws.{named_host}
+use Rattle.store_parts.specs.KnownOffice.{known_of_office, named_host}
 use Rattle.office_changes.specs.ChangeLaws.{host_changed, is_of_host, is_of_index}
 use Rattle.store_parts.specs.declared.parts.StoreParts.{StoreParts}
 use Rattle.store_parts.specs.Held.{AreCounts, AreCountsOf, head_of, heads_of}

@@ -16,7 +16,7 @@ use Rattle.office_model.specs.declared.refusal.Refusal.TheVariants.{Broken}
 use Rattle.office_model.specs.Office.{Office, Host, Partial, Names}
 use Rattle.office_model.specs.Parts.{host_at}
 use Rattle.office_model.specs.events.PartialInfo as PartialInfoEvent
-use Rattle.office_known.specs.CatalogLaws.{named_host}
+use Rattle.store_parts.specs.KnownOffice.{named_host}
 use Rattle.store_parts.specs.declared.parts.StoreParts.{StoreParts}
 use Rattle.store_parts.specs.Held.{head_of}
 use Rattle.store_parts.specs.States.{IsRunning}

@@ -10,7 +10,7 @@ use Rattle.ref_counts.specs.Stored.{StoredHost}
 use Rattle.office_model.specs.Office.{Host, Partial}
 use Rattle.office_model.specs.events.Park.{with_partial}
 use Rattle.office_files.specs.Hosts.{index_of_host}
-use Rattle.office_known.specs.KnownLaws.{indices_from}
+use Rattle.store_parts.specs.KnownOffice.{indices_from}
 use Rattle.store_parts.specs.Held.{IsKeptView}
 use Rattle.store_commits.specs.KeptLaws.{kept_after}
 

@@ -39,8 +39,7 @@ use Rattle.office_model.specs.laws.StateLaws.{AreSound-carried}
 use Rattle.office_model.specs.events.Park as ParkEvent
 use Rattle.office_files.specs.Pooled.{contents_of}
 use Rattle.office_changes.specs.BoundLaws.{length-map_values}
-use Rattle.office_known.specs.KnownLaws.{known_of_office}
-use Rattle.office_known.specs.CatalogLaws.{hosts_counted}
+use Rattle.store_parts.specs.KnownOffice.{known_of_office, hosts_counted}
 use Rattle.store_parts.specs.declared.parts.StoreParts.{StoreParts}
 use Rattle.store_parts.specs.Held.{given, AreCountsOf, head_of, heads_of, IsKeptView}
 use Rattle.store_parts.specs.States.{slots, IsRunning, staging_of}
@@ -51,9 +50,8 @@ use Rattle.store_parts.specs.RunLaws.{reads_behind, runs_behind}
 use Rattle.store_parts.specs.RefusedLaws.{runs_no_dump, runs_not_planned as runs_plan_refused}
 use Rattle.store_parts.specs.WriteLaws.{LeadsTo, Holds, runs_write_refused, runs_written}
 use Rattle.store_parts.specs.FoundLaws.{dump_place}
-use Rattle.store_dumps.specs.Claims.{Loses}
 use Rattle.store_commits.specs.Ids.{ids_in, given_ids, all_given}
-use Rattle.store_commits.specs.AcceptLaws.{with_added, IsAccepted}
+use Rattle.store_commits.specs.AcceptLaws.{Loses, with_added, IsAccepted}
 use Rattle.store_commits.specs.RunningLaws.{running_committed}
 use Rattle.store_commits.specs.Committing.{IsMeant, meant, IsStoredAfter}
 use Rattle.store_commits.specs.EventLaws.{place_is, there_within}

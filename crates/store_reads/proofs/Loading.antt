@@ -28,14 +28,14 @@ use Rattle.office_model.specs.Office.{Office, Host, Backup, Names}
 use Rattle.office_model.specs.Meaning.{◌>>=◌}
 use Rattle.office_model.specs.Parts.{lines_of, backup_of}
 use Rattle.office_model.specs.declared.refusal.BrokenRule.TheVariants.{NoHost, NoBackup}
-use Rattle.office_files.specs.Pairs.{pair_at}
+use Rattle.office_model.specs.Pairs.{pair_at}
 use Rattle.office_files.specs.Pooled.{contents_of, IsListed}
 use Rattle.office_files.specs.Hosts.{index_of_host, IsShown, StandsHost}
 use Rattle.store_parts.specs.declared.parts.StoreParts.{StoreParts}
 use Rattle.store_parts.specs.Held.{IsViewOf, IsKeptView}
 use Rattle.store_parts.specs.States.{slots, IsRunning}
 use Rattle.store_parts.specs.Runs.{Reads}
-use Rattle.office_known.specs.CatalogLaws.{named_host, no_named}
+use Rattle.store_parts.specs.KnownOffice.{named_host, no_named}
 use Rattle.store_reads.specs.CatalogLaws.{IsLineFound, index_there, host_of_index, line_there, line_at_backup, no_backup, backup_there, backup_at_there, backup_of_at, backup_of_none, one_backup}
 use Rattle.store_reads.specs.TreeLaws.{tables_from, tree_from_at, first_dropped}
 use Rattle.store_parts.specs.Refusals.{refusal_of_view, IsReadFault}

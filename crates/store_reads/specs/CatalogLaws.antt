@@ -11,8 +11,7 @@ use Rattle.backup_rules.specs.declared.lines.Line.{Line}
 use Rattle.backup_index.specs.Index.{Index}
 use Rattle.office_catalog.specs.Known.{Known, line_numbered}
 use Rattle.office_files.specs.Hosts.{index_of_host}
-use Rattle.office_known.specs.CatalogLaws.{index_there as known_there}
-use Rattle.office_known.specs.KnownLaws.{known_of_office, index_at}
+use Rattle.store_parts.specs.KnownOffice.{index_there as known_there, known_of_office, index_at}
 use Rattle.office_model.specs.declared.refusal.BrokenRule.{BrokenRule}
 use Rattle.office_model.specs.declared.refusal.BrokenRule.TheVariants.{NoBackup}
 use Rattle.office_model.specs.Office.{Durable, Host, Backup, AreNumbered, backup_index}

@@ -14,7 +14,7 @@ use Rattle.backup_views.specs.Stored.{AreTables, HasTable, tree_from}
 use Rattle.ref_counts.specs.Stored.{Backup as StoredBackup, StoredHost, stored, stored_before}
 use Rattle.office_model.specs.Office.{Host, Backup}
 use Rattle.office_model.specs.Parts.{lines_of}
-use Rattle.office_files.specs.Pairs.{AtEachPair}
+use Rattle.office_model.specs.Pairs.{AtEachPair}
 use Rattle.office_files.specs.Layouts.{IsTableFile}
 use Rattle.office_files.specs.Hosts.{IsShown, StandsHost}
 

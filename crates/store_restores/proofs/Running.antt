@@ -31,7 +31,7 @@ use Rattle.office_model.specs.Step.{Running, IsAnswerTo, meaning_of}
 use Rattle.office_model.specs.UsedNames.{AreSound, AreNamesAfter}
 use Rattle.office_files.specs.Pooled.{contents_of}
 use Rattle.office_files.specs.Stands.{Stands}
-use Rattle.office_known.specs.KnownLaws.{known_of_office}
+use Rattle.store_parts.specs.KnownOffice.{known_of_office}
 use Rattle.open_sessions.specs.Opened.{Staging, SameStaging, AreSessions, claims_in}
 use Rattle.open_sessions.specs.SessionLaws.{AreSessions-kept, AreSessions-alike, claims_in-alike}
 use Rattle.store_parts.specs.declared.parts.StoreParts.{StoreParts}

@@ -55,7 +55,7 @@ use Rattle.office_model.specs.UsedNames.{IsRenamed, IsNamedIf, OnlyUsed}
 use Rattle.office_model.specs.laws.PutLaws.{stage_content_is}
 use Rattle.office_model.specs.events.Put as PutEvent
 use Rattle.office_model.specs.events.Put.{name_change, staged_item}
-use Rattle.office_files.specs.Pairs.{other_at}
+use Rattle.office_model.specs.Pairs.{other_at}
 use Rattle.office_files.specs.Pooled.{contents_of}
 use Rattle.store_parts.specs.declared.parts.StoreParts.{StoreParts}
 use Rattle.store_parts.specs.Held.{given}

@@ -6,3 +6,5 @@
 
 pub mod scripts;
 pub mod talks;
+
+pub use admin_cli::Note;

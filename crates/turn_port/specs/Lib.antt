@@ -1,4 +1,5 @@
 pub mod Asks
 pub mod AsksLaws
+pub mod Stores
 pub mod Comes
 pub mod ComesLaws

@@ -23,4 +23,5 @@ mod locked;
 mod port;
 
 pub use locked::{LockedStore, StorePass, StoreTurn, close_store, lock_store};
+pub use office_store::{DirectPort, OpenRefusal, Store};
 pub use port::TurnPort;

@@ -1,5 +1,5 @@
 use Rattle.std.proofs.Common.{ap, inl, inr, refl, ◌∙◌}
-use Rattle.office_store.specs.MovesLaws.{Moves-none}
+use Rattle.serve_workers.specs.Stores.{Moves-none}
 use Rattle.command_line.specs.Line.{Serve}
 use Rattle.admin_cli.proofs.RunLaws.{is_cause, lacks_memory}
 use Rattle.admin_cli.proofs.ServerLaws.{serves_doors, serves_nobody}

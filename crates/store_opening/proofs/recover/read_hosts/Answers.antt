@@ -1,6 +1,6 @@
 use Rattle.std.proofs.Common.{inl, inr, ◌∙◌}
 use Rattle.journal_view.specs.ViewLaws.{Quiet-then}
-use Rattle.office_known.specs.KnownLaws.{known_of_office, stands_catalog}
+use Rattle.store_parts.specs.KnownOffice.{known_of_office, stands_catalog}
 use Rattle.store_opening.proofs.HostTotals.{never_without}
 use Rattle.store_opening.proofs.recover.read_hosts.Goals as goal
 

@@ -1,0 +1,10 @@
+-- What office_store states of a store, passed on to the crates above, which name this crate and needn't name that one then.
+pub use Rattle.office_store.specs.declared.store.Store.{Store}
+pub use Rattle.office_store.specs.declared.port.DirectPort.{DirectPort}
+pub use Rattle.office_store.specs.Moves.{AreServed, Goes, MayRecoverIn, Moves}
+pub use Rattle.office_store.specs.MovesLaws.{Moves-none}
+pub use Rattle.office_store.specs.Serves.{Serves, is_stopped}
+pub use Rattle.office_store.specs.Damage.{TellsDamage}
+pub use Rattle.office_store.specs.Halts.{FindsForeign, HasFailed, HasStopCause}
+pub use Rattle.office_store.specs.HaltsLaws.{failed_since, halted_since}
+pub use Rattle.office_store.specs.EndLaws.{halted_as, halted_rose, is_halted, left_of, second_left}
