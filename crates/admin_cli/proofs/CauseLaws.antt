@@ -13,7 +13,7 @@ use Rattle.serve_workers.specs.Stores.{HasFailed}
 use Rattle.call_scripts.specs.Scripts.{EndRefused}
 use Rattle.night_work.specs.declared.ends.NightEnd.{NightEnd}
 use Rattle.night_work.specs.declared.ends.NightEnd.TheVariants as Night
-use Rattle.night_work.specs.Ends.{Ends as NightEnds, EndRefused as NightRefused}
+use Rattle.night_work.specs.Ends.{Ends as NightEnds}
 use Rattle.migrate_work.specs.declared.ends.MigrationEnd.{MigrationEnd}
 use Rattle.migrate_work.specs.declared.ends.MigrationEnd.TheVariants as Migration
 use Rattle.migrate_work.specs.Ends.{Ends as MigrationEnds}
@@ -44,11 +44,6 @@ failed_refused : (refusal : Refusal) (calls : List Call) → IsOfDisk refusal �
 failed_refused refusal [] of ended = absurd ended
 failed_refused refusal ((event, Ok answer) ∷ calls) of ended = inr (failed_refused refusal calls of ended)
 failed_refused refusal ((event, Err named) ∷ calls) of ended = failed_call named event calls (subst IsOfDisk (sym ended.0) of)
-
-failed_night : (refusal : Refusal) (calls : List Call) → IsOfDisk refusal → NightRefused refusal calls → HasFailed calls
-failed_night refusal [] of ended = absurd ended
-failed_night refusal ((event, Ok answer) ∷ calls) of ended = inr (failed_night refusal calls of ended)
-failed_night refusal ((event, Err named) ∷ calls) of ended = failed_call named event calls (subst IsOfDisk (sym ended.0) of)
 
 failed_last : (refusal : Refusal) (before : List Call) (event : Event) → IsOfDisk refusal → HasFailed (before ++ (event, Err refusal) ∷ [])
 failed_last refusal [] event of = failed_call refusal event [] of
@@ -96,9 +91,9 @@ module _ {D : Type 0} (d : DiskGhosts D) (digest_of : List ℕ → List ℕ) (di
     night_rose moment day period (Night.Done night) failed ends e = rose_halted (all_said failed halted e)
     night_rose moment day period Night.NotNow failed ends e = rose_halted (all_said failed halted e)
     night_rose moment day period (Night.Refused (R.Broken rule)) failed ends e = rose_halted (all_said false halted e)
-    night_rose moment day period (Night.Refused R.Halted) failed ends e = rose_failed (failed_night R.Halted calls (inr refl) ends.1)
+    night_rose moment day period (Night.Refused R.Halted) failed ends e = rose_failed (failed_refused R.Halted calls (inr refl) ends.1)
     night_rose moment day period (Night.Refused R.DiskFault) failed ends e =
-        rose_failed (failed_night R.DiskFault calls (inl refl) ends.1)
+        rose_failed (failed_refused R.DiskFault calls (inl refl) ends.1)
     night_rose moment day period (Night.Refused (R.Damaged file found)) failed ends e = let no : ⊥ = cc (e) in absurd no
     night_rose moment day period (Night.Refused R.Memory) failed ends e = let no : ⊥ = cc (e) in absurd no
     night_rose moment day period Night.Memory failed ends e = let no : ⊥ = cc (e) in absurd no

@@ -1,6 +1,6 @@
--- Which file a night names: over any disk, a table that isn't there, or is in no table's grammar.
+-- Which file a night or a migration names: over any disk, a table that isn't there, or is in no table's grammar.
 --     IsOfNight, called      which events a night calls
---     night_foreign
+--     night_foreign, migration_foreign
 use Rattle.std.specs.Prelude.{map}
 use Rattle.std.specs.List.{All}
 use Rattle.std.proofs.Common.{◌≡◌, ℕ, ℤ, Bool, true, false, List, [], ◌∷◌, ◌++◌, Option, Some, Ok, Err, sym, ◌∙◌, subst}
@@ -16,13 +16,26 @@ use Rattle.office_model.specs.declared.refusal.Refusal.{Refusal}
 use Rattle.office_model.specs.declared.refusal.Refusal.TheVariants as R
 use Rattle.office_model.specs.Step.{Call}
 use Rattle.serve_workers.specs.Stores.{Store, TellsDamage, Serves, AreServed, Moves}
-use Rattle.call_scripts.specs.Scripts.{FollowsAfter}
+use Rattle.call_scripts.specs.Scripts.{EndRefused, FollowsAfter, each_of}
 use Rattle.night_work.specs.declared.ends.NightEnd.{NightEnd}
 use Rattle.night_work.specs.declared.ends.NightEnd.TheVariants as F
-use Rattle.night_work.specs.Script.{events_after, each_of, night_buckets, night_script}
-use Rattle.night_work.specs.Ends.{EndRefused, Ends}
-use Rattle.admin_cli.specs.declared.note.Note.TheVariants.{Foreign}
+use Rattle.night_work.specs.Script.{events_after, night_buckets, night_script}
+use Rattle.night_work.specs.Ends.{Ends}
+use Rattle.migrate_work.specs.declared.ends.MigrationEnd.{MigrationEnd}
+use Rattle.migrate_work.specs.declared.ends.MigrationEnd.TheVariants as G
+use Rattle.migrate_work.specs.Ends.{Ends as MigrationEnds}
+use Rattle.migrate_work.specs.Keeping.{IsOfMigration, AreOfMigration}
+use Rattle.migrate_work.specs.KeepingLaws.{of_migration}
+use Rattle.admin_cli.specs.declared.note.Note.{Note}
+use Rattle.admin_cli.specs.declared.note.Note.TheVariants.{Foreign, Refused}
+use Rattle.admin_cli.specs.Folders.{note_of_rule, note_of_call}
+use Rattle.admin_cli.specs.Migrations.{note_of_migration}
 use Rattle.admin_cli.specs.Nights.{note_of_all, note_of_night, IsDamagedTable}
+
+-- each call is of such an event
+abbrev AreOf : (Event → Type 0) → List Call → Type 0
+AreOf of [] = Unit {0}
+AreOf of (call ∷ calls) = of call.0 × AreOf of calls
 
 -- ---- which events a night calls, whatever is answered
 
@@ -32,10 +45,6 @@ IsOfNight (E.Expire name now) = Unit {0}
 IsOfNight (E.Clean bucket) = Unit {0}
 IsOfNight E.Sweep = Unit {0}
 IsOfNight event = ⊥
-
-abbrev AreOfNight : List Call → Type 0
-AreOfNight [] = Unit {0}
-AreOfNight (call ∷ calls) = IsOfNight call.0 × AreOfNight calls
 
 each_of_night : (events : List Event) (done : List Call) (event : Event) → All IsOfNight events → each_of events done ≡ Some event
     → IsOfNight event
@@ -69,7 +78,7 @@ called moment buckets ((asked, Ok (A.Hosts hosts)) ∷ made) event is =
 called moment buckets (call ∷ made) event is = let no : ⊥ = cc (is) in absurd no
 
 all_called : (moment : ℕ) (buckets : List ℕ) (made calls : List Call) → FollowsAfter (night_script moment buckets) made calls
-    → AreOfNight calls
+    → AreOf IsOfNight calls
 all_called moment buckets made [] follows = tt
 all_called moment buckets made (call ∷ calls) follows =
     (called moment buckets made call.0 follows.0, all_called moment buckets (made ++ call ∷ []) calls follows.1)
@@ -94,25 +103,46 @@ named_by (F.Refused (R.Damaged other found)) failed halted file e =
 named_by (F.Refused R.Memory) failed halted file e = let no : ⊥ = cc (e) in absurd no
 named_by F.Memory failed halted file e = let no : ⊥ = cc (e) in absurd no
 
+-- a migration's note names what its last refusal named
+not_of_rule : (note : Note) (halted : Bool) (file : FileId) → (note ≡ Foreign file → ⊥) → note_of_rule note halted ≡ Foreign file → ⊥
+not_of_rule note true file other e = let no : ⊥ = cc (e) in absurd no
+not_of_rule note false file other e = other e
+
+by_call : (refusal : Refusal) (halted : Bool) (file : FileId) → note_of_call refusal halted ≡ Foreign file
+    → (found : Option (List ℕ)) × (refusal ≡ R.Damaged file found)
+by_call (R.Broken rule) halted file e =
+    absurd (not_of_rule (Refused rule) halted file (λ same. let no : ⊥ = cc (same) in no) e)
+by_call R.Halted halted file e = let no : ⊥ = cc (e) in absurd no
+by_call R.DiskFault halted file e = let no : ⊥ = cc (e) in absurd no
+by_call (R.Damaged other found) halted file e = let is : other ≡ file = cc (e) in (found, λ i. R.Damaged (is i) found)
+by_call R.Memory halted file e = let no : ⊥ = cc (e) in absurd no
+
+by_migration : (end : MigrationEnd) (failed halted : Bool) (file : FileId) → note_of_migration end failed halted ≡ Foreign file
+    → (found : Option (List ℕ)) × (end ≡ G.Refused (R.Damaged file found))
+by_migration (G.Done count) failed halted file e = absurd (not_of_all failed halted file e)
+by_migration (G.Refused refusal) failed halted file e =
+    let named = by_call refusal halted file e in (named.0, λ i. G.Refused (named.1 i))
+by_migration G.Memory failed halted file e = let no : ⊥ = cc (e) in absurd no
+
 module _ {D N S : Type 0} {d : DiskGhosts D} {n : NamerGhosts N S} where
   -- the call that was refused
-  record IsRefusedLast (refusal : Refusal) (new : Store D N S d n) : Type 0 where
+  record IsRefusedLast (of : Event → Type 0) (refusal : Refusal) (new : Store D N S d n) : Type 0 where
     mid : Store D N S d n
     event : Event
-    of_night : IsOfNight event
+    is_of : of event
     serves : Serves mid event (Err refusal) new
 
-  refused_last : (refusal : Refusal) (old new : Store D N S d n) (calls : List Call) → AreServed old calls new → AreOfNight calls
-      → EndRefused refusal calls → IsRefusedLast refusal new
-  refused_last refusal old new [] served each ended = absurd ended
-  refused_last refusal old new ((event, Ok answer) ∷ calls) served each ended =
-      refused_last refusal served.0 new calls served.2 each.1 ended
-  refused_last refusal old new ((event, Err named) ∷ calls) served each ended =
+  refused_last : (of : Event → Type 0) (refusal : Refusal) (old new : Store D N S d n) (calls : List Call) → AreServed old calls new
+      → AreOf of calls → EndRefused refusal calls → IsRefusedLast of refusal new
+  refused_last of refusal old new [] served each ended = absurd ended
+  refused_last of refusal old new ((event, Ok answer) ∷ calls) served each ended =
+      refused_last of refusal served.0 new calls served.2 each.1 ended
+  refused_last of refusal old new ((event, Err named) ∷ calls) served each ended =
       let rest : AreServed served.0 [] new = subst (λ (more : List Call). AreServed served.0 more new) ended.1 served.2 in
       record {
         mid = old;
         event = event;
-        of_night = each.0;
+        is_of = each.0;
         serves = subst (λ (told : Refusal). Serves old event (Err told) new) ended.0
             (subst (λ (s : Store D N S d n). Serves old event (Err named) s) (sym rest) served.1);
       }
@@ -143,9 +173,9 @@ module _ {D N S : Type 0} {d : DiskGhosts D} {n : NamerGhosts N S} where
       (found : Option (List ℕ)) → Moves old calls new → Ends moment day period (F.Refused (R.Damaged file found)) calls
       → IsDamagedTable (told new.parts.journal) file
   by_refusal old new calls moment day period file found moved ends =
-      let last = refused_last (R.Damaged file found) old new calls moved.each
+      let last = refused_last IsOfNight (R.Damaged file found) old new calls moved.each
       (all_called moment (night_buckets day period) [] calls ends.0) ends.1 in
-      table_of last.mid new last.event file found last.of_night last.serves.damaged
+      table_of last.mid new last.event file found last.is_of last.serves.damaged
 
   -- a night names a table that the disk holds none in when it ends
   pub night_foreign : (old new : Store D N S d n) (calls : List Call) (moment : ℕ) (day : ℤ) (period : ℕ) (end : NightEnd)
@@ -155,3 +185,41 @@ module _ {D N S : Type 0} {d : DiskGhosts D} {n : NamerGhosts N S} where
       let named = named_by end failed halted file is in
       by_refusal old new calls moment day period file named.0 moved
       (subst (λ (e : NightEnd). Ends moment day period e calls) named.1 ends)
+
+  -- only a migration of a host finds a damaged file, and wrote nothing then
+  migrated_table : (mid new : Store D N S d n) (event : Event) (file : FileId) (found : Option (List ℕ)) → IsOfMigration event
+      → TellsDamage mid.parts event (Err (R.Damaged file found)) new.parts → IsDamagedTable (told new.parts.journal) file
+  migrated_table mid new E.Hosts file found is_of says = absurd says.1
+  migrated_table mid new (E.Migrate name) file found is_of says =
+      let said = says.1 in
+      let damaged = said.damaged in
+      record {
+        host = said.place;
+        number = damaged.line.number;
+        file_is = damaged.file_is;
+        found = found;
+        no_table = record {
+          there = λ all is. damaged.no_table.there all (sym said.read.quiet.told_same ∙ is);
+          none = damaged.no_table.none;
+        };
+      }
+  migrated_table mid new event file found is_of says = absurd is_of
+
+  each_of_migration : (calls : List Call) → AreOfMigration calls → AreOf IsOfMigration calls
+  each_of_migration [] each = tt
+  each_of_migration (call ∷ calls) each = (each.0, each_of_migration calls each.1)
+
+  by_refused_migration : (old new : Store D N S d n) (calls : List Call) (file : FileId) (found : Option (List ℕ)) → Moves old calls new
+      → MigrationEnds (G.Refused (R.Damaged file found)) calls → IsDamagedTable (told new.parts.journal) file
+  by_refused_migration old new calls file found moved ends =
+      let last = refused_last IsOfMigration (R.Damaged file found) old new calls moved.each
+      (each_of_migration calls (of_migration (G.Refused (R.Damaged file found)) calls ends)) ends.1 in
+      migrated_table last.mid new last.event file found last.is_of last.serves.damaged
+
+  -- a migration names a table that the disk holds none in when it ends
+  pub migration_foreign : (old new : Store D N S d n) (calls : List Call) (end : MigrationEnd) (failed halted : Bool) (file : FileId)
+      → Moves old calls new → MigrationEnds end calls → note_of_migration end failed halted ≡ Foreign file
+      → IsDamagedTable (told new.parts.journal) file
+  migration_foreign old new calls end failed halted file moved ends is =
+      let named = by_migration end failed halted file is in
+      by_refused_migration old new calls file named.0 moved (subst (λ (e : MigrationEnd). MigrationEnds e calls) named.1 ends)

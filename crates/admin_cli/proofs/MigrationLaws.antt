@@ -47,6 +47,7 @@ use Rattle.admin_cli.proofs.EndLaws.{call_ends, all_ends, said_rose}
 use Rattle.admin_cli.proofs.FolderStops.{wider, refused_at_work}
 use Rattle.admin_cli.proofs.RefusalLaws.{file_of}
 use Rattle.admin_cli.proofs.CauseLaws.{migration_fails}
+use Rattle.admin_cli.proofs.ForeignLaws.{migration_foreign}
 use Rattle.admin_cli.proofs.RunLaws.{is_served, leads, EndsWell}
 
 -- ---- what its calls lead to
@@ -160,6 +161,8 @@ module _ {D N S : Type 0} {d : DiskGhosts D} {n : NamerGhosts N S} (disk : D) (s
             (subst (λ (e : MigrationEnd). Ends e works.calls) is works.ends);
         later = omega (arith, calm, moved.later);
         unasked = refl;
+        foreign = λ file is.
+            migration_foreign store store' works.calls end failed (store'.parts.halted || store'.parts.journal.halted) file moved works.ends is;
         stops = λ is.
             migration_fails d n.digest_of disk store'.parts.journal.disk (store'.parts.halted || store'.parts.journal.halted) works.calls
             (leads disk store store' settles calm listed ready works.calls moved) end failed works.ends is;

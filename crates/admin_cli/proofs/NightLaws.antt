@@ -27,9 +27,9 @@ use Rattle.settings_file.specs.declared.key.Key.TheVariants.{BackupPCNightlyPeri
 use Rattle.settings_file.specs.Document.{value_at, nights_in, IsSettings}
 use Rattle.night_work.specs.declared.ends.NightEnd.{NightEnd}
 use Rattle.night_work.specs.declared.ends.NightEnd.TheVariants as N
-use Rattle.call_scripts.specs.Scripts.{Follows}
+use Rattle.call_scripts.specs.Scripts.{EndRefused, Follows}
 use Rattle.night_work.specs.Script.{night_buckets, night_script}
-use Rattle.night_work.specs.Ends.{EndRefused, Ends, Works}
+use Rattle.night_work.specs.Ends.{Ends, Works}
 use Rattle.night_work.specs.Texts.{text_of}
 use Rattle.admin_cli.specs.declared.note.Note.{Note}
 use Rattle.command_line.specs.Line.{Line, Night}

@@ -24,9 +24,8 @@ use Rattle.office_model.specs.Step.{Call, State, Running, Halted, IsStep, meanin
 use Rattle.office_model.specs.History.{Entry, IsUndamaged, IsHistory, calls_of, last_faults}
 use Rattle.office_model.specs.events.Hosts.{names as names_in}
 use Rattle.office_model.specs.events.Expire.{named_of, without_named}
-use Rattle.call_scripts.specs.Scripts.{FollowsAfter, Follows}
-use Rattle.night_work.specs.Script.{events_after, each_of, night_buckets, night_script}
-use Rattle.night_work.specs.Ends.{EndRefused}
+use Rattle.call_scripts.specs.Scripts.{EndRefused, FollowsAfter, Follows, each_of}
+use Rattle.night_work.specs.Script.{events_after, night_buckets, night_script}
 use Rattle.admin_cli.specs.Nights.{IsRefusedFor}
 
 -- ---- which events a night may call

@@ -3,13 +3,14 @@
 --     HasMigrationCause      why a migration of a store at work is refused
 --     HasNoFirst      no table is of the first layout
 --     DoesMigration      the store was opened, and the migration's calls were made
-use Rattle.std.specs.Prelude.{◌≡◌, ⊤, ℕ, ◌≤◌, Bool, true, false, List, Option}
+use Rattle.std.specs.Prelude.{◌≡◌, ⊤, ℕ, ◌≤◌, Bool, true, false, List, Option, option_map}
 use Rattle.fault_counts.specs.Counts.{Rose}
+use Rattle.disk_trait.specs.declared.ids.FileId.{FileId}
 use Rattle.disk_trait.specs.declared.ids.FileId.TheVariants.{Table}
 use Rattle.disk_trait.specs.declared.disk.Disk.{Ghosts as DiskGhosts}
 use Rattle.disk_trait.specs.Files.{Files}
 use Rattle.stream_traits.specs.Seen.{LinkSeen}
-use Rattle.journal_view.specs.Found.{FindsAll}
+use Rattle.journal_view.specs.Found.{FindsAll, seen}
 use Rattle.office_model.specs.Office.{Durable, raised}
 use Rattle.office_model.specs.Step.{IsPicked}
 use Rattle.office_files.specs.TableLayouts.{is_first_layout}
@@ -23,7 +24,7 @@ use Rattle.admin_cli.specs.declared.note.Note.TheVariants as N
 use Rattle.admin_cli.specs.Command.{AsksFor}
 use Rattle.admin_cli.specs.Asked.{IsSettingsFile}
 use Rattle.admin_cli.specs.Folders.{note_of_call, IsCauseAtWork}
-use Rattle.admin_cli.specs.Nights.{note_of_all, Says}
+use Rattle.admin_cli.specs.Nights.{note_of_all, IsDamagedTable, Says}
 use Rattle.admin_cli.specs.Run.{StandsForEither, LeadsOnDisk}
 
 abbrev pub note_of_migration : MigrationEnd → (failed halted : Bool) → Note
@@ -48,6 +49,7 @@ module _ {D : Type 0} (d : DiskGhosts D) (digest_of : List ℕ → List ℕ) whe
   -- The words ask for `migrate`, the store was opened, and its calls, which are the script of a migration or the beginning of it, lead from
   -- the disk that came in to that handed back. However it ended, all backups are as they were; and if it ran to its end, then whatever
   -- a crash leaves now an opening finds no table of the first layout. The number of hosts was said on the link then. The clock wasn't asked.
+  -- Over any disk a file is named only if it is a table that the disk handed back holds none in.
   pub record DoesMigration (disk disk' : D) (line : Option Line) (settings : List ℕ) (link link' : LinkSeen)
       (moments moments' : Option (List ℕ)) (note : Note) : Type 0 where
     pub asked : AsksFor Migrate line
@@ -65,5 +67,6 @@ module _ {D : Type 0} (d : DiskGhosts D) (digest_of : List ℕ → List ℕ) whe
         → FindsAll (d.files disk') (d.uncertain disk') HasNoFirst
     pub later : d.fault_count disk ≤ d.fault_count disk'
     pub unasked : moments' ≡ moments
+    pub foreign : (file : FileId) → note ≡ N.Foreign file → IsDamagedTable (option_map seen (d.files disk')) file
     pub stops : note ≡ N.DiskFailed → Rose (d.fault_count disk) (d.fault_count disk')
     pub note_is : note ≡ note_of_migration end failed halted

@@ -13,12 +13,12 @@ use Rattle.office_model.specs.declared.answer.Answer.{Answer}
 use Rattle.office_model.specs.declared.answer.Answer.TheVariants as A
 use Rattle.office_model.specs.declared.refusal.Refusal.{Refusal}
 use Rattle.office_model.specs.Step.{Call}
-use Rattle.call_scripts.specs.Scripts.{FollowsAfter}
+use Rattle.call_scripts.specs.Scripts.{FollowsAfter, AreAnswered, EndRefused, each_of, events_of}
 use Rattle.night_work.specs.declared.ends.Night.{Night}
 use Rattle.night_work.specs.declared.ends.NightEnd.TheVariants.{Done, Refused}
-use Rattle.night_work.specs.Script.{events_after, each_of, night_script, night_buckets, night_of, total}
-use Rattle.night_work.specs.Steps.{AreAnswered, events_of, Carried, Stopped, added, AreAtMost, picked}
-use Rattle.night_work.specs.Ends.{EndRefused, Ends, Worked}
+use Rattle.night_work.specs.Script.{events_after, night_script, night_buckets, night_of, total}
+use Rattle.night_work.specs.Steps.{Carried, Stopped, added, AreAtMost, picked}
+use Rattle.night_work.specs.Ends.{Ends, Worked}
 
 -- ---- the next event
 

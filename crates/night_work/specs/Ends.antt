@@ -1,24 +1,16 @@
 -- What a night did, by how it ended.
-use Rattle.std.specs.Prelude.{◌≡◌, ℕ, ℤ, Bool, true, false, List, [], ◌∷◌, Option, Ok, Err}
+use Rattle.std.specs.Prelude.{◌≡◌, ℕ, ℤ, Bool, true, false, List, [], ◌∷◌, Option, Ok}
 use Rattle.wake_schedule.specs.declared.zone.Zone.{Zone}
 use Rattle.wake_schedule.specs.Clock.{local_of}
 use Rattle.wake_schedule.specs.Zones.{ahead_at}
 use Rattle.office_model.specs.declared.event.Event.TheVariants as E
 use Rattle.office_model.specs.declared.answer.Answer.TheVariants as A
-use Rattle.office_model.specs.declared.refusal.Refusal.{Refusal}
 use Rattle.office_model.specs.Step.{Call}
-use Rattle.call_scripts.specs.Scripts.{Follows}
+use Rattle.call_scripts.specs.Scripts.{Follows, AreAnswered, EndRefused}
 use Rattle.call_scripts.specs.Moments.{Gave}
 use Rattle.night_work.specs.declared.ends.NightEnd.{NightEnd}
 use Rattle.night_work.specs.declared.ends.NightEnd.TheVariants.{Done, NotNow, Refused, Memory}
 use Rattle.night_work.specs.Script.{is_due, night_buckets, night_script, night_of}
-use Rattle.night_work.specs.Steps.{AreAnswered}
-
--- the last call was refused so, and those before it were answered
-abbrev pub EndRefused : Refusal → List Call → Type 0
-EndRefused refusal [] = ⊥
-EndRefused refusal ((event, Ok answer) ∷ calls) = EndRefused refusal calls
-EndRefused refusal ((event, Err named) ∷ calls) = (named ≡ refusal) × (calls ≡ [])
 
 -- The calls of a night, which begins at a moment of this day, by its end. They follow the script: to the end if all were answered, or
 -- up to the first refusal.

@@ -12,7 +12,7 @@ use Rattle.office_model.specs.declared.event.Event.TheVariants as E
 use Rattle.office_model.specs.declared.answer.Answer.{Answer}
 use Rattle.office_model.specs.declared.answer.Answer.TheVariants as A
 use Rattle.office_model.specs.Step.{Call}
-use Rattle.call_scripts.specs.Scripts.{Script}
+use Rattle.call_scripts.specs.Scripts.{Script, each_of}
 use Rattle.night_work.specs.declared.ends.Night.{Night}
 
 -- ---- whether it is time
@@ -34,13 +34,6 @@ night_buckets day period = filter (is_nightly day period) (range_with_len 0 16)
 -- what is called once the names of the hosts are known: an expiry of each, a clean of each bucket, and a sweep
 abbrev pub events_after : ℕ → List ℕ → List (List ℕ) → List Event
 events_after moment buckets hosts = map (λ host. E.Expire host moment) hosts ++ (map E.Clean buckets ++ E.Sweep ∷ [])
-
--- one event after the other, and none after a refusal
-abbrev pub each_of : List Event → Script
-each_of [] calls = None
-each_of (event ∷ events) [] = Some event
-each_of (event ∷ events) ((asked, Ok answer) ∷ calls) = each_of events calls
-each_of (event ∷ events) ((asked, Err refusal) ∷ calls) = None
 
 -- the script of a night: first the hosts
 abbrev pub night_script : ℕ → List ℕ → Script

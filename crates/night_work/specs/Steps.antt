@@ -1,20 +1,12 @@
 -- What the steps of a night give: the events that follow the hosts' names, called one after the other.
-use Rattle.std.specs.Prelude.{◌≡◌, ℕ, ℤ, ◌+◌, ◌≤◌, Bool, true, false, List, [], ◌∷◌, ◌++◌, map, Ok, Err}
+use Rattle.std.specs.Prelude.{◌≡◌, ℕ, ℤ, ◌+◌, ◌≤◌, Bool, true, false, List, [], ◌∷◌, ◌++◌, Err}
 use Rattle.office_model.specs.declared.event.Event.{Event}
 use Rattle.office_model.specs.declared.answer.Answer.{Answer}
 use Rattle.office_model.specs.declared.refusal.Refusal.{Refusal}
 use Rattle.office_model.specs.Step.{Call}
+use Rattle.call_scripts.specs.Scripts.{AreAnswered, events_of}
 use Rattle.night_work.specs.Script.{expired_in, marked_in, unmarked_in, removed_in, night_of}
 use Rattle.night_work.specs.declared.ends.Night.{Night}
-
--- each call was answered
-abbrev pub AreAnswered : List Call → Type 0
-AreAnswered [] = Unit {0}
-AreAnswered ((event, Ok answer) ∷ calls) = AreAnswered calls
-AreAnswered ((event, Err refusal) ∷ calls) = ⊥
-
-abbrev pub events_of : List Call → List Event
-events_of calls = map (λ call. call.0) calls
 
 -- these events were called, and each was answered
 pub record Carried {P : Type 0} (moves : P → List Call → P → Type 0) (old new : P) (day : ℤ) (events : List Event) (night : Night)
