@@ -5,8 +5,8 @@ crate's src/, specs/ and proofs/. A line is printed for each of these, and the s
 
   - a crate of crates.txt in no layer or in two, a crate of the table that crates.txt hasn't, a layer that isn't there;
   - a crate that names one of a layer that its own may not name; a row of crates.txt with a crate of a higher layer;
-  - a name that its crate's row of crates.txt doesn't lead to; a row that leads to itself; a name in a row that no line of its crate
-    names (rt walks every path of crates.txt, so a spare name costs each check);
+  - a name that its crate's row of crates.txt hasn't; a row that leads to itself; a name in a row that no line of its crate names;
+    more paths through crates.txt than WALKS (rt walks every one of them, twice for each proof: docs/ARCHITECTURE.md);
   - a crate that names what the second table keeps from it;
   - a crate over 1,500 lines of code (blank lines and comments apart) or 100 functions (`fn` of src/, tests too);
   - a line of a definition over 140 columns: of a file of specs/ without laws, `use` lines and comments apart;
@@ -20,7 +20,7 @@ import os
 import re
 import sys
 
-LINES, FUNCTIONS, COLUMNS = 1_500, 100, 140
+LINES, FUNCTIONS, COLUMNS, WALKS = 1_500, 100, 140, 1_500_000
 # What the kit always has, under `Rattle.` and in paths.
 ALWAYS = {"std", "core", "mathlib"}
 # First parts of a path that are the crate's own.
@@ -161,6 +161,19 @@ class Crate:
             self.places.setdefault(crate, place)
 
 
+def walks(rows, name, seen):
+    """How many paths lead down from a row, its own among them; 0 for a crate of the kit. Stops at a row that leads to itself."""
+    if name not in seen:
+        seen[name] = 0
+        seen[name] = 1 + sum(walks(rows, it, seen) for it in rows[name]) if name in rows else 0
+    return seen[name]
+
+
+def walks_of(rows):
+    seen = {}
+    return sum(walks(rows, it, seen) for it in rows)
+
+
 def below(rows, name, seen):
     """All crates that a row leads to, with those of the kit."""
     if name not in seen:
@@ -198,8 +211,11 @@ def judge_rows(rows, crates):
             yield f"crates.txt: {name} leads to itself"
     for crate in crates:
         for other, place in crate.places.items():
-            if other not in seen[crate.name] and other not in ALWAYS:
-                yield f"{place}: {crate.name} names {other}, to which its row of crates.txt doesn't lead"
+            if other not in rows[crate.name] and other not in ALWAYS:
+                yield f"{place}: {crate.name} names {other}, which its row of crates.txt hasn't"
+    count = walks_of(rows)
+    if count > WALKS:
+        yield f"crates.txt: {count:,} paths, where {WALKS:,} may be: pass names on (docs/ARCHITECTURE.md, 'Rows of crates.txt')"
 
 
 def judge_names(page, crates):
@@ -257,7 +273,7 @@ def main():
     if asked.mixed:
         print("\n".join(mixed))
     print(f"{len(mixed)} files of specs/ mix definitions with laws")
-    print(f"{len(rows)} crates in {len(page.layers)} layers, {len(faults)} faults")
+    print(f"{len(rows)} crates in {len(page.layers)} layers, {walks_of(rows):,} paths through crates.txt, {len(faults)} faults")
     return 1 if faults else 0
 
 
