@@ -124,6 +124,10 @@ by_migration (G.Refused refusal) failed halted file e =
     let named = by_call refusal halted file e in (named.0, λ i. G.Refused (named.1 i))
 by_migration G.Memory failed halted file e = let no : ⊥ = cc (e) in absurd no
 
+each_of_migration : (calls : List Call) → AreOfMigration calls → AreOf IsOfMigration calls
+each_of_migration [] each = tt
+each_of_migration (call ∷ calls) each = (each.0, each_of_migration calls each.1)
+
 module _ {D N S : Type 0} {d : DiskGhosts D} {n : NamerGhosts N S} where
   -- the call that was refused
   record IsRefusedLast (of : Event → Type 0) (refusal : Refusal) (new : Store D N S d n) : Type 0 where
@@ -204,10 +208,6 @@ module _ {D N S : Type 0} {d : DiskGhosts D} {n : NamerGhosts N S} where
         };
       }
   migrated_table mid new event file found is_of says = absurd is_of
-
-  each_of_migration : (calls : List Call) → AreOfMigration calls → AreOf IsOfMigration calls
-  each_of_migration [] each = tt
-  each_of_migration (call ∷ calls) each = (each.0, each_of_migration calls each.1)
 
   by_refused_migration : (old new : Store D N S d n) (calls : List Call) (file : FileId) (found : Option (List ℕ)) → Moves old calls new
       → MigrationEnds (G.Refused (R.Damaged file found)) calls → IsDamagedTable (told new.parts.journal) file
