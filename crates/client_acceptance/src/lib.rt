@@ -1,6 +1,8 @@
-//! Tests of the client's end of HTTP, alone and against the server's end. They use only what the crates show, and stand apart from them,
+//! Tests of the client's end of HTTP, alone and against the server's end, and of what it asks and reads. They use only what the crates show, and stand apart from them,
 //! so that each crate is proved once.
 #![tactic(auto)]
 
 #[cfg(test)]
 mod http_client_tests;
+#[cfg(test)]
+mod pull_texts_tests;

@@ -1,0 +1,7 @@
+pub mod CutLemmas
+pub mod NameLemmas
+pub mod PathLemmas
+pub mod PlainLemmas
+pub mod QueryLemmas
+pub mod ReadBack
+pub mod ReadLemmas

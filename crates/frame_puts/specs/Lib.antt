@@ -1,0 +1,5 @@
+pub mod Steps
+pub mod StepLaws
+pub mod Laid
+pub mod Runs
+pub mod RunLaws
