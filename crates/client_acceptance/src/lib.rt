@@ -5,4 +5,6 @@
 #[cfg(test)]
 mod http_client_tests;
 #[cfg(test)]
+mod peer_tests;
+#[cfg(test)]
 mod pull_texts_tests;
