@@ -40,10 +40,18 @@ fn expect_none_listed(alloc: Global, wire: &mut Wire<MemoryLink>) -> Result<(), 
     Err(Fail::new("another listing"))
 }
 
+fn expect_path(path: &[u8]) -> Result<(), Fail> {
+    if path == b"a".as_slice() {
+        return Ok(());
+    }
+    Err(Fail::new("another path"))
+}
+
 /// Reads a frame, which is a removal.
 fn expect_removal(alloc: Global, wire: &mut Wire<MemoryLink>) -> Result<(), Fail> {
-    match next_frame(alloc, wire, RESTORE) {
-        Ok(Frame::Deleted(path)) if path.as_slice() == b"a".as_slice() => Ok(()),
+    let frame = next_frame(alloc, wire, RESTORE).map_err(failed)?;
+    match frame {
+        Frame::Deleted(path) => expect_path(path.as_slice()),
         _ => Err(Fail::new("another frame")),
     }
 }
