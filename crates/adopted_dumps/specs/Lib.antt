@@ -1,0 +1,6 @@
+pub mod Adopted
+pub mod SplitLaws
+pub mod PartLaws
+pub mod FillLaws
+pub mod GainLaws
+pub mod AdoptedLaws
