@@ -1,0 +1,4 @@
+mod CountLaws
+mod GoesLaws
+mod HostLaws
+mod PartLaws
