@@ -1,0 +1,13 @@
+pub mod Replicas
+pub mod ListLaws
+pub mod FrameLaws
+pub mod HeardLaws
+pub mod HomeLaws
+pub mod AnswerLaws
+pub mod Courses
+pub mod RunLaws
+pub mod EndLaws
+pub mod HomeTurnLaws
+pub mod JobTurnLaws
+pub mod DumpTurnLaws
+pub mod ReplicaLaws
