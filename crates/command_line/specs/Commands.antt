@@ -61,7 +61,7 @@ night_app = with_rule (common_app (codes "night")) (flag_rule (codes "scheduled"
 abbrev pub migrate_app : App
 migrate_app = common_app (codes "migrate")
 
--- what each subcommand of a folder has beside them: `--host H`
+-- what each subcommand of one host has beside them: `--host H`
 abbrev pub host_app : List ℕ → App
 host_app name = with_rule (common_app name) (required_rule (codes "host"))
 
@@ -78,6 +78,10 @@ restore_folder_app =
 -- `demo NUMBER`
 abbrev pub demo_app : App
 demo_app = with_rule (common_app (codes "demo")) (number_word_rule (codes "number"))
+
+-- `pull --host H --from ADDR`
+abbrev pub pull_app : App
+pull_app = with_rule (host_app (codes "pull")) (required_rule (codes "from"))
 
 -- the program's name, with help turned off and a subcommand wanted
 abbrev pub top_app : App
@@ -104,4 +108,4 @@ folders_app = with_subcommand (with_subcommand served_app dump_folder_app.top) r
 
 -- the whole command
 abbrev pub program_app : App
-program_app = with_subcommand folders_app demo_app.top
+program_app = with_subcommand (with_subcommand folders_app demo_app.top) pull_app.top

@@ -23,8 +23,8 @@ use Rattle.command_line.specs.declared.line.Work.{Work}
 use Rattle.command_line.specs.declared.line.Work.TheVariants as work
 
 -- what a line asks for; of Serve, the address and the number of links, of Night, whether only where the schedule says so, of
--- DumpFolder, the host, the backup's kind and the folder, of RestoreFolder, the host, the backup's number and the folder, and of Demo,
--- the number that it is drawn from
+-- DumpFolder, the host, the backup's kind and the folder, of RestoreFolder, the host, the backup's number and the folder, of Demo,
+-- the number that it is drawn from, and of Pull, the host and the other server's address
 pub data Task : Type 0 where
   Pipe : Task
   Serve : List ℕ → Option ℕ → Task
@@ -33,6 +33,7 @@ pub data Task : Type 0 where
   DumpFolder : List ℕ → Kind → List ℕ → Task
   RestoreFolder : List ℕ → ℕ → List ℕ → Task
   Demo : ℕ → Task
+  Pull : List ℕ → List ℕ → Task
 
 -- a line: the store's folder, the settings' file and what it asks for
 pub record Line : Type 0 where
@@ -101,6 +102,10 @@ restore_folder_in rows =
 abbrev pub demo_in : List Row → Option Task
 demo_in rows = option_map (λ number. Demo number) (needed_number_in (2 ^ 64) (codes "number") rows)
 
+-- what `pull` asks for with these matches
+abbrev pub pull_in : List Row → Option Task
+pull_in rows = option_and_then (λ host. option_map (λ from. Pull host from) (first_of (codes "from") rows)) (host_in rows)
+
 -- what the subcommand of this name asks for with these matches
 abbrev pub task_in : List ℕ → List Row → Option Task
 task_in name rows =
@@ -110,7 +115,8 @@ task_in name rows =
     else (if bytes_eq name (codes "migrate") then Some Migrate
     else (if bytes_eq name (codes "dump-folder") then dump_folder_in rows
     else (if bytes_eq name (codes "restore-folder") then restore_folder_in rows
-    else (if bytes_eq name (codes "demo") then demo_in rows else None))))))
+    else (if bytes_eq name (codes "demo") then demo_in rows
+    else (if bytes_eq name (codes "pull") then pull_in rows else None)))))))
 
 -- the line of a subcommand with its matches
 abbrev pub line_in : List ℕ × List Row → Option Line
@@ -134,7 +140,8 @@ usage =
     ++ (codes "       backup_server migrate --store DIR [--settings FILE]\n"
     ++ (codes "       backup_server dump-folder --host H --kind full|incr --store DIR [--settings FILE] FOLDER\n"
     ++ (codes "       backup_server restore-folder --host H --number N --store DIR [--settings FILE] FOLDER\n"
-    ++ codes "       backup_server demo --store DIR [--settings FILE] NUMBER")))))
+    ++ (codes "       backup_server demo --store DIR [--settings FILE] NUMBER\n"
+    ++ codes "       backup_server pull --host H --from ADDR --store DIR [--settings FILE]"))))))
 
 -- the matches of a subcommand
 abbrev pub rows_in : ArgMatches → List Row
@@ -149,6 +156,7 @@ task_of work.Migrate = Migrate
 task_of (work.DumpFolder host kind folder) = DumpFolder host kind (string_bytes folder)
 task_of (work.RestoreFolder host number folder) = RestoreFolder host number (string_bytes folder)
 task_of (work.Demo number) = Demo number
+task_of (work.Pull host from) = Pull host (string_bytes from)
 
 abbrev pub meaning : CommandLine → Line
 meaning line = record {

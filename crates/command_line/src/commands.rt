@@ -1,7 +1,7 @@
 //! The command as clap takes it.
 ghost use Rattle.std.specs.Prelude.{◌≡◌, false, IfOk};
 ghost use Rattle.clap.specs.Walk.{rule_of};
-ghost use Rattle.command_line.specs.Commands.{IsCommandOf, option_rule, required_rule, number_rule, required_number_rule, flag_rule, word_rule, number_word_rule, common_app, pipe_app, serve_app, night_app, migrate_app, host_app, dump_folder_app, restore_folder_app, demo_app, top_app, links_app, served_app, folders_app, program_app};
+ghost use Rattle.command_line.specs.Commands.{IsCommandOf, option_rule, required_rule, number_rule, required_number_rule, flag_rule, word_rule, number_word_rule, common_app, pipe_app, serve_app, night_app, migrate_app, host_app, dump_folder_app, restore_folder_app, demo_app, pull_app, top_app, links_app, served_app, folders_app, program_app};
 
 use clap::{Arg, ArgAction, Command, value_parser};
 use std::alloc::{AllocError, Global};
@@ -108,7 +108,7 @@ fn migrate<'a>(alloc: Global) -> Result<Command<'a>, AllocError>
     subcommand(alloc, "migrate")
 }
 
-/// A subcommand of a folder: with a host beside those options.
+/// A subcommand of one host: with that beside those options.
 fn host_subcommand<'a>(alloc: Global, name: &'a str) -> Result<Command<'a>, AllocError>
     ensures { IfOk result (λ c. IsCommandOf (host_app name.now) c) }
 {
@@ -138,6 +138,13 @@ fn demo<'a>(alloc: Global) -> Result<Command<'a>, AllocError>
     ensures { IfOk result (λ c. IsCommandOf demo_app c) }
 {
     subcommand(alloc, "demo")?.arg(number_word(alloc, "number"))
+}
+
+/// `pull`.
+fn pull<'a>(alloc: Global) -> Result<Command<'a>, AllocError>
+    ensures { IfOk result (λ c. IsCommandOf pull_app c) }
+{
+    host_subcommand(alloc, "pull")?.arg(required_option(alloc, "from"))
 }
 
 /// The program's name, with help turned off.
@@ -181,5 +188,7 @@ fn folders<'a>(alloc: Global) -> Result<Command<'a>, AllocError>
 pub(crate) fn program<'a>(alloc: Global) -> Result<Command<'a>, AllocError>
     ensures { IfOk result (λ c. IsCommandOf program_app c) }
 {
-    folders(alloc)?.subcommand(demo(alloc)?)
+    folders(alloc)?
+        .subcommand(demo(alloc)?)?
+        .subcommand(pull(alloc)?)
 }

@@ -1,6 +1,6 @@
 //! The words of the command line, read by the kit's `clap`: one level of subcommands, each with the required option `--store`
 //! and the optional `--settings`. The two subcommands of a folder have a host, and the folder as a word without an option; `demo` has a number as such
-//! a word. The crate knows words, and opens nothing. The main clause of [`parse`]: a line is what `line_of`
+//! a word, and `pull` a host and an address. The crate knows words, and opens nothing. The main clause of [`parse`]: a line is what `line_of`
 //! of specs/ makes of the words, and `NoParse` comes only where that is none. `line_of` reads what clap itself says of a simple
 //! command: there is a line where it finds no fault in the words and its matches give a subcommand with its store. clap takes any text
 //! as a host or a kind: a line's host is a host's name, and its kind is `full` or `incr`.
@@ -26,7 +26,7 @@
 #![tactic(auto)]
 
 mod commands;
-mod folders;
+mod hosts;
 mod line;
 mod matches;
 mod parsed;

@@ -4,7 +4,7 @@ ghost use Rattle.std.specs.String.{string_bytes};
 ghost use Rattle.clap.specs.Simple.{subcommand_rows_of};
 ghost use Rattle.command_line.specs.Line.{demo_in, line_in, line_of, meaning, rows_in, serve_in, task_in, task_of};
 
-use crate::folders::{dump_folder_in, restore_folder_in};
+use crate::hosts::{dump_folder_in, pull_in, restore_folder_in};
 use crate::matches::{
     flag_in, matches_of, needed_long_number_in, number_in, subcommand_in, text_in,
 };
@@ -47,6 +47,11 @@ pub enum Work {
     /// Does a job of sixty days that is drawn from a number, in a store without hosts.
     Demo {
         number: u64,
+    },
+    /// Brings the host's backups from the server at an address.
+    Pull {
+        host: HostName,
+        from: String,
     },
 }
 
@@ -137,6 +142,8 @@ fn work_in(alloc: Global, name: &str, found: &ArgMatches<'_>) -> Result<Work, Li
         restore_folder_in(alloc, found)
     } else if name == "demo" {
         demo_in(found)
+    } else if name == "pull" {
+        pull_in(alloc, found)
     } else {
         Err(LineFault::NoParse)
     }

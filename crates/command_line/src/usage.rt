@@ -11,7 +11,7 @@ use std::alloc::{AllocError, Global};
 
 /// How the program is called.
 pub const USAGE: &str =
-    "usage: backup_server pipe --store DIR [--settings FILE]\n       backup_server serve --listen ADDR [--connections N] --store DIR [--settings FILE]\n       backup_server night [--scheduled] --store DIR [--settings FILE]\n       backup_server migrate --store DIR [--settings FILE]\n       backup_server dump-folder --host H --kind full|incr --store DIR [--settings FILE] FOLDER\n       backup_server restore-folder --host H --number N --store DIR [--settings FILE] FOLDER\n       backup_server demo --store DIR [--settings FILE] NUMBER";
+    "usage: backup_server pipe --store DIR [--settings FILE]\n       backup_server serve --listen ADDR [--connections N] --store DIR [--settings FILE]\n       backup_server night [--scheduled] --store DIR [--settings FILE]\n       backup_server migrate --store DIR [--settings FILE]\n       backup_server dump-folder --host H --kind full|incr --store DIR [--settings FILE] FOLDER\n       backup_server restore-folder --host H --number N --store DIR [--settings FILE] FOLDER\n       backup_server demo --store DIR [--settings FILE] NUMBER\n       backup_server pull --host H --from ADDR --store DIR [--settings FILE]";
 
 /// clap's own message of what is wrong in the words, and nothing of words that it takes. What it says of others is in no clause, since
 /// the `Display` of clap's error states no text.

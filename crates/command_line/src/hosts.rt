@@ -1,6 +1,6 @@
-//! What the subcommands of a folder ask for.
+//! What the subcommands of one host ask for.
 ghost use Rattle.std.specs.Prelude.{◌≡◌, None, Some, IfErr, IfOk};
-ghost use Rattle.command_line.specs.Line.{dump_folder_in, host_in, kind_in, kind_of, restore_folder_in, rows_in, task_of};
+ghost use Rattle.command_line.specs.Line.{dump_folder_in, host_in, kind_in, kind_of, pull_in, restore_folder_in, rows_in, task_of};
 
 use crate::line::{LineFault, Work};
 use crate::matches::{needed_number_in, text_in};
@@ -81,4 +81,17 @@ pub(crate) fn restore_folder_in(alloc: Global, found: &ArgMatches<'_>) -> Result
         number,
         folder,
     })
+}
+
+/// What `pull` asks for, by its options.
+pub(crate) fn pull_in(alloc: Global, found: &ArgMatches<'_>) -> Result<Work, LineFault>
+    ensures ok { IfOk result (λ work. pull_in (rows_in found.now) ≡ Some (task_of work)) }
+    ensures none { IfErr result (λ fault. fault ≡ LineFault.NoParse → pull_in (rows_in found.now) ≡ None) }
+{
+    let host = host_in(alloc, found)?;
+    let Some(from) = text_in(found, "from") else {
+        return Err(LineFault::NoParse);
+    };
+    let from = String::from_str(alloc, from)?;
+    Ok(Work::Pull { host, from })
 }
