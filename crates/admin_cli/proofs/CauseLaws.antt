@@ -1,5 +1,5 @@
 -- Why a run says that the disk failed, over any disk, of a command that calls no reopening: the disk's count rose.
---     night_fails, migration_fails, demo_fails, restore_fails
+--     night_fails, migration_fails, demo_fails, restore_fails, pull_fails
 use Rattle.std.specs.Prelude.{◌⊎◌, ◌++◌, Result}
 use Rattle.std.proofs.Common.{◌≡◌, ℕ, ℤ, Bool, true, false, List, [], ◌∷◌, Option, Ok, Err, refl, ap, subst, sym, inl, inr}
 use Rattle.fault_counts.specs.Counts.{Rose}
@@ -20,6 +20,8 @@ use Rattle.migrate_work.specs.Ends.{Ends as MigrationEnds}
 use Rattle.demo_work.specs.declared.ends.DemoEnd.{DemoEnd}
 use Rattle.demo_work.specs.declared.ends.DemoEnd.TheVariants as Demo
 use Rattle.demo_work.specs.Ends.{Ends as DemoEnds}
+use Rattle.pull_work.specs.declared.ends.PullEnd.{PullEnd}
+use Rattle.pull_work.specs.declared.ends.PullEnd.TheVariants as Pull
 use Rattle.folder_restore.specs.declared.refusals.RestoreRefusal.{RestoreRefusal}
 use Rattle.folder_restore.specs.declared.refusals.RestoreRefusal.TheVariants as Restore
 use Rattle.admin_cli.specs.declared.note.Note.{Note}
@@ -27,9 +29,11 @@ use Rattle.admin_cli.specs.declared.note.Note.TheVariants as N
 use Rattle.admin_cli.specs.Nights.{note_of_all, note_of_night}
 use Rattle.admin_cli.specs.Migrations.{note_of_migration}
 use Rattle.admin_cli.specs.Demos.{note_of_demo}
+use Rattle.admin_cli.specs.Pulls.{note_of_pull}
 use Rattle.admin_cli.specs.Folders.{note_of_rule, note_of_call, note_of_restore, Restores}
 use Rattle.admin_cli.specs.Run.{LeadsOnDisk}
 use Rattle.admin_cli.proofs.OtherLaws.{AreOthers, rose_since, night_others, migration_others, demo_others, restored_others, stopped_others}
+use Rattle.admin_cli.proofs.PullCalls.{EndedBy}
 
 -- ---- the last call failed
 
@@ -48,6 +52,11 @@ failed_refused refusal ((event, Err named) ∷ calls) of ended = failed_call nam
 failed_last : (refusal : Refusal) (before : List Call) (event : Event) → IsOfDisk refusal → HasFailed (before ++ (event, Err refusal) ∷ [])
 failed_last refusal [] event of = failed_call refusal event [] of
 failed_last refusal (call ∷ before) event of = inr (failed_last refusal before event of)
+
+failed_among : (refusal : Refusal) (before : List Call) (event : Event) (behind : List Call) → IsOfDisk refusal
+    → HasFailed (before ++ (event, Err refusal) ∷ behind)
+failed_among refusal [] event behind of = failed_call refusal event behind of
+failed_among refusal (call ∷ before) event behind of = inr (failed_among refusal before event behind of)
 
 -- ---- what the note says
 
@@ -114,6 +123,17 @@ module _ {D : Type 0} (d : DiskGhosts D) (digest_of : List ℕ → List ℕ) (di
         (λ of. subst HasFailed (sym ends.stopped.parts) (failed_last refusal ends.stopped.before ends.stopped.event of)) e
     demo_rose number Demo.Memory failed ends e = let no : ⊥ = cc (e) in absurd no
 
+    pull_rose : (host : List ℕ) (end : PullEnd) → EndedBy end calls → note_of_pull host end halted ≡ N.DiskFailed → HasRisen
+    pull_rose host (Pull.Done count) ended e =
+        rose_halted (rule_said (N.Pulled host count) halted (λ same. let no : ⊥ = cc (same) in no) e)
+    pull_rose host (Pull.Refused refusal) ended e = rose_called refusal
+        (λ of. subst HasFailed (sym ended.parts) (failed_among refusal ended.before ended.event ended.behind of)) e
+    pull_rose host (Pull.PeerRefused status) ended e =
+        rose_halted (rule_said (N.PeerRefused status) halted (λ same. let no : ⊥ = cc (same) in no) e)
+    pull_rose host Pull.PeerForeign ended e = rose_halted (rule_said N.PeerForeign halted (λ same. let no : ⊥ = cc (same) in no) e)
+    pull_rose host Pull.LinkFault ended e = let no : ⊥ = cc (e) in absurd no
+    pull_rose host Pull.Memory ended e = let no : ⊥ = cc (e) in absurd no
+
   pub night_fails : (calls : List Call) → LeadsOnDisk d digest_of halted disk calls disk' → (moment : ℕ) (day : ℤ) (period : ℕ)
       (end : NightEnd) (failed : Bool) → NightEnds moment day period end calls → note_of_night end failed halted ≡ N.DiskFailed → HasRisen
   night_fails calls leads moment day period end failed ends e =
@@ -126,6 +146,10 @@ module _ {D : Type 0} (d : DiskGhosts D) (digest_of : List ℕ → List ℕ) (di
   pub demo_fails : (calls : List Call) → LeadsOnDisk d digest_of halted disk calls disk' → (number : ℕ) (end : DemoEnd) (failed : Bool)
       → DemoEnds number end calls → note_of_demo end failed halted ≡ N.DiskFailed → HasRisen
   demo_fails calls leads number end failed ends e = demo_rose calls leads (demo_others number end calls ends) number end failed ends e
+
+  pub pull_fails : (calls : List Call) → LeadsOnDisk d digest_of halted disk calls disk' → AreOthers calls → (host : List ℕ) (end : PullEnd)
+      → EndedBy end calls → note_of_pull host end halted ≡ N.DiskFailed → HasRisen
+  pull_fails calls leads others host end ended e = pull_rose calls leads others host end ended e
 
   pub restore_fails : (told told' : Option Tree) (host : List ℕ) (number : ℕ) (result : Result ℕ RestoreRefusal) (failed : Bool)
       → Restores (LeadsOnDisk d digest_of halted) disk disk' told told' host number result

@@ -1,5 +1,5 @@
 -- What a run promises, whatever it was.
---     runs_pipe, runs_night, runs_migration, runs_demo, runs_dump, runs_restore, runs_doors, complete, tells
+--     runs_pipe, runs_night, runs_migration, runs_demo, runs_pull, runs_dump, runs_restore, runs_doors, complete, tells
 use Rattle.std.specs.Prelude.{◌⊎◌}
 use Rattle.std.proofs.Common.{◌≡◌, ℕ, List, Option, inl, inr, refl}
 use Rattle.disk_trait.specs.declared.disk.Disk.{Ghosts as DiskGhosts}
@@ -8,20 +8,22 @@ use Rattle.stream_traits.specs.Seen.{LinkSeen}
 use Rattle.folder_trait.specs.declared.folder.Folder.{Ghosts as FolderGhosts}
 use Rattle.door_server.specs.declared.worker.Worker.{Worker}
 use Rattle.admin_cli.specs.declared.note.Note.{Note}
-use Rattle.command_line.specs.Line.{Line, Pipe, Serve, Night, Migrate, DumpFolder, RestoreFolder, Demo}
+use Rattle.command_line.specs.Line.{Line, Pipe, Serve, Night, Migrate, DumpFolder, RestoreFolder, Demo, Pull}
 use Rattle.admin_cli.specs.Asked.{TellsRefusals}
 use Rattle.admin_cli.specs.Nights.{DoesNight}
 use Rattle.admin_cli.specs.Migrations.{DoesMigration}
 use Rattle.admin_cli.specs.Demos.{DoesDemo}
+use Rattle.admin_cli.specs.Pulls.{DoesPull}
 use Rattle.admin_cli.specs.Folders.{DumpsFolder, RestoresFolder}
 use Rattle.admin_cli.specs.Run.{Serves, IsCause, Refuses, IsComplete}
 use Rattle.admin_cli.specs.Servers.{counts_of, has_risen, ServesStore}
 use Rattle.admin_cli.specs.Runs.{RunsAlone, RunsOnLink, Runs}
-use Rattle.admin_cli.proofs.RefusalLaws.{said_task, tells_served, tells_night, tells_migration, tells_demo, tells_dump, tells_restore, tells_doors, tells_nobody}
+use Rattle.admin_cli.proofs.RefusalLaws.{said_task, tells_served, tells_night, tells_migration, tells_demo, tells_pull, tells_dump, tells_restore, tells_doors, tells_nobody}
 use Rattle.admin_cli.proofs.RunLaws.{serves_complete, refused_complete, refused_tells}
 use Rattle.admin_cli.proofs.NightLaws.{night_complete}
 use Rattle.admin_cli.proofs.MigrationLaws.{migration_complete}
 use Rattle.admin_cli.proofs.DemoLaws.{demo_complete}
+use Rattle.admin_cli.proofs.PullLaws.{pull_complete}
 use Rattle.admin_cli.proofs.FolderLaws.{dump_complete, restore_complete}
 use Rattle.admin_cli.proofs.ServerLaws.{doors_complete, nobody_complete}
 
@@ -31,7 +33,7 @@ module _ {D F : Type 0} (d : DiskGhosts D) (f : FolderGhosts F) (digest_of : Lis
 
   pub runs_refused : Refuses d digest_of disk disk' line settings link link' moments moments' note → folder' ≡ folder
       → RunsOnLink d f digest_of disk disk' line settings link link' moments moments' folder folder' note
-  runs_refused r same = inl (inr (inr (inr (inr r))), same)
+  runs_refused r same = inl (inr (inr (inr (inr (inr r)))), same)
 
   pub runs_pipe : Serves d digest_of disk disk' line settings link link' moments moments' note
       ⊎ Refuses d digest_of disk disk' line settings link link' moments moments' note → folder' ≡ folder
@@ -56,6 +58,12 @@ module _ {D F : Type 0} (d : DiskGhosts D) (f : FolderGhosts F) (digest_of : Lis
       → RunsOnLink d f digest_of disk disk' line settings link link' moments moments' folder folder' note
   runs_demo (inl s) same = inl (inr (inr (inr (inl s))), same)
   runs_demo (inr r) same = runs_refused r same
+
+  pub runs_pull : DoesPull d digest_of disk disk' line settings link link' moments moments' note
+      ⊎ Refuses d digest_of disk disk' line settings link link' moments moments' note → folder' ≡ folder
+      → RunsOnLink d f digest_of disk disk' line settings link link' moments moments' folder folder' note
+  runs_pull (inl s) same = inl (inr (inr (inr (inr (inl s)))), same)
+  runs_pull (inr r) same = runs_refused r same
 
   pub runs_dump : DumpsFolder d digest_of f disk disk' line settings link link' moments moments' folder folder' note
       ⊎ (Refuses d digest_of disk disk' line settings link link' moments moments' note × (folder' ≡ folder))
@@ -82,7 +90,9 @@ module _ {D F : Type 0} (d : DiskGhosts D) (f : FolderGhosts F) (digest_of : Lis
       migration_complete d digest_of disk disk' linked linked' note doors doors' entered entered' line settings link link' moments moments' s is is'
   alone_complete linked linked' doors doors' entered entered' (inr (inr (inr (inl s)))) is is' =
       demo_complete d digest_of disk disk' linked linked' note doors doors' entered entered' line settings link link' moments moments' s is is'
-  alone_complete linked linked' doors doors' entered entered' (inr (inr (inr (inr r)))) is is' =
+  alone_complete linked linked' doors doors' entered entered' (inr (inr (inr (inr (inl s))))) is is' =
+      pull_complete d digest_of disk disk' linked linked' note doors doors' entered entered' line settings link link' moments moments' s is is'
+  alone_complete linked linked' doors doors' entered entered' (inr (inr (inr (inr (inr r))))) is is' =
       refused_complete d digest_of disk disk' linked linked' note doors doors' entered entered' line settings r.cause
 
   link_complete : (linked linked' : ℕ) (doors doors' : List ℕ)
@@ -104,7 +114,9 @@ module _ {D F : Type 0} (d : DiskGhosts D) (f : FolderGhosts F) (digest_of : Lis
       tells_migration line settings note s.end s.failed s.halted (said_task line Migrate s.asked) s.read s.note_is
   alone_tells (inr (inr (inr (inl s)))) =
       tells_demo line settings note s.end s.failed s.halted (said_task line (Demo s.number) s.asked) s.read s.note_is
-  alone_tells (inr (inr (inr (inr r)))) = refused_tells d digest_of disk disk' 0 0 note line settings r.cause
+  alone_tells (inr (inr (inr (inr (inl s))))) =
+      tells_pull line settings s.read note s.host s.end s.halted (said_task line (Pull s.host s.from) s.asked) s.is_read s.note_is
+  alone_tells (inr (inr (inr (inr (inr r))))) = refused_tells d digest_of disk disk' 0 0 note line settings r.cause
 
   link_tells : RunsOnLink d f digest_of disk disk' line settings link link' moments moments' folder folder' note → TellsRefusals line settings note
   link_tells (inl s) = alone_tells s.0

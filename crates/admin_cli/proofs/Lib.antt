@@ -10,6 +10,9 @@ pub mod HostLaws
 pub mod MigrationLaws
 pub mod NightLaws
 pub mod OtherLaws
+pub mod PullCalls
+pub mod PullLaws
+pub mod PullStops
 pub mod RefusalLaws
 pub mod RunLaws
 pub mod ServerLaws

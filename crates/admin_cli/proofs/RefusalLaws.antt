@@ -1,7 +1,7 @@
 -- What the words and the settings let a run say.
 --     file_of, refused_for_memory      settings that were read are a settings file, which is refused for want of memory alone
 --     refused_line      words that were refused
---     tells_served, tells_night, tells_migration, tells_dump, tells_restore, tells_doors, tells_nobody, tells_refused, tells_unopened      when the statuses 2 and 7 come
+--     tells_served, tells_night, tells_migration, tells_demo, tells_pull, tells_dump, tells_restore, tells_doors, tells_nobody, tells_refused, tells_unopened      when the statuses 2 and 7 come
 use Rattle.std.specs.Prelude.{IsSome, Result, ◌⊎◌}
 use Rattle.std.proofs.Common.{◌≡◌, ℕ, Bool, true, false, List, Option, None, Some, Ok, Err, refl, sym, ap, ◌∙◌, subst, inl, inr, arith}
 use Rattle.std.proofs.lemmas.Bool.{false≢true}
@@ -19,6 +19,8 @@ use Rattle.migrate_work.specs.declared.ends.MigrationEnd.{MigrationEnd}
 use Rattle.migrate_work.specs.declared.ends.MigrationEnd.TheVariants as G
 use Rattle.demo_work.specs.declared.ends.DemoEnd.{DemoEnd}
 use Rattle.demo_work.specs.declared.ends.DemoEnd.TheVariants as M
+use Rattle.pull_work.specs.declared.ends.PullEnd.{PullEnd}
+use Rattle.pull_work.specs.declared.ends.PullEnd.TheVariants as B
 use Rattle.folder_walk.specs.declared.refusals.DumpRefusal.{DumpRefusal}
 use Rattle.folder_walk.specs.declared.refusals.DumpRefusal.TheVariants as P
 use Rattle.folder_restore.specs.declared.refusals.RestoreRefusal.{RestoreRefusal}
@@ -26,7 +28,7 @@ use Rattle.folder_restore.specs.declared.refusals.RestoreRefusal.TheVariants as 
 use Rattle.browse_http.specs.declared.end.End.{End}
 use Rattle.browse_http.specs.declared.end.End.TheVariants.{Ended, Truncated, BadRequest, LinkFault, Memory, Cut}
 use Rattle.admin_cli.specs.declared.note.Note.{Note}
-use Rattle.admin_cli.specs.declared.note.Note.TheVariants.{Usage, NoMemory, DiskFailed, Foreign, Refused, BadPath, BadTarget, FileTooLarge, FolderNotEmpty, StoreNotEmpty, FolderFailed}
+use Rattle.admin_cli.specs.declared.note.Note.TheVariants.{Usage, NoMemory, LinkFailed, DiskFailed, Foreign, Refused, BadPath, BadTarget, FileTooLarge, FolderNotEmpty, StoreNotEmpty, FolderFailed, Pulled, PeerRefused, PeerForeign}
 use Rattle.admin_cli.specs.Statuses.{status_of}
 use Rattle.command_line.specs.declared.line.LineFault.{LineFault}
 use Rattle.command_line.specs.declared.line.LineFault.TheVariants as L
@@ -36,6 +38,7 @@ use Rattle.admin_cli.specs.Asked.{IsSettingsFile, note_of_settings, IsRefused, T
 use Rattle.admin_cli.specs.Folders.{note_of_rule, note_of_call, note_of_dump, note_of_restore}
 use Rattle.admin_cli.specs.Migrations.{note_of_migration}
 use Rattle.admin_cli.specs.Demos.{note_of_demo}
+use Rattle.admin_cli.specs.Pulls.{note_of_pull}
 use Rattle.admin_cli.specs.Nights.{note_of_all, note_of_refused, note_of_night}
 use Rattle.admin_cli.specs.Run.{note_of, note_of_refusal}
 use Rattle.admin_cli.specs.Servers.{note_of_served}
@@ -155,6 +158,18 @@ demo_other M.Occupied failed halted = rule_other StoreNotEmpty halted refl
 demo_other (M.Refused refusal) failed halted = call_other refusal halted
 demo_other M.Memory failed halted = other NoMemory 6 refl (λ e. omega (arith, e)) (λ e. omega (arith, e))
 
+pulled_other : (host : List ℕ) (count : ℕ) (halted : Bool) → IsOther (note_of_rule (Pulled host count) halted)
+pulled_other host count true = other DiskFailed 4 refl (λ e. omega (arith, e)) (λ e. omega (arith, e))
+pulled_other host count false = other (Pulled host count) 0 refl (λ e. omega (arith, e)) (λ e. omega (arith, e))
+
+pull_other : (host : List ℕ) (end : PullEnd) (halted : Bool) → IsOther (note_of_pull host end halted)
+pull_other host (B.Done count) halted = pulled_other host count halted
+pull_other host (B.Refused refusal) halted = call_other refusal halted
+pull_other host (B.PeerRefused status) halted = rule_other (PeerRefused status) halted refl
+pull_other host B.PeerForeign halted = rule_other PeerForeign halted refl
+pull_other host B.LinkFault halted = other LinkFailed 3 refl (λ e. omega (arith, e)) (λ e. omega (arith, e))
+pull_other host B.Memory halted = other NoMemory 6 refl (λ e. omega (arith, e)) (λ e. omega (arith, e))
+
 doors_other : (failed halted : Bool) → IsOther (note_of_served failed halted)
 doors_other true halted = other (note_of_served true halted) 3 refl (λ e. omega (arith, e)) (λ e. omega (arith, e))
 doors_other false true = other (note_of_served false true) 4 refl (λ e. omega (arith, e)) (λ e. omega (arith, e))
@@ -206,6 +221,11 @@ pub tells_demo : (line : Option Line) (settings : List ℕ) (note : Note) (end :
     → IsSome line → IsSettingsFile settings → note ≡ note_of_demo end failed halted → TellsRefusals line settings note
 tells_demo line settings note end failed halted said file note_is =
     tells_understood line settings note said file (subst IsOther (sym note_is) (demo_other end failed halted))
+
+pub tells_pull : (line : Option Line) (settings : List ℕ) (read : Settings) (note : Note) (host : List ℕ) (end : PullEnd) (halted : Bool)
+    → IsSome line → IsSettings settings read → note ≡ note_of_pull host end halted → TellsRefusals line settings note
+tells_pull line settings read note host end halted said is note_is =
+    tells_understood line settings note said (file_of settings read is) (subst IsOther (sym note_is) (pull_other host end halted))
 
 pub tells_doors : (line : Option Line) (settings : List ℕ) (read : Settings) (note : Note) (failed halted : Bool)
     → IsSome line → IsSettings settings read → note ≡ note_of_served failed halted → TellsRefusals line settings note

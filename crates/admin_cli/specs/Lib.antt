@@ -5,6 +5,7 @@ pub mod FolderTexts
 pub mod Folders
 pub mod Migrations
 pub mod Nights
+pub mod Pulls
 pub mod Run
 pub mod Runs
 pub mod Servers

@@ -14,11 +14,12 @@ use Rattle.admin_cli.specs.Run.{Serves, Refuses}
 use Rattle.admin_cli.specs.Nights.{DoesNight}
 use Rattle.admin_cli.specs.Migrations.{DoesMigration}
 use Rattle.admin_cli.specs.Demos.{DoesDemo}
+use Rattle.admin_cli.specs.Pulls.{DoesPull}
 use Rattle.admin_cli.specs.Folders.{DumpsFolder, RestoresFolder}
 use Rattle.admin_cli.specs.Servers.{ServesStore}
 
 module _ {D F : Type 0} (d : DiskGhosts D) (f : FolderGhosts F) (digest_of : List ℕ → List ℕ) where
-  -- `pipe`, `night`, `migrate` or `demo` was carried out, or no store was opened
+  -- `pipe`, `night`, `migrate`, `demo` or `pull` was carried out, or no store was opened
   abbrev pub RunsAlone : (disk disk' : D) → Option Line → (settings : List ℕ) → (link link' : LinkSeen)
       → (moments moments' : Option (List ℕ)) → Note → Type 0
   RunsAlone disk disk' line settings link link' moments moments' note =
@@ -26,7 +27,8 @@ module _ {D F : Type 0} (d : DiskGhosts D) (f : FolderGhosts F) (digest_of : Lis
       ⊎ (DoesNight d digest_of disk disk' line settings link link' moments moments' note
       ⊎ (DoesMigration d digest_of disk disk' line settings link link' moments moments' note
       ⊎ (DoesDemo d digest_of disk disk' line settings link link' moments moments' note
-      ⊎ Refuses d digest_of disk disk' line settings link link' moments moments' note)))
+      ⊎ (DoesPull d digest_of disk disk' line settings link link' moments moments' note
+      ⊎ Refuses d digest_of disk disk' line settings link link' moments moments' note))))
 
   -- so it was, and the folder was left alone; or a folder was dumped, or a backup restored
   abbrev pub RunsOnLink : (disk disk' : D) → Option Line → (settings : List ℕ) → (link link' : LinkSeen)

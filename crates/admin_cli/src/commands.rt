@@ -14,6 +14,7 @@ use crate::folders::{dump, restore};
 use crate::migrations::run_migration;
 use crate::nightly::run_night;
 use crate::pipe::serve_pipe;
+use crate::pulls::run_pull;
 use crate::servers::serve_store;
 use caller_doors::Door;
 use command_line::{Parsed, Work};
@@ -33,10 +34,11 @@ use stream_traits::{Clock, Faults, Gate, Link};
 /// on the link how many hosts there are; `dump-folder --host H --kind full|incr FOLDER` makes the folder the host's next
 /// backup; and `restore-folder --host H --number N FOLDER` makes a backup in the folder, in which nothing lies. Both say so on the
 /// link, and tell `progress` how far they are; which real folder FOLDER is, is the caller's matter. `demo NUMBER` does a job of sixty days
-/// that is drawn from the number, in a store without hosts, and says on the link what came of it. The settings are the bytes of the file, and empty without one: a host
-/// that is added has their rules, what is due is decided by their zone's clock, and so are the night's buckets and its time. The words
-/// are read first, then the settings; a disk, a link, a clock, a folder and doors whose words or settings are refused are left alone, and
-/// the folder by each other command. Doors serve
+/// that is drawn from the number, in a store without hosts, and says on the link what came of it. `pull --host H --from ADDR` brings the
+/// host's backups from the server to which the link leads: on it stand its requests alone. That it leads to ADDR is the caller's matter.
+/// The settings are the bytes of the file, and empty without one: a host that is added, by a request or a pull, has their rules, what is
+/// due is decided by their zone's clock, and so are the night's buckets and its time. The words are read first, then the settings; a disk,
+/// a link, a clock, a folder and doors whose words or settings are refused are left alone, and the folder by each other command. Doors serve
 /// nobody but for `serve`, and then the link and the clock are left alone; each worker asks its own clock. A link of a door that fails, or
 /// want of memory in a connection there, ends that connection alone. Without workers `serve` serves nobody and ends.
 ///
@@ -138,6 +140,9 @@ where
             workers,
         ),
         Work::Demo { number } => run_demo(alloc, *number, disk, namer, link).with_workers(workers),
+        Work::Pull { host, from: _ } => {
+            run_pull(alloc, host, settings, disk, namer, clock, link).with_workers(workers)
+        }
         Work::Serve {
             listen: _,
             connections: _,

@@ -18,6 +18,7 @@ mod nightly;
 mod note;
 mod opening;
 mod pipe;
+mod pulls;
 mod saying;
 mod servers;
 

@@ -2,7 +2,7 @@ use Rattle.std.proofs.Common.{◌≡◌, Option, refl, subst, inl, inr}
 use Rattle.command_line.specs.declared.line.Work.{Work}
 use Rattle.command_line.specs.Line.{Line, task_of}
 use Rattle.admin_cli.specs.Command.{AsksFor}
-use Rattle.admin_cli.proofs.HeadlineLaws.{runs_refused, runs_pipe, runs_night, runs_migration, runs_demo, runs_dump, runs_restore, runs_doors}
+use Rattle.admin_cli.proofs.HeadlineLaws.{runs_refused, runs_pipe, runs_night, runs_migration, runs_demo, runs_pull, runs_dump, runs_restore, runs_doors}
 use Rattle.admin_cli.proofs.NightLaws.{some_period}
 use Rattle.admin_cli.proofs.RunLaws.{refuses_early}
 use Rattle.admin_cli.proofs.commands.do_asked.Goals as goal
@@ -62,6 +62,14 @@ returns-in-Demo g c =
     rw c.with_workers-in-Demo.ensures (inl (
       runs_demo _ _ _ _ _ _ _ _ _ _ _ _ _ _
           (c.run_demo.ensures _ _ _ _ (asks _ _ _ c.in-Demo.is c.in-Ok.ensures.ok.work) c.in-Ok.ensures.ok.settings_are) refl,
+      refl,
+    ))
+
+pub returns-in-Pull : goal.returns-in-Pull
+returns-in-Pull g c =
+    rw c.with_workers-in-Pull.ensures (inl (
+      runs_pull _ _ _ _ _ _ _ _ _ _ _ _ _ _
+          (c.run_pull.ensures _ _ _ (asks _ _ _ c.in-Pull.is c.in-Ok.ensures.ok.work) c.in-Ok.ensures.ok.settings_are) refl,
       refl,
     ))
 
