@@ -17,7 +17,7 @@ mod tcp_link;
 mod told;
 
 use crate::folder_disk::FolderDisk;
-use crate::serving::{TcpWorker, explain_doors, listen_on, workers_at};
+use crate::serving::{TcpWorker, explain_doors, link_to, listen_on, workers_at};
 use crate::standard_streams::StandardStreams;
 use crate::store_folder::lock_folder;
 use crate::system_clock::SystemClock;
@@ -31,14 +31,15 @@ use std::process::ExitCode;
 use std::sync::Wait;
 use std::thread::Threads;
 use std::{env, fmt, fs, io};
+use stream_traits::Link;
 
-/// The status where the settings file, the store's folder, the address, the standard streams or a folder to dump or fill can't be had.
+/// The status where the settings file, the store's folder, an address, the standard streams or a folder to dump or fill can't be had.
 const NOT_MADE: u8 = 8;
 
 fn main(rt: HostRuntime) -> ExitCode {
     let status = match read_words(&rt) {
         Ok(words) => obey(&rt, &rt, words.as_slice()),
-        Err(fault) => end(&rt, note_of(fault)),
+        Err(fault) => end(&rt, &note_of(fault)),
     };
     ExitCode::from(status)
 }
@@ -119,7 +120,7 @@ fn obey_alone<H: Threads + Wait + Sync>(
     }
 }
 
-/// Does what the words ask, with workers at an address if they ask for one, and gives the status.
+/// Does what the words ask, with workers at an address or a link to another server if they ask for one, and gives the status.
 fn obey_work<H: Threads + Wait + Sync>(
     rt: &HostRuntime,
     threads: &H,
@@ -128,23 +129,52 @@ fn obey_work<H: Threads + Wait + Sync>(
     line: &CommandLine,
     disk: FolderDisk<&H>,
 ) -> u8 {
-    let (listen, connections) = match &line.work {
+    match &line.work {
         Work::Serve {
             listen,
             connections,
-        } => (listen.as_str(), *connections),
-        _ => {
-            return do_asked(
-                rt,
-                threads,
-                parsed,
-                settings,
-                line,
-                disk,
-                Vec::new(rt.alloc()),
-            );
-        }
-    };
+        } => serve_at(
+            rt,
+            threads,
+            parsed,
+            settings,
+            line,
+            disk,
+            listen.as_str(),
+            *connections,
+        ),
+        Work::Pull { host: _, from } => pull_from(
+            rt,
+            threads,
+            parsed,
+            settings,
+            line,
+            disk,
+            from.as_str(),
+        ),
+        _ => over_streams(
+            rt,
+            threads,
+            parsed,
+            settings,
+            line,
+            disk,
+            Vec::new(rt.alloc()),
+        ),
+    }
+}
+
+/// Does what the words ask, with workers at an address, and gives the status.
+fn serve_at<H: Threads + Wait + Sync>(
+    rt: &HostRuntime,
+    threads: &H,
+    parsed: &Parsed<'_>,
+    settings: &[u8],
+    line: &CommandLine,
+    disk: FolderDisk<&H>,
+    listen: &str,
+    connections: Option<u32>,
+) -> u8 {
     let listener = match listen_on(rt, listen) {
         Ok(listener) => listener,
         Err(error) => return not_made(
@@ -154,8 +184,57 @@ fn obey_work<H: Threads + Wait + Sync>(
         ),
     };
     match workers_at(rt, &listener, connections) {
-        Ok(workers) => do_asked(rt, threads, parsed, settings, line, disk, workers),
-        Err(AllocError) => end(rt, Note::NoMemory),
+        Ok(workers) => over_streams(rt, threads, parsed, settings, line, disk, workers),
+        Err(AllocError) => end(rt, &Note::NoMemory),
+    }
+}
+
+/// Does what the words ask, over a link to the server at an address, and gives the status.
+fn pull_from<H: Threads + Wait + Sync>(
+    rt: &HostRuntime,
+    threads: &H,
+    parsed: &Parsed<'_>,
+    settings: &[u8],
+    line: &CommandLine,
+    disk: FolderDisk<&H>,
+    from: &str,
+) -> u8 {
+    match link_to(rt, from) {
+        Ok(link) => do_asked(
+            rt,
+            threads,
+            parsed,
+            settings,
+            line,
+            disk,
+            link,
+            Vec::new(rt.alloc()),
+        ),
+        Err(error) => not_made(
+            rt,
+            error,
+            format_args!("the address {from} can't be reached"),
+        ),
+    }
+}
+
+/// Does what the words ask, over the standard streams and these workers, and gives the status.
+fn over_streams<H: Threads + Wait + Sync>(
+    rt: &HostRuntime,
+    threads: &H,
+    parsed: &Parsed<'_>,
+    settings: &[u8],
+    line: &CommandLine,
+    disk: FolderDisk<&H>,
+    workers: Vec<TcpWorker<'_>>,
+) -> u8 {
+    match link_of(rt) {
+        Ok(link) => do_asked(rt, threads, parsed, settings, line, disk, link, workers),
+        Err(error) => not_made(
+            rt,
+            error,
+            format_args!("the standard streams can't be used"),
+        ),
     }
 }
 
@@ -168,25 +247,18 @@ fn folder_of(rt: &HostRuntime, work: &Work) -> io::Result<RealFolder> {
     }
 }
 
-/// Does what the words ask, over these workers, the standard streams, the system's clock and the folder that they name, and gives the
-/// status. What was given to a link goes out before it returns.
-fn do_asked<H: Threads + Wait + Sync>(
+/// Does what the words ask, over this link, these workers, the system's clock and the folder that they name, and gives the status. What
+/// was given to a link goes out before it returns.
+fn do_asked<H: Threads + Wait + Sync, L: Link + Drop>(
     rt: &HostRuntime,
     threads: &H,
     parsed: &Parsed<'_>,
     settings: &[u8],
     line: &CommandLine,
     disk: FolderDisk<&H>,
+    link: L,
     workers: Vec<TcpWorker<'_>>,
 ) -> u8 {
-    let link = match link_of(rt) {
-        Ok(link) => link,
-        Err(error) => return not_made(
-            rt,
-            error,
-            format_args!("the standard streams can't be used"),
-        ),
-    };
     let mut folder = match folder_of(rt, &line.work) {
         Ok(folder) => folder,
         Err(error) => return not_made(rt, error, format_args!("the folder can't be opened")),
@@ -214,7 +286,7 @@ fn do_asked<H: Threads + Wait + Sync>(
     if names_a_folder(&line.work) {
         progress.finish();
     }
-    let status = end(rt, note);
+    let status = end(rt, &note);
     if let Note::Foreign(_) = note {
         let store = line.store.as_str();
         let _ = eprintln!(rt; "in the folder {store}");
@@ -236,7 +308,7 @@ fn link_of(rt: &HostRuntime) -> io::Result<StandardStreams<Stdin, Stdout>> {
 /// Says why what the program works with can't be had, and gives the status.
 fn not_made(rt: &HostRuntime, error: io::Error, what: impl fmt::Display + Drop) -> u8 {
     if error.kind() == ErrorKind::OutOfMemory {
-        return end(rt, Note::NoMemory);
+        return end(rt, &Note::NoMemory);
     }
     let _ = eprintln!(rt; "{what}: {error}");
     NOT_MADE
@@ -254,20 +326,20 @@ fn note_of(fault: LineFault) -> Note {
 fn refuse(rt: &HostRuntime, words: &[String], fault: LineFault) -> u8 {
     let note = note_of(fault);
     if note != Note::Usage {
-        return end(rt, note);
+        return end(rt, &note);
     }
     match complaint(rt.alloc(), words) {
         Ok(text) => {
             let _ = eprintln!(rt; "{text}");
             note.status()
         }
-        Err(AllocError) => end(rt, Note::NoMemory),
+        Err(AllocError) => end(rt, &Note::NoMemory),
     }
 }
 
 /// Says the note on standard error, where there is one, and gives its status.
-fn end(rt: &HostRuntime, note: Note) -> u8 {
-    if note != Note::Nothing {
+fn end(rt: &HostRuntime, note: &Note) -> u8 {
+    if *note != Note::Nothing {
         let _ = eprintln!(rt; "{note}");
     }
     note.status()

@@ -1,11 +1,12 @@
-//! What `serve` works with: a listener, and workers whose doors share it.
+//! What `serve` works with: a listener, and workers whose doors share it. And the link of `pull`, to another server.
 
 use crate::system_clock::SystemClock;
 use crate::tcp_door::TcpDoor;
+use crate::tcp_link::TcpLink;
 use admin_cli::Worker;
 use std::alloc::AllocError;
 use std::io;
-use std::net::TcpListener;
+use std::net::{TcpListener, TcpStream};
 use stream_traits::OpenGate;
 
 /// How many links are served beside each other.
@@ -42,6 +43,11 @@ pub fn workers_at<'l>(
         })?;
     }
     Ok(workers)
+}
+
+/// A link to the server that listens on an address.
+pub fn link_to(rt: &HostRuntime, address: &str) -> io::Result<TcpLink> {
+    TcpLink::new(rt.alloc(), TcpStream::connect(rt, address)?)
 }
 
 /// Says on standard error why a door failed, if one did.
