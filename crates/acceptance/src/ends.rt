@@ -119,7 +119,7 @@ pub fn run_over(rt: &impl Machine, case: &Case<'_>, disk: MemoryDisk) -> Result<
 
 /// Whether a run ended as it was to.
 fn is_wanted(alloc: Global, done: &Ran, want: &Want<'_>) -> Result<bool, AllocError> {
-    let note = done.note;
+    let note = &done.note;
     let said = format!(in alloc; "{note}")?;
     let wanted = joined(alloc, want.output)?;
     let output = done.link.output();
@@ -131,7 +131,7 @@ pub fn expect_end(alloc: Global, done: &Ran, want: &Want<'_>) -> Result<(), Fail
     if is_wanted(alloc, done, want) == Ok(true) {
         return Ok(());
     }
-    let note = done.note;
+    let note = &done.note;
     let status = note.status();
     let output = String::from_utf8_lossy(alloc, done.link.output())?;
     Err(Fail::new(format_args!("status {status}, {note:?}, {output:?}")))

@@ -1,6 +1,6 @@
 //! What the whole server does, shown by examples: tests that cross crates, and nothing else.
 //!
-//! Most run the commands `pipe`, `night` and `demo` from their words to their status, over a disk and a link in memory, and
+//! Most run the commands `pipe`, `night`, `demo` and `pull` from their words to their status, over a disk and a link in memory, and
 //! compare what comes out with what was written down by hand: the responses, the store's files, the
 //! status and what is said on standard error. So they show what no clause of the crates below says:
 //! that calls succeed where there is memory, how things are printed, and that the definitions mean
@@ -19,6 +19,8 @@ mod faults;
 mod files;
 #[cfg(test)]
 mod nights;
+#[cfg(test)]
+mod pulls;
 #[cfg(test)]
 mod refusals;
 #[cfg(test)]

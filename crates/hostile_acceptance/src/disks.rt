@@ -65,7 +65,7 @@ pub fn expect_same(
 
 /// Fails where a run ended otherwise than by the status and the line of a foreign file, or answered anything.
 fn expect_note(alloc: Global, done: &Talked, file: FileId) -> Result<(), Fail> {
-    let note = done.note;
+    let note = &done.note;
     let said = format!(in alloc; "{note}")?;
     let wanted = format!(in alloc; "foreign {file}")?;
     if note.status() == 5 && said.as_str() == wanted.as_str() && done.link.output().is_empty() {

@@ -277,7 +277,7 @@ pub fn expect_from_store(
         &mut folder,
         &mut NoProgress,
     );
-    let note = done.note;
+    let note = &done.note;
     let said = format!(in alloc; "{note}")?;
     let (status, wanted) = status_of(end);
     if note.status() == status

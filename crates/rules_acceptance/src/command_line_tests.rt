@@ -8,7 +8,7 @@ struct Taken {
     says: &'static str,
 }
 
-static TAKEN: [Taken; 32] = [
+static TAKEN: [Taken; 34] = [
     Taken {
         words: "b pipe --store S",
         says: "Pipe S None",
@@ -137,9 +137,17 @@ static TAKEN: [Taken; 32] = [
         words: "b demo --store S +07",
         says: "Demo { number: 7 } S None",
     },
+    Taken {
+        words: "b pull --store S --host pc1 --from 127.0.0.1:8080",
+        says: "Pull { host: HostName { bytes: [112, 99, 49] }, from: \"127.0.0.1:8080\" } S None",
+    },
+    Taken {
+        words: "b pull --from=A --settings G --host=a --store=S",
+        says: "Pull { host: HostName { bytes: [97] }, from: \"A\" } S Some(\"G\")",
+    },
 ];
 
-static REFUSED: [&str; 85] = [
+static REFUSED: [&str; 93] = [
     "b",
     "b frob",
     "b frob --store S",
@@ -225,6 +233,14 @@ static REFUSED: [&str; 85] = [
     "b demo --store S -1",
     "b demo --store S x",
     "b demo --store S --number 1",
+    "b pull",
+    "b pull --host a --from A",
+    "b pull --store S --from A",
+    "b pull --store S --host a",
+    "b pull --store S --host A --from A",
+    "b pull --store S --host a --from",
+    "b pull --store S --host a --from A --from A",
+    "b pull --store S --host a --from A B",
 ];
 
 fn words_of(alloc: Global, line: &str) -> Result<Vec<String>, AllocError> {
@@ -284,6 +300,10 @@ fn says_what_is_wrong(rt: HostRuntime) -> Result<(), AllocError> {
         (
             "b demo --store S 18446744073709551616",
             "error: invalid value '18446744073709551616' for '<number>': number too large to fit in target type\n",
+        ),
+        (
+            "b pull --store S --host a",
+            "error: the following required arguments were not provided:\n  --from <from>\n\nUsage: b pull --store <store> --host <host> --from <from>\n",
         ),
         ("b dump-folder --store S --host A --kind full F", ""),
         ("b pipe --store S", ""),

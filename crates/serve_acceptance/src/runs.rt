@@ -212,7 +212,7 @@ pub fn run_over(
 
 /// Whether a run ended as it was to.
 fn is_wanted<G>(alloc: Global, done: &Ran<G>, want: &Want<'_>) -> Result<bool, AllocError> {
-    let note = done.note;
+    let note = &done.note;
     let said = format!(in alloc; "{note}")?;
     let output = done.link.output();
     Ok(
@@ -227,7 +227,7 @@ pub fn expect_end<G>(alloc: Global, done: &Ran<G>, want: &Want<'_>) -> Result<()
     if is_wanted(alloc, done, want) == Ok(true) {
         return Ok(());
     }
-    let note = done.note;
+    let note = &done.note;
     let status = note.status();
     let output = String::from_utf8_lossy(alloc, done.link.output())?;
     Err(Fail::new(format_args!("status {status}, {note:?}, {output:?}")))

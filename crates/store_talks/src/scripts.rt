@@ -224,10 +224,10 @@ pub fn expect_script(
         ..
     } = script;
     let done = pipe(rt, disk, Md5Namer, moments.as_slice(), input)?;
-    let note = done.note;
-    if note == Note::Nothing && done.link.output() == output.as_slice() {
+    if done.note == Note::Nothing && done.link.output() == output.as_slice() {
         return Ok(done.disk);
     }
+    let note = &done.note;
     let said = String::from_utf8_lossy(rt.alloc(), done.link.output())?;
     Err(Fail::new(format_args!("{note:?}, {said}")))
 }

@@ -237,7 +237,7 @@ pub fn is_answered(alloc: Global, done: &Talked, rows: &[Row]) -> Result<bool, A
 
 /// A failure that tells the first request that wasn't answered as it was to be, and what comes from its answer on.
 fn fail_of(alloc: Global, done: &Talked, rows: &[Row]) -> Result<(), Fail> {
-    let note = done.note;
+    let note = &done.note;
     let output = done.link.output();
     let mut wanted = Vec::new(alloc);
     for row in rows {
