@@ -1,6 +1,6 @@
 # make build   proves the program's crates and compiles bin/backup_server, if it is out of date: a first build takes 30 to 60 minutes
 # make demo    backs up two files into a fresh store and gives one back: each request, and what came of it
-# make test    the gate, and then the scripts of tests/ on the program that it built: tests/crash.sh and tests/serve.sh take some minutes each
+# make test    the gate, and then the scripts of tests/ on the program that it built: tests/crash.sh, tests/serve.sh and tests/pull.sh take some minutes each
 # make install copies program, client, units, man page and settings below PREFIX (/usr/local): DESTDIR=FOLDER puts a folder before
 #              it, PROGRAM=PATH takes a program that is built already. make deb makes build/turretgage_VERSION_ARCH.deb of the same
 # make clean   removes what these made, the crates' out/ too, so that the next build proves everything again
@@ -30,6 +30,7 @@ test:
 	.ci/run
 	tests/crash.sh crates/backup_server/out/backup_server
 	tests/serve.sh crates/backup_server/out/backup_server
+	tests/pull.sh crates/backup_server/out/backup_server
 
 install: $(PROGRAM)
 	@packaging/install.sh '$(PROGRAM)' '$(DESTDIR)' '$(PREFIX)' '$(SYSCONFDIR)'

@@ -49,6 +49,8 @@ cat >want <<'END'
 755 usr/local/bin/turretgage-night.sh
 644 usr/local/lib/systemd/system/turretgage-night.service
 644 usr/local/lib/systemd/system/turretgage-night.timer
+644 usr/local/lib/systemd/system/turretgage-pull@.service
+644 usr/local/lib/systemd/system/turretgage-pull@.timer
 644 usr/local/lib/systemd/system/turretgage-push@.service
 644 usr/local/lib/systemd/system/turretgage-push@.timer
 644 usr/local/lib/systemd/system/turretgage.service

@@ -69,7 +69,8 @@ usage='usage: backup_server pipe --store DIR [--settings FILE]
        backup_server migrate --store DIR [--settings FILE]
        backup_server dump-folder --host H --kind full|incr --store DIR [--settings FILE] FOLDER
        backup_server restore-folder --host H --number N --store DIR [--settings FILE] FOLDER
-       backup_server demo --store DIR [--settings FILE] NUMBER'
+       backup_server demo --store DIR [--settings FILE] NUMBER
+       backup_server pull --host H --from ADDR --store DIR [--settings FILE]'
 : >in
 : >want
 
@@ -80,7 +81,7 @@ Usage: backup_server <COMMAND>
 $usage"
 attempt
 judge 'no words' 2 "error: 'backup_server' requires a subcommand but one was not provided
-  [subcommands: pipe, serve, night, migrate, dump-folder, restore-folder, demo]
+  [subcommands: pipe, serve, night, migrate, dump-folder, restore-folder, demo, pull]
 
 Usage: backup_server <COMMAND>
 $usage"
