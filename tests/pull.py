@@ -69,9 +69,9 @@ class Host:
         self.files.update({path: self.content() for path in new})
         return gone, sorted(new)
 
-    def backup(self, server):
-        """One more backup, a full or an incremental one."""
-        kind = "full" if self.kinds % 5 == 0 else "incr"
+    def backup(self, server, kind=None):
+        """One more backup, of this kind, or a full or an incremental one by its turn."""
+        kind = kind or ("full" if self.kinds % 5 == 0 else "incr")
         self.kinds += 1
         gone, new = self.change()
         dump = json.loads(server.want(201, "POST", f"/hosts/pc1/dumps?kind={kind}"))["dump"]
@@ -151,7 +151,7 @@ def worked(program, room):
     expect("a pull of one more", replica.pull(first.port), (0, "pulled pc1 1"))
     same(first, replica)
     first.want(200, "DELETE", "/hosts/pc1/backups/7")
-    host.backup(first)
+    host.backup(first, "full")
     expect("a pull whose base has gone there", replica.pull(first.port), (0, "pulled pc1 1"))
     second = replica.serve()
     expect("what the replica keeps", [line[0] for line in lines_of(second)], list(range(9)))
