@@ -18,7 +18,7 @@ use stream_traits::{Clock, Link, OpenGate};
 type Alone<D, L, C> = Done<D, L, ListDoor, C, OpenGate>;
 
 /// Takes a disk, a clock and a link into a thread, where the program runs over them without workers, and gives back how it ended.
-fn run_apart<D: Disk + Send + Drop, C: Clock + Drop, L: Link + Drop>(
+fn run_apart<D: Disk + Send + Drop, C: Clock + Drop, L: Link + Send + Drop>(
     rt: &impl Machine,
     words: Vec<String>,
     disk: D,

@@ -116,4 +116,4 @@ impl<I: Read + Drop, O: Write + Drop> Sink for StandardStreams<I, O> {
     }
 }
 
-impl<I: Read + Drop + Send, O: Write + Drop + Send> Link for StandardStreams<I, O> {}
+impl<I: Read + Drop, O: Write + Drop> Link for StandardStreams<I, O> {}

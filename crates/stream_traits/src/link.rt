@@ -74,5 +74,5 @@ pub trait Sink: Faults {
         ensures counted { Counted (Self.faults self.old) (Self.faults self.new) (IsErr result) };
 }
 
-/// A stream with both ends, which may go into a thread.
-pub trait Link: Source + Sink + Send {}
+/// A stream with both ends. A function that takes one into a thread asks for `Link + Send`.
+pub trait Link: Source + Sink {}
