@@ -35,7 +35,8 @@ use stream_traits::{Clock, Faults, Gate, Link};
 /// backup; and `restore-folder --host H --number N FOLDER` makes a backup in the folder, in which nothing lies. Both say so on the
 /// link, and tell `progress` how far they are; which real folder FOLDER is, is the caller's matter. `demo NUMBER` does a job of sixty days
 /// that is drawn from the number, in a store without hosts, and says on the link what came of it. `pull --host H --from ADDR` brings the
-/// host's backups from the server to which the link leads: on it stand its requests alone. That it leads to ADDR is the caller's matter.
+/// host's backups from the server to which the link leads: on it stand its requests alone, and `progress` is told how far it is. That it
+/// leads to ADDR is the caller's matter.
 /// The settings are the bytes of the file, and empty without one: a host that is added, by a request or a pull, has their rules, what is
 /// due is decided by their zone's clock, and so are the night's buckets and its time. The words are read first, then the settings; a disk,
 /// a link, a clock, a folder and doors whose words or settings are refused are left alone, and the folder by each other command. Doors serve
@@ -141,7 +142,7 @@ where
         ),
         Work::Demo { number } => run_demo(alloc, *number, disk, namer, link).with_workers(workers),
         Work::Pull { host, from: _ } => {
-            run_pull(alloc, host, settings, disk, namer, clock, link).with_workers(workers)
+            run_pull(alloc, host, settings, disk, namer, clock, link, progress).with_workers(workers)
         }
         Work::Serve {
             listen: _,

@@ -14,6 +14,7 @@ use crate::note::Note;
 use crate::opening::open_store;
 use attr_records::HostName;
 use disk_trait::Disk;
+use folder_trait::Progress;
 use http_wire::Wire;
 use pool_name::Namer;
 use pull_work::{Plan, PullEnd, pull};
@@ -50,8 +51,8 @@ fn plan_of(host: HostName, settings: Settings, start: Moment) -> Plan
 }
 
 /// Pulls a host's backups from the server at the other end of the link into the store on the disk, by these settings. Without memory for
-/// the host's name the store isn't opened, and the link is left alone.
-pub fn run_pull<D: Disk, N: Namer, C: Clock, L: Link>(
+/// the host's name the store isn't opened, and the link is left alone. `progress` is told how many entries were read.
+pub fn run_pull<D: Disk, N: Namer, C: Clock, L: Link, P: Progress>(
     alloc: Global,
     host: &HostName,
     settings: Settings,
@@ -59,6 +60,7 @@ pub fn run_pull<D: Disk, N: Namer, C: Clock, L: Link>(
     namer: N,
     clock: &mut C,
     link: L,
+    progress: &mut P,
 ) -> DoneOnLink<D, L>
     ensures { (line : Option Line) → (bytes from : List ℕ) → AsksFor (Pull host.now from) line → IsSettings bytes settings
         → DoesPull ⟦<D as Disk>⟧ N.digest_of disk result.disk line bytes
@@ -83,7 +85,7 @@ pub fn run_pull<D: Disk, N: Namer, C: Clock, L: Link>(
     let plan = plan_of(host, settings, clock.now());
     let mut port = DirectPort::new(store);
     let mut wire = Wire::new(alloc, link);
-    let end = pull(alloc, &mut port, &mut wire, &plan);
+    let end = pull(alloc, &mut port, &mut wire, &plan, progress);
     let link = wire.into_link();
     let Plan {
         host,

@@ -283,7 +283,7 @@ fn do_asked<H: Threads + Wait + Sync, L: Link + Drop>(
         &mut folder,
         &mut progress,
     );
-    if names_a_folder(&line.work) {
+    if tells_how_far(&line.work) {
         progress.finish();
     }
     let status = end(rt, &note);
@@ -295,9 +295,12 @@ fn do_asked<H: Threads + Wait + Sync, L: Link + Drop>(
     status
 }
 
-/// Whether it is the work of a folder command.
-fn names_a_folder(work: &Work) -> bool {
-    matches!(work, Work::DumpFolder { .. } | Work::RestoreFolder { .. })
+/// Whether it is the work of a command that says how far it is.
+fn tells_how_far(work: &Work) -> bool {
+    matches!(
+        work,
+        Work::DumpFolder { .. } | Work::RestoreFolder { .. } | Work::Pull { .. }
+    )
 }
 
 /// Standard input and output.

@@ -16,6 +16,7 @@ use crate::ends::{PullEnd, end_by};
 use crate::frames::read_all;
 use crate::plan::Plan;
 use backup_rules::Line;
+use folder_trait::{Count, Progress};
 use http_wire::Wire;
 use office_model::{Port, SessionName};
 use peer_asks::{close_restore, open_restore};
@@ -23,18 +24,19 @@ use std::alloc::Global;
 use stream_traits::{Faults, Link};
 
 /// Lays all of a restore into a dump, and adopts that.
-fn fill<P: Port, L: Link>(
+fn fill<P: Port, L: Link, G: Progress>(
     alloc: Global,
     home: &mut P,
     wire: &mut Wire<L>,
     line: &Line,
     restore: SessionName,
     dump: SessionName,
+    count: &mut Count<'_, G>,
 ) -> Result<(), PullEnd>
     ensures goes { (plan : Plan) (job : Job) → job.line ≡ line.now → Goes P.moves plan home.old home.new (seen_of wire.old) (seen_of wire.new) (Reading (intake_of job restore dump Nothing 0)) (or_aborting dump (brought job) result) }
     ensures counted { Counted (faults_of wire.old) (faults_of wire.new) (IsErrOf result PullEnd.LinkFault) }
 {
-    match read_all(alloc, home, wire, restore, dump) {
+    match read_all(alloc, home, wire, restore, dump, count) {
         Ok(()) => {}
         Err(end) => return Err(end),
     }
@@ -46,13 +48,14 @@ fn fill<P: Port, L: Link>(
 }
 
 /// Brings the backup of a line, from a base on if there is one.
-pub(crate) fn bring<P: Port, L: Link>(
+pub(crate) fn bring<P: Port, L: Link, G: Progress>(
     alloc: Global,
     home: &mut P,
     wire: &mut Wire<L>,
     plan: &Plan,
     line: &Line,
     base: Option<u32>,
+    count: &mut Count<'_, G>,
 ) -> Result<(), PullEnd>
     ensures goes { (left : List Line) (done : ℕ) → Goes P.moves plan.now home.old home.new (seen_of wire.old) (seen_of wire.new) (Bringing base (line.now ∷ left) done) (or_over (brought (job_of base line.now left done)) result) }
     ensures counted { Counted (faults_of wire.old) (faults_of wire.new) (IsErrOf result PullEnd.LinkFault) }
@@ -65,7 +68,7 @@ pub(crate) fn bring<P: Port, L: Link>(
         Ok(dump) => dump,
         Err(end) => return Err(end),
     };
-    match fill(alloc, home, wire, line, restore, dump) {
+    match fill(alloc, home, wire, line, restore, dump, count) {
         Ok(()) => Ok(()),
         Err(end) => {
             abort(alloc, home, dump);

@@ -12,6 +12,7 @@ ghost use Rattle.pull_work.specs.Runs.{Goes};
 ghost use Rattle.pull_work.specs.Parts.{or_aborting, is_ended};
 
 use crate::ends::{PullEnd, end_by, lay_end};
+use folder_trait::{Count, Progress};
 use frame_puts::Laying;
 use http_wire::Wire;
 use office_model::{Frame, Port, SessionName};
@@ -46,38 +47,52 @@ fn lay_frame<P: Port>(
     }
 }
 
-/// Reads the next frame of a restore, and lays it into a dump.
-fn read_one<P: Port, L: Link>(
+/// Tells of a frame that was read: of an entry, of a file's bytes.
+fn tell<G: Progress>(count: &mut Count<'_, G>, frame: &Frame) {
+    match frame {
+        Frame::Entry { path: _, node: _ } => count.add(1, 0),
+        Frame::Piece(bytes) => count.add(0, bytes.len() as u64),
+        Frame::Deleted(_) | Frame::End(_) => {}
+    }
+}
+
+/// Reads the next frame of a restore, and lays it into a dump. It is told.
+fn read_one<P: Port, L: Link, G: Progress>(
     alloc: Global,
     home: &mut P,
     wire: &mut Wire<L>,
     restore: SessionName,
     dump: SessionName,
     laying: &mut Laying,
+    count: &mut Count<'_, G>,
 ) -> Result<(), PullEnd>
     ensures goes { (plan : Plan) (job : Job) (read : ℕ) → read < frame_limit → Goes P.moves plan home.old home.new (seen_of wire.old) (seen_of wire.new) (Reading (intake_of job restore dump laying.old read)) (or_aborting dump (taken (intake_of job restore dump laying.old read) laying.new) result) }
     ensures counted { Counted (faults_of wire.old) (faults_of wire.new) (IsErrOf result PullEnd.LinkFault) }
 {
     match next_frame(alloc, wire, restore) {
-        Ok(frame) => lay_frame(alloc, home, dump, laying, frame),
+        Ok(frame) => {
+            tell(count, &frame);
+            lay_frame(alloc, home, dump, laying, frame)
+        }
         Err(fault) => Err(end_by(fault)),
     }
 }
 
 /// Reads the frames of a restore up to its end, and lays each into a dump.
-pub(crate) fn read_all<P: Port, L: Link>(
+pub(crate) fn read_all<P: Port, L: Link, G: Progress>(
     alloc: Global,
     home: &mut P,
     wire: &mut Wire<L>,
     restore: SessionName,
     dump: SessionName,
+    count: &mut Count<'_, G>,
 ) -> Result<(), PullEnd>
     ensures goes { (plan : Plan) (job : Job) → Goes P.moves plan home.old home.new (seen_of wire.old) (seen_of wire.new) (Reading (intake_of job restore dump Nothing 0)) (or_aborting dump (Closing job restore dump) result) }
     ensures counted { Counted (faults_of wire.old) (faults_of wire.new) (IsErrOf result PullEnd.LinkFault) }
 {
     let mut laying = Laying::Nothing;
     for _read in 0..u64::MAX {
-        match read_one(alloc, home, wire, restore, dump, &mut laying) {
+        match read_one(alloc, home, wire, restore, dump, &mut laying, count) {
             Ok(()) => {}
             Err(end) => return Err(end),
         }

@@ -14,6 +14,7 @@ use crate::comparing::{base_in, is_new};
 use crate::ends::{PullEnd, end_by};
 use crate::plan::Plan;
 use backup_rules::Line;
+use folder_trait::{Count, Progress};
 use http_wire::Wire;
 use office_model::Port;
 use peer_asks::list_backups;
@@ -21,7 +22,7 @@ use std::alloc::Global;
 use stream_traits::{Faults, Link};
 
 /// Brings those of the other server's backups whose number isn't below home's next one, in the order in which they are listed.
-fn bring_all<P: Port, L: Link>(
+fn bring_all<P: Port, L: Link, G: Progress>(
     alloc: Global,
     home: &mut P,
     wire: &mut Wire<L>,
@@ -29,6 +30,7 @@ fn bring_all<P: Port, L: Link>(
     base: Option<u32>,
     next: u64,
     lines: &[Line],
+    count: &mut Count<'_, G>,
 ) -> PullEnd
     ensures goes { Goes P.moves plan.now home.old home.new (seen_of wire.old) (seen_of wire.new) (Bringing base (new_lines next lines.now) 0) (Over result) }
     ensures counted { Counted (faults_of wire.old) (faults_of wire.new) (result ≡ PullEnd.LinkFault) }
@@ -39,7 +41,7 @@ fn bring_all<P: Port, L: Link>(
         if !is_new(line, next) {
             continue;
         }
-        match bring(alloc, home, wire, plan, line, newest) {
+        match bring(alloc, home, wire, plan, line, newest, count) {
             Ok(()) => {}
             Err(end) => return end,
         }
@@ -55,12 +57,14 @@ fn bring_all<P: Port, L: Link>(
 /// base both, if the newest backup at home is there, too, the same by number, times and kind, as each is that was adopted before. The
 /// frames are laid into the dump, the restore is closed, and the dump is adopted with the number, times and kind that it has there. It
 /// ends at the first refusal at home, fault of the other server or of the link, frame that doesn't fit, or want of memory. Those that
-/// were adopted before are then at home; a dump that is open is aborted, and the reason is what came first.
-pub fn pull<P: Port, L: Link>(
+/// were adopted before are then at home; a dump that is open is aborted, and the reason is what came first. Each entry that was read is told,
+/// and each piece of a file.
+pub fn pull<P: Port, L: Link, G: Progress>(
     alloc: Global,
     home: &mut P,
     wire: &mut Wire<L>,
     plan: &Plan,
+    progress: &mut G,
 ) -> PullEnd
     ensures goes { Goes P.moves plan.now home.old home.new (seen_of wire.old) (seen_of wire.new) Asking (Over result) }
     ensures counted { Counted (faults_of wire.old) (faults_of wire.new) (result ≡ PullEnd.LinkFault) }
@@ -82,5 +86,6 @@ pub fn pull<P: Port, L: Link>(
         base,
         own.next,
         there.lines.as_slice(),
+        &mut Count::new(progress),
     )
 }
