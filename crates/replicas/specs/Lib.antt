@@ -11,3 +11,9 @@ pub mod HomeTurnLaws
 pub mod JobTurnLaws
 pub mod DumpTurnLaws
 pub mod ReplicaLaws
+pub mod Stops
+pub mod StopLaws
+pub mod CutLaws
+pub mod StoppedLaws
+pub mod Foreign
+pub mod ForeignLaws

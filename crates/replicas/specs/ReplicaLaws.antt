@@ -45,7 +45,7 @@ moved : (p : Course) (old old' : Phase) (steps steps' more : List Step) → old 
 moved p old old' steps steps' more is are s =
     subst (λ (phase : Phase). Stands p phase (steps' ++ more)) is (subst (λ (xs : List Step). Stands p old (xs ++ more)) are s)
 
-turned : (p : Course) (old new : Phase) (steps more : List Step) → Turn p.plan old steps new → Stands p old (steps ++ more) → Stands p new more
+pub turned : (p : Course) (old new : Phase) (steps more : List Step) → Turn p.plan old steps new → Stands p old (steps ++ more) → Stands p new more
 turned p old new steps more (one step steps_are is_due new_is) s =
     subst (λ (phase : Phase). Stands p phase more) (sym new_is)
     (one_step p old step more is_due (moved p old old steps (step ∷ []) more refl steps_are s))
@@ -76,7 +76,7 @@ all_turned p (turn ∷ turns) old new are s =
 
 -- ---- a pull
 
-abbrev course : (plan : Plan) (home first : Office) (phase : Phase) (state' : State) → Pulls plan home first phase state' → Course
+abbrev pub course : (plan : Plan) (home first : Office) (phase : Phase) (state' : State) → Pulls plan home first phase state' → Course
 course plan home first phase state' r = record {
   plan = plan;
   home = home;
@@ -93,16 +93,20 @@ course plan home first phase state' r = record {
   replica = r.replica;
 }
 
+pub stands_first : (plan : Plan) (home first : Office) (phase : Phase) (state' : State) → (r : Pulls plan home first phase state')
+    → Stands (course plan home first phase state' r) Asking (steps_of r.turns)
+stands_first plan home first phase state' r = record {
+  work = record { office = home; names = r.names; faults = r.faults; sound = r.sound; leads = r.leads };
+  alike = alike_itself home.hosts plan.host;
+  own = r.heard.own;
+  alone = r.heard.alone;
+  begins = r.heard.begins;
+}
+
 stands_last : (plan : Plan) (home first : Office) (phase : Phase) (state' : State) → (r : Pulls plan home first phase state')
     → Stands (course plan home first phase state' r) phase []
 stands_last plan home first phase state' r =
-    all_turned (course plan home first phase state' r) r.turns Asking phase r.are (record {
-      work = record { office = home; names = r.names; faults = r.faults; sound = r.sound; leads = r.leads };
-      alike = alike_itself home.hosts plan.host;
-      own = r.heard.own;
-      alone = r.heard.alone;
-      begins = r.heard.begins;
-    })
+    all_turned (course plan home first phase state' r) r.turns Asking phase r.are (stands_first plan home first phase state' r)
 
 -- ---- a replica stays one
 
