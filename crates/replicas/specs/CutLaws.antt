@@ -1,5 +1,5 @@
 -- The turns of a pull up to some call, with another reply to that call.
-use Rattle.std.specs.Prelude.{◌≡◌, ℕ, ◌==◌, Bool, true, false, if◌then◌else◌, List, [], ◌∷◌, ◌++◌, map, Option, Some, None, Ok, Err, ◌⊎◌}
+use Rattle.std.specs.Prelude.{◌≡◌, ℕ, ◌==◌, Bool, true, false, if◌then◌else◌, List, [], ◌∷◌, ◌++◌, map, Some, None, Ok, Err, ◌⊎◌}
 use Rattle.std.proofs.Common.{refl, sym, ap, ◌∙◌, subst, append_assoc, inl, inr}
 use Rattle.std.proofs.lemmas.List.{append-nil}
 use Rattle.tree_frames.specs.declared.nodes.Frame.{Frame}
@@ -84,6 +84,10 @@ parted (x ∷ xs) ys (b ∷ before) after call e =
           are = f.are;
         })
 
+not_none : (before after : List Call) (call : Call) → [] ≡ before ++ call ∷ after → ⊥
+not_none [] after call e = absurd (cc)
+not_none (b ∷ before) after call e = absurd (cc)
+
 -- of one call it is that one
 record IsOnly (before : List Call) (only call : Call) : Type 0 where
   pub none_before : before ≡ []
@@ -91,15 +95,7 @@ record IsOnly (before : List Call) (only call : Call) : Type 0 where
 
 only_one : (only : Call) (before after : List Call) (call : Call) → only ∷ [] ≡ before ++ call ∷ after → IsOnly before only call
 only_one only [] after call e = record { none_before = refl; is = (heads only call [] after e).0 }
-only_one only (b ∷ before) after call e = absurd (none_behind before (heads only b [] (before ++ call ∷ after) e).1)
-  where
-    none_behind : (calls : List Call) → [] ≡ calls ++ call ∷ after → ⊥
-    none_behind [] f = absurd (cc)
-    none_behind (c ∷ calls) f = absurd (cc)
-
-not_none : (before after : List Call) (call : Call) → [] ≡ before ++ call ∷ after → ⊥
-not_none [] after call e = absurd (cc)
-not_none (b ∷ before) after call e = absurd (cc)
+only_one only (b ∷ before) after call e = absurd (not_none before after call (heads only b [] (before ++ call ∷ after) e).1)
 
 -- ---- turns up to a call
 
