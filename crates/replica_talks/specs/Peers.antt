@@ -1,0 +1,54 @@
+-- The other server of a pull, by what was written to it and what came of it.
+--     IsPeer      the calls of the connection's talk are of a legal history of that server
+--     Talks      turns of a pull, over a link to such a server
+use Rattle.std.specs.Prelude.{◌≡◌, ℕ, true, List, ◌∷◌, ◌++◌, Some, slice_get}
+use Rattle.stream_traits.specs.Seen.{LinkSeen}
+use Rattle.attr_records.specs.Names.{is_host_name}
+use Rattle.office_model.specs.Office.{Office, Names}
+use Rattle.office_model.specs.UsedNames.{AreSound}
+use Rattle.office_model.specs.Step.{Call, Running}
+use Rattle.office_model.specs.History.{Entry, IsHistory, calls_of}
+use Rattle.request_events.specs.declared.defaults.Defaults.{Defaults}
+use Rattle.browse_http.specs.declared.end.End.{End}
+use Rattle.browse_http.specs.Talk as T
+use Rattle.peer_talk.specs.Mirror.{IsTalkBetween}
+use Rattle.pull_codec.specs.Codec.{InRange}
+use Rattle.pull_codec.specs.Relations.{AreInRange}
+use Rattle.pull_work.specs.declared.plan.Plan.{Plan}
+use Rattle.pull_work.specs.Steps.{AreTold}
+use Rattle.pull_work.specs.Script.{Phase, Asking}
+use Rattle.pull_work.specs.Runs.{Taken, AreTurns, steps_of}
+use Rattle.replicas.specs.Replicas.{Marked, all_in, own_in, AreAlone}
+
+-- What a client wrote and read is of a talk of this server. In a legal history of it from this office on, the calls of that talk are
+-- marked: the first of them is the history's first call, and no other call gets a frame of a restore of which they get one later.
+pub record IsPeer (first : Office) (names : Names) (wrote read : List ℕ) : Type 0 where
+  pub sound : AreSound first names
+  pub faults : ℕ
+  pub entries : List Entry
+  pub legal : IsHistory (Running first names) faults entries
+  pub marked : Marked
+  pub calls : all_in marked ≡ calls_of entries
+  pub defaults : Defaults
+  pub exchanges : List T.Exchange
+  -- the calls of a request that wasn't read whole
+  pub cut : List Call
+  pub end : End
+  pub are : T.AreExchanges defaults exchanges
+  pub in_range : AreInRange InRange exchanges
+  pub talk : IsTalkBetween wrote read exchanges cut end
+  pub own : own_in marked ≡ T.calls_of exchanges ++ cut
+  pub alone : AreAlone marked
+  pub begins : (call : Call) (more : List Call) → own_in marked ≡ call ∷ more → slice_get marked 0 ≡ Some (true, call)
+
+-- the turns of a pull up to a phase, over a link whose input is told, and what they wrote to it; at its other end is such a server
+pub record Talks (plan : Plan) (first : Office) (names : Names) (turns : List Taken) (phase : Phase) (old new : LinkSeen)
+    (input wrote : List ℕ) : Type 0 where
+  pub named : is_host_name plan.host ≡ true
+  pub are : AreTurns plan Asking turns phase
+  pub told : AreTold plan.host old new (steps_of turns)
+  pub left : old.left ≡ Some input
+  pub before : List ℕ
+  pub written : old.written ≡ Some before
+  pub wrote_is : new.written ≡ Some (before ++ wrote)
+  pub peer : IsPeer first names wrote input
