@@ -5,7 +5,7 @@ use Rattle.std.proofs.lemmas.Bool.{false≢true, or_parts}
 use Rattle.disk_trait.specs.declared.disk.Disk.{Ghosts as DiskGhosts}
 use Rattle.pool_name.specs.declared.namer.Namer.{Ghosts as NamerGhosts}
 use Rattle.intent_journal.specs.ChangesLaws.{either}
-use Rattle.journal_view.specs.View.{FindsOnly}
+use Rattle.journal_view.specs.View.{told, FindsOnly}
 use Rattle.journal_view.specs.ViewLaws.{FindsOnly-still}
 use Rattle.office_model.specs.declared.event.Event.{Event}
 use Rattle.office_model.specs.declared.event.Event.TheVariants.{Put, Reopen}
@@ -27,7 +27,7 @@ use Rattle.store_parts.specs.RunLaws.{counted_still}
 use Rattle.store_opening.specs.Begins.{MayLeave}
 use Rattle.store_opening.specs.Reopens.{Reopens, first_of, second_of}
 use Rattle.office_store.specs.declared.store.Store.{Store}
-use Rattle.office_store.specs.Damage.{IsThere, SaysOfFiles, TellsDamage}
+use Rattle.office_store.specs.Damage.{IsThere, SaysOfFiles, TellsDamage, WritesNoFile}
 use Rattle.office_store.specs.Serves.{is_reopen, LeftBy, MayRecover, MayStop, is_stopped, Serves}
 
 -- ---- whether an event is a reopening
@@ -114,7 +114,8 @@ module _ {D N S : Type 0} {d : DiskGhosts D} {n : NamerGhosts N S} where
   -- an event of a store at work
   module _ (old new : Store D N S d n) (event : Event) (reply : Reply) (work : is_stopped old.parts ≡ false)
       (runs : Runs old.parts event reply new.parts) (there : IsThere old.parts event reply)
-      (says : SaysOfFiles old.parts event reply new.parts) where
+      (says : SaysOfFiles old.parts event reply new.parts)
+      (quiet : WritesNoFile event → told new.parts.journal ≡ told old.parts.journal) where
     ready : old.parts.halted ≡ false
     ready = (or_parts old.parts.halted old.parts.journal.halted work).0
 
@@ -135,6 +136,7 @@ module _ {D N S : Type 0} {d : DiskGhosts D} {n : NamerGhosts N S} where
           (event_left state at);
       in_kind = runs.in_kind;
       damaged = tells old.parts event reply new.parts there says;
+      untouched = record { still = quiet; undone = λ none damage. runs.untouched damage };
       halts = λ stopped.
           inr (may_stop event reply (λ fine. false≢true (sym (still_works old.parts new.parts (runs.halts fine) work) ∙ stopped)));
       awake = λ e. absurd (runs.awake e);
@@ -163,6 +165,7 @@ module _ {D N S : Type 0} {d : DiskGhosts D} {n : NamerGhosts N S} where
       crash = λ state at. FindsOnly-still old.parts.journal (MayRecover n.digest_of state event);
       in_kind = tt;
       damaged = tt;
+      untouched = record { still = λ still. refl; undone = λ none damage. refl };
       halts = λ stopped. inl stuck;
       awake = λ e. (stuck, refl);
       stuck = λ was. inr refl;
@@ -183,6 +186,7 @@ module _ {D N S : Type 0} {d : DiskGhosts D} {n : NamerGhosts N S} where
         crash = crash;
         in_kind = reopens.in_kind;
         damaged = reopening_tells old.parts reply new.parts reopens;
+        untouched = record { still = λ still. absurd still; undone = λ none damage. absurd (none refl) };
         halts = reopening_halts old.parts reply new.parts reopens;
         awake = λ e. absurd (reopens.awake e);
         stuck = λ was. inl refl;
@@ -193,10 +197,10 @@ module _ {D N S : Type 0} {d : DiskGhosts D} {n : NamerGhosts N S} where
   -- the store asked whether it is halted, and went on
   pub answers : (old new : Store D N S d n) (event : Event) (reply : Reply) (asked halted : Bool) → asked ≡ is_reopen event
       → asked ≡ false → halted ≡ (old.parts.halted || old.parts.journal.halted) → halted ≡ false → Runs old.parts event reply new.parts
-      → IsThere old.parts event reply → SaysOfFiles old.parts event reply new.parts → Serves old event reply new
-  answers old new event reply asked halted is other stuck at_work runs there says =
-      serves_event old new event reply (sym stuck ∙ at_work) runs there says
-      (sym is ∙ other)
+      → IsThere old.parts event reply → SaysOfFiles old.parts event reply new.parts
+      → (WritesNoFile event → told new.parts.journal ≡ told old.parts.journal) → Serves old event reply new
+  answers old new event reply asked halted is other stuck at_work runs there says quiet =
+      serves_event old new event reply (sym stuck ∙ at_work) runs there says quiet (sym is ∙ other)
 
   -- or was, and answered so
   pub refuses : (old : Store D N S d n) (event : Event) (asked halted : Bool) → asked ≡ is_reopen event → asked ≡ false

@@ -6,6 +6,8 @@
 --     SaysOfFiles old event reply new      Ok is said only if they were there, each in its grammar or with its digest; Damaged names one
 --         that wasn't, with what was found of it
 --     TellsDamage old event reply new      both, if the store didn't answer that it is halted
+--     WritesNoFile event      an abort, and what opens a restore or gives its next frame
+--     LeavesTold old event reply new      what the disk tells is as before behind such an event, and behind one that found a damaged file
 use Rattle.std.specs.Prelude.{⊤, ◌≡◌, ℕ, [], ◌∷◌, Some, Ok, Err, OnOk, slice_get}
 use Rattle.disk_trait.specs.Files.{Files}
 use Rattle.disk_trait.specs.declared.disk.Disk.{Ghosts as DiskGhosts}
@@ -46,6 +48,12 @@ use Rattle.store_deletions.specs.Shortens.{named_numbers}
 use Rattle.store_migrations.specs.Called.{SaysOfMigration}
 use Rattle.store_opening.specs.Recovers.{IsForeignTo}
 use Rattle.store_opening.specs.Whole.{HasAllOf}
+
+abbrev pub WritesNoFile : Event → Type 0
+WritesNoFile (E.Abort session) = ⊤
+WritesNoFile (E.OpenRead host number base) = ⊤
+WritesNoFile (E.ReadNext restore) = ⊤
+WritesNoFile event = ⊥
 
 module _ {D N S : Type 0} {d : DiskGhosts D} {n : NamerGhosts N S} where
   -- the look-ups of the other events are in what they say of the files
@@ -123,3 +131,8 @@ module _ {D N S : Type 0} {d : DiskGhosts D} {n : NamerGhosts N S} where
   abbrev pub TellsDamage : StoreParts D N S d n → Event → Reply → StoreParts D N S d n → Type 0
   TellsDamage old event (Err R.Halted) new = ⊤
   TellsDamage old event reply new = IsThere old event reply × SaysOfFiles old event reply new
+
+  -- a reopening may have brought a commit to its end before it finds a file that isn't the store's
+  pub record LeavesTold (old : StoreParts D N S d n) (event : Event) (reply : Reply) (new : StoreParts D N S d n) : Type 0 where
+    pub still : WritesNoFile event → told new.journal ≡ told old.journal
+    pub undone : (event ≡ E.Reopen → ⊥) → (IsUndamaged reply → ⊥) → told new.journal ≡ told old.journal

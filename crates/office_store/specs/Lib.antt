@@ -1,9 +1,12 @@
 pub mod CrashLaws
 pub mod Damage
+pub mod DamageLaws
+pub mod DamagedFiles
 pub mod EndLaws
 pub mod Halts
 pub mod HaltsLaws
 pub mod Moves
 pub mod MovesLaws
+pub mod ReadLaws
 pub mod Serves
 pub mod ServesLaws

@@ -22,7 +22,7 @@ use Rattle.store_parts.specs.Runs.{Steps, MayRecover as MayRecoverOf}
 use Rattle.store_opening.specs.Begins.{MayLeave}
 use Rattle.store_opening.specs.Reopens.{first_of, second_of, Reopens}
 use Rattle.office_store.specs.declared.store.Store.{Store}
-use Rattle.office_store.specs.Damage.{TellsDamage}
+use Rattle.office_store.specs.Damage.{TellsDamage, LeavesTold}
 
 abbrev pub is_reopen : Event → Bool
 is_reopen Reopen = true
@@ -51,7 +51,7 @@ module _ {D N S : Type 0} {d : DiskGhosts D} {n : NamerGhosts N S} where
 
   -- The store answered an event: from each state that it was in by a step to a state that it is in; and a crash meanwhile leaves
   -- what an opening finds to be an office of that step. Over any disk an answer is of the event's kind, and says of the files that were
-  -- called for whether they are damaged. A store that is halted after the event was so before, or the disk failed in it, or a reopening
+  -- called for whether they are damaged; if one was, the files are as they were, but for a reopening. A store that is halted after the event was so before, or the disk failed in it, or a reopening
   -- found a file that isn't the store's; one that was halted answers so to all but a reopening, and no other does; and then nothing
   -- is done. Of a reopening its own promise holds, too: from the first sync that succeeded on a crash leaves one of the two offices
   -- alone, and after Ok the used names are those of the disk's Pool files.
@@ -61,6 +61,7 @@ module _ {D N S : Type 0} {d : DiskGhosts D} {n : NamerGhosts N S} where
         → FindsOnly old.parts.journal new.parts.journal (MayRecover n.digest_of state event)
     pub in_kind : IfOk reply (IsAnswerTo event)
     pub damaged : TellsDamage old.parts event reply new.parts
+    pub untouched : LeavesTold old.parts event reply new.parts
     pub halts : is_stopped new.parts ≡ true → (is_stopped old.parts ≡ true) ⊎ MayStop event reply
     pub awake : reply ≡ Err HaltedReply → (is_stopped old.parts ≡ true) × (new ≡ old)
     pub stuck : is_stopped old.parts ≡ true → (event ≡ Reopen) ⊎ (reply ≡ Err HaltedReply)

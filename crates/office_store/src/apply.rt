@@ -1,7 +1,8 @@
 //! One event of a store, whichever it is.
 
 ghost use Rattle.std.specs.Prelude.{◌≡◌, ◌||◌, false};
-ghost use Rattle.office_store.specs.Damage.{IsThere, SaysOfFiles};
+ghost use Rattle.journal_view.specs.View.{told};
+ghost use Rattle.office_store.specs.Damage.{IsThere, SaysOfFiles, WritesNoFile};
 ghost use Rattle.office_store.specs.Serves.{is_reopen};
 ghost use Rattle.store_parts.specs.Runs.{Runs};
 
@@ -42,6 +43,7 @@ fn carry_out<D: Disk, N: Namer>(
     ensures runs { Runs parts.old event.now result parts.new }
     ensures there { IsThere parts.old event.now result }
     ensures files { SaysOfFiles parts.old event.now result parts.new }
+    ensures quiet { WritesNoFile event.now → told parts.new.journal ≡ told parts.old.journal }
 {
     match event {
         Event::AddHost { host, rules } => add_host(parts, alloc, host, rules),

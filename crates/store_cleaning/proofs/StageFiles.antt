@@ -321,8 +321,8 @@ module _ {D N S : Type 0} {d : DiskGhosts D} {n : NamerGhosts N S} where
         subst (λ (p : StoreParts D N S d n). IsRunning p office names) (sym others) (running_at old mid.journal drops office names at)
 
     pub runs_behind_stages : (new : StoreParts D N S d n) (reply : Reply) → d.fault_count mid.journal.disk ≡ d.fault_count old.journal.disk
-        → Runs mid Sweep reply new → Runs old Sweep reply new
-    runs_behind_stages new reply same runs = record {
+        → IsUndamaged reply → Runs mid Sweep reply new → Runs old Sweep reply new
+    runs_behind_stages new reply same undamaged runs = record {
       steps = λ office names at. runs.steps office names (running_left office names at);
       crash = λ office names at.
           FindsOnly-then (MayRecover n.digest_of office ((meaning_of Sweep).carried office names)) old.journal mid.journal new.journal
@@ -332,6 +332,7 @@ module _ {D N S : Type 0} {d : DiskGhosts D} {n : NamerGhosts N S} where
       awake = runs.awake;
       halts = λ not. works_then old mid new works_left (runs.halts not);
       counted = subst (λ (k : ℕ). Counted k (d.fault_count new.journal.disk) (reply ≡ Err DiskFault)) same runs.counted;
+      untouched = λ damage. absurd (damage undamaged);
     }
 
     some_same : (office : Office) (names : Names) → IsRunning old office names → AreSome names.used names.used
@@ -356,6 +357,7 @@ module _ {D N S : Type 0} {d : DiskGhosts D} {n : NamerGhosts N S} where
         rose = λ e. counted.rose (let same : refusal ≡ DiskFault = cc in ap (λ (r : Refusal). Err r) same);
         stays = λ not. counted.stays (λ e. not (let same : refusal ≡ DiskFault = cc in ap (λ (r : Refusal). Err r) same));
       };
+      untouched = λ damage. absurd (damage (undamaged_left refusal kind));
     }
       where
         step : (office : Office) (names : Names) → IsRunning old office names → (refusal : Refusal)

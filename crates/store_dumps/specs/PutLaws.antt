@@ -239,6 +239,7 @@ module _ {D N S : Type 0} {d : DiskGhosts D} {n : NamerGhosts N S} where
           awake = λ e. absurd cc;
           halts = λ not. works_at new same halted;
           counted = counted_at new same (counted_fine counted fine (λ x. absurd cc));
+          untouched = λ damage. absurd (damage tt);
         }
 
         -- it was not, and the claim is let go
@@ -273,6 +274,7 @@ module _ {D N S : Type 0} {d : DiskGhosts D} {n : NamerGhosts N S} where
           awake = λ e. absurd cc;
           halts = λ not. works_at new same halted;
           counted = counted_at new same (counted_fine counted fine (λ x. absurd cc));
+          untouched = λ damage. absurd (damage tt);
         }
         runs_put_back (PF.Broken broken) never go alike takes = record {
           steps = λ office names at. absurd (never office names at broken refl);
@@ -281,6 +283,7 @@ module _ {D N S : Type 0} {d : DiskGhosts D} {n : NamerGhosts N S} where
           awake = λ e. absurd cc;
           halts = λ not. works_at new same halted;
           counted = counted_at new same (counted_fine counted fine (λ x. absurd cc));
+          untouched = λ damage. absurd (damage tt);
         }
 
     -- ---- they got none
@@ -332,6 +335,7 @@ module _ {D N S : Type 0} {d : DiskGhosts D} {n : NamerGhosts N S} where
       awake = λ e. absurd cc;
       halts = λ not. works_at mid refl refl;
       counted = counted_fine counted (λ x. absurd cc) (λ x. absurd cc);
+      untouched = λ damage. absurd (damage tt);
     }
     runs_missed P.Disk undamaged missed counted = record {
       steps = λ office names at. let m = missed office names at in steps_missed P.Disk office names at m R.DiskFault
@@ -341,6 +345,7 @@ module _ {D N S : Type 0} {d : DiskGhosts D} {n : NamerGhosts N S} where
       awake = λ e. absurd cc;
       halts = λ not. absurd (not refl);
       counted = counted_failed counted refl refl;
+      untouched = λ damage. absurd (damage tt);
     }
     runs_missed P.Memory undamaged missed counted = record {
       steps = λ office names at. let m = missed office names at in
@@ -350,6 +355,7 @@ module _ {D N S : Type 0} {d : DiskGhosts D} {n : NamerGhosts N S} where
       awake = λ e. absurd cc;
       halts = λ not. works_at mid refl refl;
       counted = counted_fine counted (λ x. absurd cc) (λ x. absurd cc);
+      untouched = λ damage. absurd (damage tt);
     }
     runs_missed (P.Damaged id found) undamaged missed counted = absurd (undamaged id found refl)
     runs_missed P.ChainFull undamaged missed counted = record {
@@ -362,4 +368,5 @@ module _ {D N S : Type 0} {d : DiskGhosts D} {n : NamerGhosts N S} where
       awake = λ e. absurd cc;
       halts = λ not. works_at mid refl refl;
       counted = counted_fine counted (λ x. absurd cc) (λ x. absurd cc);
+      untouched = λ damage. absurd (damage tt);
     }

@@ -1,6 +1,7 @@
 //! An open dump is dropped.
 
 ghost use Rattle.std.specs.Prelude.{◌≡◌, false};
+ghost use Rattle.journal_view.specs.View.{told};
 ghost use Rattle.office_model.specs.declared.event.Event.TheVariants.{Abort};
 ghost use Rattle.office_model.specs.History.{IsUndamaged};
 ghost use Rattle.store_parts.specs.Runs.{Runs};
@@ -22,6 +23,7 @@ pub fn abort<D: Disk, N: Namer>(
     requires ready { parts.old.halted ≡ false }
     ensures runs { Runs parts.old (Abort session) result parts.new }
     ensures undamaged { IsUndamaged result }
+    ensures quiet { told parts.new.journal ≡ told parts.old.journal }
 {
     let at = parts.dump(session)?;
     match release_dump(&mut parts.pool, alloc, parts.sessions.dump(at)) {

@@ -14,7 +14,7 @@ use Rattle.disk_trait.specs.declared.ids.FileId.TheVariants.{Pool as PoolFile}
 use Rattle.disk_trait.specs.declared.disk.Disk.{Ghosts as DiskGhosts}
 use Rattle.pool_name.specs.declared.namer.Namer.{Ghosts as NamerGhosts}
 use Rattle.journal_view.specs.Found.{IsAlikeBut}
-use Rattle.journal_view.specs.View.{uncertain, FindsOnly, Quiet}
+use Rattle.journal_view.specs.View.{told, uncertain, FindsOnly, Quiet}
 use Rattle.journal_view.specs.ViewLaws.{FindsOnly-each, Quiet-still}
 use Rattle.pool_index.specs.Index.{Index, TellsIn}
 use Rattle.pool_changes.specs.declared.slot.Slot.{Slot}
@@ -208,6 +208,7 @@ module _ {D N S : Type 0} {d : DiskGhosts D} {n : NamerGhosts N S} where
       awake = λ e. absurd cc;
       halts = λ not. works_stays old new stays;
       counted = counted_fine counted fine (λ e. absurd cc);
+      untouched = λ damage. absurd (damage tt);
     }
 
     -- refused, and at work with the same office
@@ -228,6 +229,7 @@ module _ {D N S : Type 0} {d : DiskGhosts D} {n : NamerGhosts N S} where
         awake = λ e. at_work (let f : refusal ≡ Halted = cc in f);
         halts = λ not. works_stays old new stays;
         counted = counted_fine counted fine (λ e. other (let f : refusal ≡ DiskFault = cc in f));
+        untouched = λ damage. stays.quiet.told_same;
       }
 
       pub runs_same_memory : Runs old event (Err Memory) new
@@ -244,13 +246,14 @@ module _ {D N S : Type 0} {d : DiskGhosts D} {n : NamerGhosts N S} where
   -- what no store at work replies
   pub runs_never : (old new : StoreParts D N S d n) (event : Event) (reply : Reply)
       → ((office : Office) (names : Names) → IsRunning old office names → ⊥) → IfOk reply (IsAnswerTo event)
-      → (reply ≡ Err Halted → ⊥) → StaysAtWork old new
+      → (reply ≡ Err Halted → ⊥) → StaysAtWork old new → told new.journal ≡ told old.journal
       → Counted (d.fault_count old.journal.disk) (d.fault_count new.journal.disk) (reply ≡ Err DiskFault) → Runs old event reply new
-  runs_never old new event reply never in_kind awake works counted = record {
+  runs_never old new event reply never in_kind awake works same counted = record {
     steps = λ office names at. absurd (never office names at);
     crash = λ office names at. absurd (never office names at);
     in_kind = in_kind;
     awake = awake;
     halts = λ not. works;
     counted = counted;
+    untouched = λ damage. same;
   }

@@ -93,6 +93,7 @@ module _ {D N S : Type 0} {d : DiskGhosts D} {n : NamerGhosts N S} where
         (λ office names at. let none = is office names at in file_first rule office names (rw none refl)) (counted_fine counted (λ e. cc) (λ e. e))
     open_refused (Damaged file found) is counted =
         runs_never old mid (OpenFile name number path) (Err (Damaged file found)) is tt (λ e. absurd cc) (works_reads old mid reads)
+        reads.quiet.told_same
         (counted_fine counted (λ e. cc) (λ e. cc))
     open_refused DiskFault is counted = runs_read_fault old mid (OpenFile name number path) reads (λ office names. refl) counted refl
     open_refused Memory is counted = runs_memory old mid (OpenFile name number path) reads (counted_fine counted (λ e. cc) (λ e. e))

@@ -255,7 +255,7 @@ module _ {D N S : Type 0} {d : DiskGhosts D} {n : NamerGhosts N S} where
         let f = found office names at in
         never_wrong n.holds (given (slots old)) (contents_of at.all) f.value reader f.is content digest wrong) tt
         (λ e. damaged_awake content digest refusal kind (let same : refusal ≡ Halted = cc in same)) (works_reads old old (reads_still old))
-        (counted_fine (counted_still (count_of old) ⊥ (λ e. e)) (λ e. e) (damaged_fine content digest refusal kind))
+        refl (counted_fine (counted_still (count_of old) ⊥ (λ e. e)) (λ e. e) (damaged_fine content digest refusal kind))
 
     module _ (asked : Asked) (is_next : Piece asked ≡ next_of reader) where
       abbrev asked_is : IsAsked reader asked
@@ -278,7 +278,7 @@ module _ {D N S : Type 0} {d : DiskGhosts D} {n : NamerGhosts N S} where
           runs_read_fault old mid (ReadPart number) (reads_of old mid looks) (λ office names. refl) counted refl
       part_fault mid looks (Damaged file content) fault counted =
           runs_never old mid (ReadPart number) (Err (Damaged file content)) never tt (λ e. absurd cc) (works_reads old mid (reads_of old mid looks))
-          (counted_fine counted (λ e. cc) (λ e. cc))
+          looks.quiet.told_same (counted_fine counted (λ e. cc) (λ e. cc))
         where
           never : (office : Office) (names : Names) → IsRunning old office names → ⊥
           never office names at =
@@ -341,5 +341,5 @@ module _ {D N S : Type 0} {d : DiskGhosts D} {n : NamerGhosts N S} where
             let is = wrong passes.passed.next (behind_there old new index reader there asked part passes) in
             let none = never_found office names at in
             let never : ⊥ = cc in never) tt (λ e. damaged_awake asked.content digest refusal kind (let same : refusal ≡ Halted = cc in same))
-            (works_stays old new stays)
+            (works_stays old new stays) stays.quiet.told_same
             (counted_fine counted_new fine (damaged_fine asked.content digest refusal kind))

@@ -3,6 +3,7 @@
 ghost use Rattle.std.specs.Prelude.{◌≡◌, ◌<◌, ◌≤◌, ◌-◌, ◌^◌, ℕ, Some, true, false, length, slice_get, IfOk, OnErr};
 ghost use Rattle.disk_trait.specs.declared.ids.PoolId.{PoolId};
 ghost use Rattle.stored_trees.specs.Occurrences.{occurrences};
+ghost use Rattle.journal_view.specs.View.{told};
 ghost use Rattle.pool_changes.specs.Kept.{slots_of};
 ghost use Rattle.pool_changes.specs.Slots.{is_given};
 ghost use Rattle.open_sessions.specs.declared.sessions.OpenRestore.{OpenRestore};
@@ -106,6 +107,7 @@ pub fn open_read<D: Disk, N: Namer>(
     requires journal_ready { parts.old.journal.halted ≡ false }
     ensures runs { Runs parts.old (OpenRead host.now number base) result parts.new }
     ensures read { SaysOpened parts.old host.now number base result parts.new }
+    ensures quiet { told parts.new.journal ≡ told parts.old.journal }
 {
     let rows = match read_backup(parts, alloc, host, number) {
         Ok(rows) => rows,

@@ -1,6 +1,7 @@
 //! A restore gives its next frame.
 
 ghost use Rattle.std.specs.Prelude.{◌≡◌, ◌<◌, ◌-◌, ◌^◌, ℕ, false, Some, length, slice_get};
+ghost use Rattle.journal_view.specs.View.{told};
 ghost use Rattle.office_model.specs.declared.event.Event.TheVariants.{ReadNext};
 ghost use Rattle.receipts.specs.declared.session.SessionName.{SessionName as SessionNameValue};
 ghost use Rattle.open_sessions.specs.declared.sessions.Next.TheVariants.{Piece as NextPiece};
@@ -50,6 +51,7 @@ fn give_piece<D: Disk, N: Namer>(
         → Runs parts.old (ReadNext session) result parts.new }
     ensures gives { (restore : OpenRestore N.State) → slice_get parts.old.sessions.restores.items at ≡ Some restore
         → GivesNext (NextPiece asked.now) parts.old at restore result parts.new }
+    ensures quiet { told parts.new.journal ≡ told parts.old.journal }
 {
     let piece = match read_piece(parts, alloc, asked.content, asked.from, room_of(asked)) {
         Ok(piece) => piece,
@@ -80,6 +82,7 @@ pub fn read_next<D: Disk, N: Namer>(
         → slice_get parts.old.sessions.restores.items at ≡ Some session
         → GivesNext (next_in session.removed session.rows session.place) parts.old at session result parts.new }
     ensures here { HasRestore parts.old restore result }
+    ensures quiet { told parts.new.journal ≡ told parts.old.journal }
 {
     let at = parts.restore(restore)?;
     match parts.sessions.next(at) {

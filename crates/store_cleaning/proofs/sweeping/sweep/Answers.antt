@@ -12,7 +12,8 @@ returns-in-Err-clause-undamaged g c = undamaged_left c.in-Err.refusal c.in-Err.e
 pub returns-clause-runs : goal.returns-clause-runs
 returns-clause-runs g c =
     runs_behind_stages c.args.parts.now c.sweep_stages.new.parts c.in-Ok.ensures.others c.in-Ok.ensures.drops c.in-Ok.ensures.halted
-    c.sweep_pool.new.parts c.sweep_pool.result (c.in-Ok.ensures.counted.stays (λ e. absurd cc)) c.sweep_pool.ensures.runs
+    c.sweep_pool.new.parts c.sweep_pool.result (c.in-Ok.ensures.counted.stays (λ e. absurd cc)) c.sweep_pool.ensures.undamaged
+    c.sweep_pool.ensures.runs
 
 pub returns-clause-stages : goal.returns-clause-stages
 returns-clause-stages g c = on_ok c.sweep_pool.result _ (λ all is.

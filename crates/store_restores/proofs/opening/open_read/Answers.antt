@@ -1,5 +1,6 @@
 use Rattle.std.specs.Prelude.{Option}
-use Rattle.std.proofs.Common.{refl}
+use Rattle.std.proofs.Common.{refl, ap, ◌∙◌}
+use Rattle.journal_view.specs.View.{told}
 use Rattle.merge_view.specs.Views.{Rows}
 use Rattle.store_parts.specs.RunLaws.{counted_then}
 use Rattle.store_reads.specs.Told.{TellsBackup}
@@ -90,3 +91,23 @@ returns-in-Ok-open_with-clause-read g c = (
     ),
   ),
 )
+
+pub returns-in-Err-clause-quiet : goal.returns-in-Err-clause-quiet
+returns-in-Err-clause-quiet g c = c.in-Err.ensures.looks.quiet.told_same
+
+pub returns-in-Err-read_base-clause-quiet : goal.returns-in-Err-read_base-clause-quiet
+returns-in-Err-read_base-clause-quiet g c = c.in-Err-read_base.ensures.looks.quiet.told_same ∙ c.in-Ok.ensures.looks.quiet.told_same
+
+pub returns-then-parts-ge18446744073709551615-clause-quiet : goal.returns-then-parts-ge18446744073709551615-clause-quiet
+returns-then-parts-ge18446744073709551615-clause-quiet g c =
+    c.in-Ok-read_base.ensures.looks.quiet.told_same ∙ c.in-Ok.ensures.looks.quiet.told_same
+
+pub returns-in-Err-open_with-clause-quiet : goal.returns-in-Err-open_with-clause-quiet
+returns-in-Err-open_with-clause-quiet g c =
+    ap (λ journal. told journal) c.open_with.ensures.journal
+    ∙ c.in-Ok-read_base.ensures.looks.quiet.told_same ∙ c.in-Ok.ensures.looks.quiet.told_same
+
+pub returns-in-Ok-open_with-clause-quiet : goal.returns-in-Ok-open_with-clause-quiet
+returns-in-Ok-open_with-clause-quiet g c =
+    ap (λ journal. told journal) c.open_with.ensures.journal
+    ∙ c.in-Ok-read_base.ensures.looks.quiet.told_same ∙ c.in-Ok.ensures.looks.quiet.told_same

@@ -110,3 +110,12 @@ returns-in-Some-clause-gives g c = λ restore there.
       is = c.in-Some.ensures;
       refused = c.wrong_content.ensures;
     })
+
+pub returns-in-Err-clause-quiet : goal.returns-in-Err-clause-quiet
+returns-in-Err-clause-quiet g c = c.in-Err.ensures.looks.quiet.told_same
+
+pub returns-in-None-clause-quiet : goal.returns-in-None-clause-quiet
+returns-in-None-clause-quiet g c = c.in-Ok.ensures.looks.quiet.told_same
+
+pub returns-in-Some-clause-quiet : goal.returns-in-Some-clause-quiet
+returns-in-Some-clause-quiet g c = c.in-Ok.ensures.looks.quiet.told_same

@@ -16,7 +16,7 @@ returns-then-is_halted-clause-reopens g c = λ e. absurd (no_reopening _ _ c.is_
 pub returns-clause-serves : goal.returns-clause-serves
 returns-clause-serves g c =
     answers c.args.self.now _ _ _ _ _ c.is_reopen.ensures c.if-is_reopen.false c.is_halted.ensures c.if-is_halted.false c.carry_out.ensures.runs
-    c.carry_out.ensures.there c.carry_out.ensures.files
+    c.carry_out.ensures.there c.carry_out.ensures.files c.carry_out.ensures.quiet
 
 pub returns-clause-reopens : goal.returns-clause-reopens
 returns-clause-reopens g c = λ e. absurd (no_reopening _ _ c.is_reopen.ensures c.if-is_reopen.false e)
