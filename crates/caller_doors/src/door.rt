@@ -6,9 +6,9 @@ ghost use Rattle.caller_doors.specs.Links.{ahead_of, with_last, IsEmptied};
 use crate::came::Came;
 use stream_traits::Link;
 
-/// Where links come from, one after the other; it may go into a thread.
+/// Where links come from, one after the other; it may go into a thread, and so may each link.
 pub trait Door: Send {
-    type Link: Link;
+    type Link: Link + Send;
 
     // The links to come, where they are told.
     ghost coming: { Self → Option (List Self.Link) };
