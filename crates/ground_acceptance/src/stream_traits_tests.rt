@@ -27,7 +27,7 @@ fn two_readings<C: Clock>(clock: &mut C) -> (u64, u64) {
 }
 
 /// Lends a link to one thread and a clock to another, and says what they gave.
-fn write_apart<L: Link, C: Clock>(
+fn write_apart<L: Link + Send, C: Clock>(
     rt: &impl Threads,
     link: &mut L,
     clock: &mut C,
@@ -36,7 +36,7 @@ fn write_apart<L: Link, C: Clock>(
 }
 
 /// Moves a link into one thread and a clock into another, and gives both back.
-fn move_apart<L: Link + Drop, C: Clock + Drop>(
+fn move_apart<L: Link + Send + Drop, C: Clock + Drop>(
     rt: &impl Threads,
     mut link: L,
     mut clock: C,
