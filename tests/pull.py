@@ -4,6 +4,7 @@ behind a pull is compared with them line by line and byte by byte, also behind p
 import http.client
 import json
 import os
+import pty
 import random
 import re
 import shutil
@@ -116,6 +117,20 @@ class Replica:
             raise Wrong(f"a pull printed {ran.stdout[:200]!r}")
         return ran.returncode, ran.stderr.rstrip("\n")
 
+    def pull_at_terminal(self, port):
+        """The status of a pull whose standard error is a terminal, and what stood there."""
+        terminal, end = pty.openpty()
+        run = subprocess.Popen(self.words(port), stdin=subprocess.DEVNULL, stdout=subprocess.DEVNULL, stderr=end)
+        os.close(end)
+        said = b""
+        try:
+            while some := os.read(terminal, 4096):
+                said += some
+        except OSError:
+            pass  # no writer is left
+        os.close(terminal)
+        return run.wait(120), said.decode()
+
     def serve(self):
         return Server(self.program, self.store)
 
@@ -157,6 +172,21 @@ def worked(program, room):
     expect("what the replica keeps", [line[0] for line in lines_of(second)], list(range(9)))
     expect("the newest backup's frames", stream_of(second, 8) == stream_of(first, 8), True)
     second.end()
+    first.end()
+
+
+def shown(program, room):
+    """At a terminal a pull says how far it is: all entries and all bytes at its end; elsewhere its note alone."""
+    first, replica = Server(program, f"{room}/first"), Replica(program, f"{room}/second")
+    first.want(201, "PUT", "/hosts/pc1")
+    dump = json.loads(first.want(201, "POST", "/hosts/pc1/dumps?kind=full"))["dump"]
+    for number in range(30):
+        first.want(200, "PUT", f"/dumps/{dump}/entry?path=f{number}&kind=file&mode=644", b"x" * 1000)
+    first.want(201, "POST", f"/dumps/{dump}/commit")
+    status, said = replica.pull_at_terminal(first.port)
+    expect("the status at a terminal", status, 0)
+    expect("what it came to", bool(re.search(r"30 entries, 30000 bytes, \d+\.\d MB/s\s", said)), True)
+    expect("the note at a terminal", said.rstrip().endswith("pulled pc1 1"), True)
     first.end()
 
 
@@ -208,7 +238,7 @@ def killed(program, room, kills):
 
 def main(program, kills):
     passed = failed = 0
-    for what, steps in (("worked", worked), ("refused", refused), ("killed", lambda *given: killed(*given, kills))):
+    for what, steps in (("worked", worked), ("shown", shown), ("refused", refused), ("killed", lambda *given: killed(*given, kills))):
         room = tempfile.mkdtemp()
         try:
             steps(program, room)

@@ -14,6 +14,7 @@ pub mod PullCalls
 pub mod PullLaws
 pub mod PullStops
 pub mod RefusalLaws
+pub mod ReplicaLaws
 pub mod RunLaws
 pub mod ServerLaws
 pub mod StopLaws

@@ -3,11 +3,12 @@
 use Rattle.std.specs.Prelude.{◌||◌}
 use Rattle.std.proofs.Common.{◌≡◌, ℕ, ◌-◌, ◌^◌, ◌<◌, ◌≤◌, Bool, true, false, List, [], ◌∷◌, length, Option, refl, sym, ap, ◌∙◌, subst, inl, inr, arith}
 use Rattle.fault_counts.specs.Counts.{Rose, Counted}
+use Rattle.attr_records.specs.Names.{is_host_name}
 use Rattle.disk_trait.specs.declared.disk.Disk.{Ghosts as DiskGhosts}
 use Rattle.pool_name.specs.declared.namer.Namer.{Ghosts as NamerGhosts}
 use Rattle.pool_changes.specs.Kept.{slots_of}
 use Rattle.pool_store.specs.Opening.{AreThePoolFiles}
-use Rattle.office_model.specs.Office.{Durable, reopened}
+use Rattle.office_model.specs.Office.{Office, Durable, Names, reopened}
 use Rattle.office_model.specs.Step.{Call}
 use Rattle.store_opening.specs.Opens.{IsOf, Opened}
 use Rattle.store_opening.specs.Settles.{ComesToOne}
@@ -22,16 +23,20 @@ use Rattle.settings_file.specs.Document.{IsSettings}
 use Rattle.pull_work.specs.declared.plan.Plan.{Plan}
 use Rattle.pull_work.specs.declared.ends.PullEnd.{PullEnd}
 use Rattle.pull_work.specs.declared.ends.PullEnd.TheVariants as E
-use Rattle.pull_work.specs.Steps.{calls_in}
+use Rattle.pull_work.specs.Steps.{calls_in, AreTold}
 use Rattle.pull_work.specs.Script.{Asking, Over}
-use Rattle.pull_work.specs.Runs.{Goes, steps_of}
+use Rattle.pull_work.specs.Runs.{Goes, Taken, AreTurns, steps_of}
+use Rattle.replica_talks.specs.Peers.{Talks}
+use Rattle.replica_talks.proofs.Served.{talks_heard}
 use Rattle.command_line.specs.Line.{Line, Pull}
 use Rattle.admin_cli.specs.declared.note.Note.{Note}
 use Rattle.admin_cli.specs.declared.note.Note.TheVariants as N
 use Rattle.admin_cli.specs.Command.{AsksFor}
 use Rattle.admin_cli.specs.Pulls.{note_of_pull, plan_of, HasPullCause, IsBehindWire, DoesPull}
 use Rattle.admin_cli.specs.Folders.{IsCauseAtWork}
+use Rattle.admin_cli.specs.Replicated.{HearsPeer}
 use Rattle.admin_cli.specs.Run.{IsServed, IsComplete}
+use Rattle.admin_cli.proofs.ReplicaLaws.{makes_replica}
 use Rattle.admin_cli.proofs.PullCalls.{EndedBy, pull_ended, pull_others}
 use Rattle.admin_cli.proofs.PullStops.{pull_stops}
 use Rattle.admin_cli.proofs.EndLaws.{rule_ends, call_ends}
@@ -62,6 +67,23 @@ behind_wire ahead left wire link few left_is same written sent faults = record {
   faults = faults;
 }
 
+-- ---- the other server
+
+talks_of : (host : List ℕ) (read : Settings) (start : ℕ) (first : Office) (names : Names) (turns : List Taken) (end : PullEnd)
+    (link link' wire' : LinkSeen) → is_host_name host ≡ true → AreTurns (plan_of host read start) Asking turns (Over end)
+    → AreTold host link wire' (steps_of turns) → IsBehindWire wire' link' → (hears : HearsPeer link link' first names)
+    → Talks (plan_of host read start) first names turns (Over end) link wire' hears.input hears.wrote
+talks_of host read start first names turns end link link' wire' named are told behind hears = record {
+  named = named;
+  are = are;
+  told = told;
+  left = hears.came;
+  before = hears.before;
+  written = hears.written;
+  wrote_is = sym behind.written ∙ hears.written_now;
+  peer = hears.peer;
+}
+
 -- ---- a run that opened its store
 
 has_cause : {D : Type 0} (d : DiskGhosts D) (digest_of : List ℕ → List ℕ) (disk disk' : D) (calls : List Call) (halted : Bool)
@@ -88,7 +110,8 @@ module _ {D N S : Type 0} {d : DiskGhosts D} {n : NamerGhosts N S} (disk : D) (s
   pub does_pull : (host copy from : List ℕ) (line : Option Line) (settings : List ℕ) (read : Settings) (start : ℕ) (plan : Plan)
       (port port' : DirectPort D N S d n) (link link' wire wire' : LinkSeen) (moments moments' : Option (List ℕ)) (end : PullEnd)
       (disk' : D) (halted : Bool) (note : Note)
-      → AsksFor (Pull host from) line → IsSettings settings read → Gave moments (start ∷ []) moments' → copy ≡ host
+      → AsksFor (Pull host from) line → IsSettings settings read → Gave moments (start ∷ []) moments'
+      → (copy ≡ host) × (is_host_name copy ≡ true)
       → plan ≡ plan_of copy read start → port.store ≡ store
       → Goes (λ (p : DirectPort D N S d n) calls (q : DirectPort D N S d n). Moves p.store calls q.store) plan port port' wire wire' Asking
       (Over end)
@@ -98,7 +121,8 @@ module _ {D N S : Type 0} {d : DiskGhosts D} {n : NamerGhosts N S} (disk : D) (s
       → DoesPull d n.digest_of disk disk' line settings link link' moments moments' note
   does_pull host copy from line settings read start plan port port' link link' wire wire' moments moments' end disk' halted note
       asked is_read clock same made_is port_is goes_by counted_by wire_is behind store_is disk_is halted_is note_by =
-      let plan_is : plan ≡ plan_of host read start = made_is ∙ ap (λ (h : List ℕ). plan_of h read start) same in
+      let plan_is : plan ≡ plan_of host read start = made_is ∙ ap (λ (h : List ℕ). plan_of h read start) same.0 in
+      let named : is_host_name host ≡ true = ap is_host_name (sym same.0) ∙ same.1 in
       let note_is : note ≡ note_of_pull host end halted = subst (λ (p : Plan). note ≡ note_of_pull p.host end halted) plan_is note_by in
       let goes : Goes (λ (p : DirectPort D N S d n) calls (q : DirectPort D N S d n). Moves p.store calls q.store) (plan_of host read start)
       port port' link wire' Asking (Over end) =
@@ -142,6 +166,12 @@ module _ {D N S : Type 0} {d : DiskGhosts D} {n : NamerGhosts N S} (disk : D) (s
             (calls_in (steps_of goes.turns))
             (leads disk store store' settles calm listed ready (calls_in (steps_of goes.turns)) moved)
             (pull_others (plan_of host read start) Asking (Over end) goes.turns goes.are) host end ended is;
+        replica = λ a b first names stands hears.
+            makes_replica d n.digest_of disk store'.parts.journal.disk (plan_of host read start) goes.turns end
+            (store'.parts.halted || store'.parts.journal.halted) a b first names goes.are
+            (is_served disk store store' settles calm listed ready (calls_in (steps_of goes.turns)) moved a b stands)
+            (talks_heard (plan_of host read start) first names goes.turns (Over end) link wire' hears.input hears.wrote
+            (talks_of host read start first names goes.turns end link link' wire' named goes.are goes.told behind hears));
         note_is = refl;
       })
 

@@ -6,6 +6,7 @@ pub mod Folders
 pub mod Migrations
 pub mod Nights
 pub mod Pulls
+pub mod Replicated
 pub mod Run
 pub mod Runs
 pub mod Servers

@@ -8,7 +8,7 @@ use Rattle.fault_counts.specs.Counts.{Rose, Counted}
 use Rattle.disk_trait.specs.declared.disk.Disk.{Ghosts as DiskGhosts}
 use Rattle.stream_traits.specs.Seen.{LinkSeen}
 use Rattle.stream_traits.specs.Told.{before}
-use Rattle.office_model.specs.Office.{Durable}
+use Rattle.office_model.specs.Office.{Office, Durable, Names}
 use Rattle.call_scripts.specs.Moments.{Gave}
 use Rattle.settings_file.specs.declared.read.Settings.{Settings}
 use Rattle.settings_file.specs.Document.{IsSettings}
@@ -22,6 +22,7 @@ use Rattle.admin_cli.specs.declared.note.Note.{Note}
 use Rattle.admin_cli.specs.declared.note.Note.TheVariants as N
 use Rattle.admin_cli.specs.Command.{AsksFor}
 use Rattle.admin_cli.specs.Folders.{note_of_rule, note_of_call, IsCauseAtWork}
+use Rattle.admin_cli.specs.Replicated.{HearsPeer, MakesReplica}
 use Rattle.admin_cli.specs.Run.{StandsForEither, LeadsOnDisk}
 
 abbrev pub note_of_pull : (host : List ℕ) → PullEnd → (halted : Bool) → Note
@@ -52,7 +53,8 @@ plan_of host read start = record { host = host; rules = read.rules; start = star
 module _ {D : Type 0} (d : DiskGhosts D) (digest_of : List ℕ → List ℕ) where
   -- The words ask for `pull`, the store was opened, the clock was read once, and the pull's steps, which are the script of a pull from its
   -- beginning to its end, lead from the disk that came in to that handed back, and over the link as they say: on it stand the requests
-  -- alone, and what was taken of its input are their responses. The link's count rose exactly if it failed.
+  -- alone, and what was taken of its input are their responses. The link's count rose exactly if it failed. If these were another
+  -- server's, the disk stands for a replica of the host's backups there, however far the pull came, and so does what a crash leaves.
   pub record DoesPull (disk disk' : D) (line : Option Line) (settings : List ℕ) (link link' : LinkSeen)
       (moments moments' : Option (List ℕ)) (note : Note) : Type 0 where
     pub host : List ℕ
@@ -73,4 +75,6 @@ module _ {D : Type 0} (d : DiskGhosts D) (digest_of : List ℕ → List ℕ) whe
         × (halted ≡ true → Rose (d.fault_count disk) (d.fault_count disk'))
     pub later : d.fault_count disk ≤ d.fault_count disk'
     pub stops : note ≡ N.DiskFailed → Rose (d.fault_count disk) (d.fault_count disk')
+    pub replica : (a b : Durable) (first : Office) (names : Names) → StandsForEither d digest_of disk a b → HearsPeer link link' first names
+        → MakesReplica d digest_of disk disk' a b first.hosts host end
     pub note_is : note ≡ note_of_pull host end halted

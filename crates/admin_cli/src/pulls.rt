@@ -1,6 +1,7 @@
 //! The command `pull`: a host's backups are brought from the server at the other end of the link.
 
-ghost use Rattle.std.specs.Prelude.{◌≡◌, ◌⊎◌, ℕ, List, Option};
+ghost use Rattle.std.specs.Prelude.{◌≡◌, ◌⊎◌, ℕ, true, List, Option, IfOk};
+ghost use Rattle.attr_records.specs.Names.{is_host_name};
 ghost use Rattle.stream_traits.specs.Seen.{seen_of};
 ghost use Rattle.settings_file.specs.Document.{IsSettings};
 ghost use Rattle.command_line.specs.Line.{Line, Pull};
@@ -37,6 +38,14 @@ fn note_of_pull(host: HostName, end: PullEnd, halted: bool) -> Note
     }
 }
 
+/// A host's name once more, or want of memory.
+fn copied(alloc: Global, host: &HostName) -> Result<HostName, AllocError>
+    ensures { IfOk result (λ copy. (copy ≡ host.now) × (is_host_name copy ≡ true)) }
+{
+    let _text = host.as_slice();
+    host.copy(alloc)
+}
+
 /// What a pull of a host is to do, by these settings, from this moment on.
 fn plan_of(host: HostName, settings: Settings, start: Moment) -> Plan
     ensures { result ≡ plan_of host settings start }
@@ -68,7 +77,7 @@ pub fn run_pull<D: Disk, N: Namer, C: Clock, L: Link, P: Progress>(
         ⊎ Refuses ⟦<D as Disk>⟧ N.digest_of disk result.disk line bytes
         (seen_of ⟦<L as Faults>⟧ link) (seen_of ⟦<L as Faults>⟧ result.link) (C.moments clock.old) (C.moments clock.new) result.note }
 {
-    let host = match host.copy(alloc) {
+    let host = match copied(alloc, host) {
         Ok(host) => host,
         Err(AllocError) => {
             return DoneOnLink {

@@ -52,7 +52,8 @@ use Rattle.store_parts.specs.States.{slots, IsRunning}
 use Rattle.store_parts.specs.StoredLaws.{contents_written}
 use Rattle.store_commits.specs.declared.plan.Plan.{Plan}
 use Rattle.store_commits.specs.AcceptLaws.{with_added}
-use Rattle.store_commits.specs.Ids.{ids_in, given_ids, all_given}
+use Rattle.store_commits.specs.Ids.{ids_in}
+use Rattle.store_commits.specs.IdsLaws.{given_ids, all_given}
 use Rattle.store_commits.specs.Former.{dropped_of, IsFolded}
 use Rattle.store_commits.specs.Judged.{receipt_by}
 use Rattle.store_commits.specs.Parked.{AreParked}

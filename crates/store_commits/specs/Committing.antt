@@ -5,7 +5,6 @@
 --     IsStoredAfter      files that stand for an office after changes, by what parts at work hold
 use Rattle.std.specs.Prelude.{◌≡◌, ℕ, ◌<◌, false, List, Some, Ok, slice_get, slice_set}
 use Rattle.std.specs.List.{remove}
-use Rattle.std.proofs.Common.{sym}
 use Rattle.disk_trait.specs.declared.ids.PoolId.{PoolId}
 use Rattle.disk_trait.specs.declared.disk.Disk.{Ghosts as DiskGhosts}
 use Rattle.disk_trait.specs.Files.{Files}
@@ -26,7 +25,6 @@ use Rattle.office_model.specs.Office.{Office, Host, Dump, Names, IsUnspent, numb
 use Rattle.office_model.specs.Pool.{with_tree}
 use Rattle.office_model.specs.Step.{meaning_of}
 use Rattle.office_model.specs.events.Commit.{Ending, with_commit, ends}
-use Rattle.office_model.specs.Pairs.{other_at}
 use Rattle.office_files.specs.Pooled.{contents_of}
 use Rattle.office_files.specs.Stands.{Stands}
 use Rattle.store_parts.specs.declared.parts.StoreParts.{StoreParts}
@@ -66,22 +64,6 @@ module _ {D N S : Type 0} {d : DiskGhosts D} {n : NamerGhosts N S} where
     pub here : slice_get office.hosts dump.host ≡ Some host
     pub number : host.next < number_limit
     pub unspent : IsUnspent host.receipts dump.token
-
-  pub meant : (parts : StoreParts D N S d n) (place : ℕ) (session : OpenDump) (office : Office) (names : Names)
-      (at : IsRunning parts office names) → slice_get parts.sessions.dumps.items place ≡ Some session
-      → IsMeant parts place session office names at
-  meant parts place session office names at e =
-      let w = other_at parts.sessions.dumps.items office.dumps place session (sym at.sessions.dumps.counted) e in
-      let hosted = at.sound.hosted place w.0 w.1 in
-      record {
-        dump = w.0;
-        there = w.1;
-        is = at.sessions.dumps.each place w.0 session w.1 e;
-        host = hosted.host;
-        here = hosted.is_host;
-        number = hosted.has_number;
-        unspent = hosted.unspent;
-      }
 
   -- After the changes the files stand for the office, by the pool's index with these names in it, and what is kept is still a
   -- view; these are the counts of what is stored.

@@ -54,7 +54,8 @@ use Rattle.store_parts.specs.RunLaws.{reads_behind, runs_behind}
 use Rattle.store_parts.specs.WriteLaws.{LeadsTo, Holds, runs_write_refused, runs_written}
 use Rattle.store_dumps.specs.Claims.{LetsGo}
 use Rattle.store_commits.specs.declared.plan.Plan.{Plan}
-use Rattle.store_commits.specs.Ids.{ids_in, given_ids, all_given}
+use Rattle.store_commits.specs.Ids.{ids_in}
+use Rattle.store_commits.specs.IdsLaws.{given_ids, all_given}
 use Rattle.store_commits.specs.Former.{dropped_of}
 use Rattle.store_commits.specs.Judged.{receipt_by}
 use Rattle.store_commits.specs.AcceptLaws.{with_added, claims_added}
@@ -62,8 +63,10 @@ use Rattle.store_commits.specs.Planned.{IsPlanned}
 use Rattle.store_commits.specs.CommittedLaws.{number_is, planned_changes}
 use Rattle.store_commits.specs.LayoutLaws.{second_planned}
 use Rattle.store_commits.specs.RunningLaws.{running_committed}
-use Rattle.store_commits.specs.Ending.{EndsDump, AreSessions-dump_ended, claims_in-dump_ended}
-use Rattle.store_commits.specs.Committing.{office_ended, office_after, EndsAs, IsMeant, meant, IsStoredAfter}
+use Rattle.store_commits.specs.Ending.{EndsDump}
+use Rattle.store_commits.specs.EndingLaws.{AreSessions-dump_ended, claims_in-dump_ended}
+use Rattle.store_commits.specs.Committing.{office_ended, office_after, EndsAs, IsMeant, IsStoredAfter}
+use Rattle.store_commits.specs.CommittingLaws.{meant}
 use Rattle.store_commits.specs.AfterLaws.{stored_after}
 use Rattle.store_commits.specs.KnownLaws.{index_found, catalog_committed}
 use Rattle.store_commits.specs.EventLaws.{named_still, place_is, there_within, planned_read}

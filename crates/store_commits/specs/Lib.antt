@@ -1,7 +1,10 @@
+pub mod CommittingLaws
+pub mod CountingLaws
+pub mod EndingLaws
 pub mod Ids
+pub mod IdsLaws
 pub mod Written
 pub mod WrittenLaws
-pub mod Counting
 pub mod HostLaws
 pub mod AcceptLaws
 pub mod RunningLaws

@@ -37,7 +37,8 @@ use Rattle.store_parts.specs.RefusedLaws.{runs_broken}
 use Rattle.store_commits.specs.Judged.{line_now, IsLineNow, IsFree, IsThere}
 use Rattle.store_commits.specs.Tables.{AreThere, IsLost, IsHeededBy, Heeds, place_of, IsLeft, IsTableForName, IsParkedForName, HeedsEnding, HeedsTables, HeedsAdopted}
 use Rattle.store_commits.specs.PlanLaws.{one_there, broken_heeds}
-use Rattle.store_commits.specs.Committing.{EndsAs, IsMeant, meant}
+use Rattle.store_commits.specs.Committing.{EndsAs, IsMeant}
+use Rattle.store_commits.specs.CommittingLaws.{meant}
 use Rattle.store_commits.specs.ReadyLaws.{index_there}
 use Rattle.store_commits.specs.EventLaws.{place_is}
 use Rattle.store_commits.specs.HoldLaws.{open_repeats_none}

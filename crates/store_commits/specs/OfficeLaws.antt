@@ -29,7 +29,8 @@ use Rattle.office_changes.specs.PoolLaws.{named_given}
 use Rattle.office_pool.specs.AddedLaws.{listed_with_added}
 use Rattle.office_pool.specs.FitLaws.{given_one, given_digest, given_size}
 use Rattle.store_parts.specs.StoredLaws.{listed_live}
-use Rattle.store_commits.specs.Ids.{ids_in, given_ids, among_named}
+use Rattle.store_commits.specs.Ids.{ids_in}
+use Rattle.store_commits.specs.IdsLaws.{given_ids, among_named}
 use Rattle.store_commits.specs.AcceptLaws.{with_added}
 
 live_given : (slot : Option Slot) → is_live slot ≡ true → is_given slot ≡ true

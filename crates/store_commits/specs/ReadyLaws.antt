@@ -34,7 +34,7 @@ use Rattle.store_commits.specs.Former.{last_line, dropped_of}
 use Rattle.store_commits.specs.ParkedLaws.{head_there, parked_there}
 use Rattle.store_commits.specs.Planned.{IsTold, IsReady}
 use Rattle.store_commits.specs.CommittedLaws.{if_some}
-use Rattle.store_commits.specs.Committing.{meant}
+use Rattle.store_commits.specs.CommittingLaws.{meant}
 
 -- ---- the index of a host
 

@@ -1,3 +1,4 @@
+pub mod FaultsLaws
 pub mod Planned
 pub mod Called
 pub mod Written
@@ -8,7 +9,6 @@ pub mod LeftLaws
 pub mod BuildLaws
 pub mod PartLaws
 pub mod PlanLaws
-pub mod Faults
 pub mod Shortens
 pub mod MeaningLaws
 pub mod AfterLaws

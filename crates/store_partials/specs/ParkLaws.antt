@@ -50,10 +50,12 @@ use Rattle.store_parts.specs.RunLaws.{reads_behind, runs_behind}
 use Rattle.store_parts.specs.RefusedLaws.{runs_no_dump, runs_not_planned as runs_plan_refused}
 use Rattle.store_parts.specs.WriteLaws.{LeadsTo, Holds, runs_write_refused, runs_written}
 use Rattle.store_parts.specs.FoundLaws.{dump_place}
-use Rattle.store_commits.specs.Ids.{ids_in, given_ids, all_given}
+use Rattle.store_commits.specs.Ids.{ids_in}
+use Rattle.store_commits.specs.IdsLaws.{given_ids, all_given}
 use Rattle.store_commits.specs.AcceptLaws.{Loses, with_added, IsAccepted}
 use Rattle.store_commits.specs.RunningLaws.{running_committed}
-use Rattle.store_commits.specs.Committing.{IsMeant, meant, IsStoredAfter}
+use Rattle.store_commits.specs.Committing.{IsMeant, IsStoredAfter}
+use Rattle.store_commits.specs.CommittingLaws.{meant}
 use Rattle.store_commits.specs.EventLaws.{place_is, there_within}
 use Rattle.store_partials.specs.declared.plan.ParkPlan.{ParkPlan}
 use Rattle.store_partials.specs.Parked.{IsRecounted, IsTold, IsPlanned, IsReady, IsPlanFault}

@@ -47,7 +47,8 @@ use Rattle.store_parts.specs.Held.{given, AreCounts}
 use Rattle.store_parts.specs.States.{slots, IsRunning}
 use Rattle.store_parts.specs.StoredLaws.{contents_written}
 use Rattle.store_commits.specs.AcceptLaws.{with_added}
-use Rattle.store_commits.specs.Ids.{ids_in, given_ids, all_given}
+use Rattle.store_commits.specs.Ids.{ids_in}
+use Rattle.store_commits.specs.IdsLaws.{given_ids, all_given}
 use Rattle.store_commits.specs.WrittenLaws.{AreOfIndex}
 use Rattle.store_commits.specs.CommittedLaws.{of_index}
 use Rattle.store_commits.specs.OfficeLaws.{listed_rows, office_committed}

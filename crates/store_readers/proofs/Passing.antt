@@ -39,7 +39,8 @@ use Rattle.store_parts.specs.Opens.{Stays}
 use Rattle.store_parts.specs.OpenLaws.{near_same, runs_never, works_stays}
 use Rattle.store_parts.specs.ReaderLaws.{runs_part_given, part_not_wrong}
 use Rattle.store_reads.specs.Shown.{Looks}
-use Rattle.store_reads.specs.Pieces.{IsPieceFault, piece_read, piece_not_damaged}
+use Rattle.store_reads.specs.Pieces.{IsPieceFault}
+use Rattle.store_reads.specs.PiecesLaws.{piece_read, piece_not_damaged}
 use Rattle.store_readers.specs.declared.next_part.Asked.{Asked}
 use Rattle.store_readers.specs.declared.next_part.NextPart.{NextPart}
 use Rattle.store_readers.specs.declared.next_part.NextPart.TheVariants.{End, Piece, Wrong}

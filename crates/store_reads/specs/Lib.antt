@@ -1,4 +1,5 @@
 pub mod CatalogLaws
+pub mod PiecesLaws
 pub mod TreeLaws
 pub mod Shown
 pub mod ShownLaws

@@ -52,7 +52,8 @@ use Rattle.store_parts.specs.States.{slots, IsRunning, staging_of}
 use Rattle.store_parts.specs.Runs.{Runs}
 use Rattle.store_parts.specs.RunLaws.{counted_fine, works_same, runs_reads, runs_memory, runs_read_fault}
 use Rattle.store_reads.specs.Shown.{Looks}
-use Rattle.store_reads.specs.Pieces.{IsPieceFault, piece_not_damaged}
+use Rattle.store_reads.specs.Pieces.{IsPieceFault}
+use Rattle.store_reads.specs.PiecesLaws.{piece_not_damaged}
 use Rattle.store_restores.specs.Finding.{place_of}
 use Rattle.store_restores.specs.Giving.{removal_in, entry_in, room_of, IsBehind, wrong_in, IsDamagedOr, MovesTo, GivesNext}
 use Rattle.store_restores.proofs.Found.{IsFound, restore_found}

@@ -3,7 +3,7 @@ pub use Rattle.office_store.specs.declared.store.Store.{Store}
 pub use Rattle.office_store.specs.declared.port.DirectPort.{DirectPort}
 pub use Rattle.office_store.specs.Moves.{AreServed, Goes, MayRecoverIn, Moves}
 pub use Rattle.office_store.specs.MovesLaws.{Moves-none}
-pub use Rattle.office_store.specs.Serves.{Serves, is_stopped}
+pub use Rattle.office_store.specs.Serves.{LeftBy, Serves, is_reopen, is_stopped}
 pub use Rattle.office_store.specs.Damage.{LeavesTold, TellsDamage, WritesNoFile}
 pub use Rattle.office_store.specs.DamagedFiles.{IsDamagedContent, IsDamagedFile, IsDamagedPartial, IsDamagedRead, IsDamagedTable, IsStageFile}
 pub use Rattle.office_store.specs.DamageLaws.{IsDamagedBy, NamesTables, any_damaged, damaged_file}

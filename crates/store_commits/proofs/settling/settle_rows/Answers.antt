@@ -2,7 +2,8 @@
 use Rattle.std.proofs.Common.{List, [], ap, ◌∙◌, subst}
 use Rattle.disk_trait.specs.declared.ids.PoolId.{PoolId}
 use Rattle.pool_changes.specs.Indexed.{IsOf}
-use Rattle.store_commits.specs.Ids.{given_in, listed_given}
+use Rattle.store_commits.specs.Ids.{given_in}
+use Rattle.store_commits.specs.IdsLaws.{listed_given}
 use Rattle.store_commits.proofs.settling.settle_rows.Goals as goal
 
 pub settle-requires : goal.settle-requires

@@ -1,5 +1,5 @@
 use Rattle.journal_view.specs.View.{told}
-use Rattle.store_deletions.specs.Faults.{plan_awake}
+use Rattle.store_deletions.specs.FaultsLaws.{plan_awake}
 use Rattle.store_deletions.proofs.planning.plan_deletion.Goals as goal
 
 pub returns-in-Err-clause-awake : goal.returns-in-Err-clause-awake

@@ -4,7 +4,7 @@ use Rattle.journal_view.specs.View.{told}
 use Rattle.backup_rules.specs.declared.lines.Line.{Line}
 use Rattle.backup_views.specs.Faults.{SaysOneDamaged}
 use Rattle.store_deletions.specs.BuildLaws.{index_there}
-use Rattle.store_deletions.specs.Faults.{part_damaged, plan_fault}
+use Rattle.store_deletions.specs.FaultsLaws.{part_damaged, plan_fault}
 use Rattle.store_deletions.specs.Planned.{IsPlanFault}
 use Rattle.store_deletions.specs.PlanLaws.{planned_by, same_window, as_many}
 use Rattle.store_deletions.proofs.Calling.{called_by}

@@ -3,7 +3,8 @@ use Rattle.disk_trait.specs.declared.ids.FileId.TheVariants.{Pool as PoolFile}
 use Rattle.disk_trait.specs.Files.{piece as piece_of}
 use Rattle.office_files.specs.Pooled.{contents_of}
 use Rattle.open_sessions.specs.declared.sessions.Place.{Place}
-use Rattle.store_reads.specs.Pieces.{IsPieceFault, piece_read}
+use Rattle.store_reads.specs.Pieces.{IsPieceFault}
+use Rattle.store_reads.specs.PiecesLaws.{piece_read}
 use Rattle.store_restores.specs.Giving.{IsBehind}
 use Rattle.store_restores.proofs.Opens.{not_failed}
 use Rattle.store_restores.proofs.Nexts.{there_is, mid_there, stays_within, moves_back, next_fault, next_piece, next_wrong}
