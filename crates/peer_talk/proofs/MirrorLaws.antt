@@ -35,7 +35,7 @@ no-response : (input : List ℕ) (status : ℕ) (body rest : List ℕ) → input
 no-response input status body rest empty x = some-print x.head (body ++ rest) (sym x.reads.1 ∙ empty)
 
 -- the response that is read first is the one that was said first; one that was cut off isn't read
-read-first : (said : Option Response) (response behind read lacks : List ℕ) (a : Response) (after : List ℕ) → IsReadAs said response
+pub read-first : (said : Option Response) (response behind read lacks : List ℕ) (a : Response) (after : List ℕ) → IsReadAs said response
     → (said ≡ None → behind ≡ []) → read ++ lacks ≡ response ++ behind → HasResponse read a.status a.body after
     → (said ≡ Some a) × (after ++ lacks ≡ behind)
 read-first None response behind read lacks a after reads last e has =
@@ -70,14 +70,14 @@ last-read saying asks word lacks read (a ∷ answers) rest (inr text) e (after, 
     none (b ∷ later) (more, h, hs) = absurd (no-response after b.status b.body more (nil_front after lacks same.2) h)
 
 -- what is said last: behind all exchanges, or for the final one
-abbrev EndsSo : Option T.Exchange → List ℕ → Type 0
+abbrev pub EndsSo : Option T.Exchange → List ℕ → Type 0
 EndsSo None word = IsLast word
 EndsSo (Some x) word = (closes : Bool) × (word ≡ continue_due x.parts ++ T.response_of x.outcome closes (T.asks_head x.parts))
 
 -- ---- all exchanges
 
 -- what is said for the request of a client
-plainly-said : (ask : Ask) (x : T.Exchange) (closes : Bool) → IsAsked ask x → T.asks_head (parts_asked ask) ≡ false
+pub plainly-said : (ask : Ask) (x : T.Exchange) (closes : Bool) → IsAsked ask x → T.asks_head (parts_asked ask) ≡ false
     → continue_due x.parts ++ T.response_of x.outcome closes (T.asks_head x.parts) ≡ T.response_of x.outcome closes false
 plainly-said ask x closes asked wants =
     (λ i. unasked ask x.parts asked.parts i ++ T.response_of x.outcome closes ((ap T.asks_head asked.parts ∙ wants) i))
@@ -87,7 +87,7 @@ fine true is_fine e = absurd (true≢false (sym e))
 fine false true e = refl
 fine false false e = e
 
-never-cut : (saying : Saying) (index : ℕ) (x : T.Exchange) (behind : List ℕ) → T.goes_on index x ≡ true
+pub never-cut : (saying : Saying) (index : ℕ) (x : T.Exchange) (behind : List ℕ) → T.goes_on index x ≡ true
     → (saying x.outcome ≡ None → T.is_fine (T.outcome_fate x.outcome) ≡ false) → saying x.outcome ≡ None → behind ≡ []
 never-cut saying index x behind on cut none =
     absurd (true≢false (sym (fine (T.is_last index x.parts) (T.is_fine (T.outcome_fate x.outcome)) on) ∙ cut none))
@@ -138,7 +138,7 @@ module _ (defaults : Defaults) (asks : List Ask) (xs : List T.Exchange) (made : 
   later-are = all-later IsRequest talk-first.earlier talk-first.later (subst AreRequests talk-first.asks_are are)
 
   -- what was said last, and what it lacks
-  talk-ends : (final : Option T.Exchange) (index : ℕ) (word : List ℕ) → T.Stops end between.talk.rest index final made word
+  pub talk-ends : (final : Option T.Exchange) (index : ℕ) (word : List ℕ) → T.Stops end between.talk.rest index final made word
       → (lacks : List ℕ) × EndsSo final (word ++ lacks)
   talk-ends None index word stops =
       uncalled-last talk-first.later between.talk.rest between.unread made later-are talk-first.rest_is end word stops

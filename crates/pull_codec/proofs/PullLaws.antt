@@ -24,7 +24,7 @@ pub pulls-answered : AnsweredPullsAreServed
 pulls-answered defaults heard later xs said are within answered =
     answered-served may InRange request_of Says at defaults (pulls-coded defaults) heard later xs said are within answered
 
-all-requests : (heard : List Heard) (later : List Ask) → AreHeard may Says heard → AreRequests later
+pub all-requests : (heard : List Heard) (later : List Ask) → AreHeard may Says heard → AreRequests later
     → AreRequests (requests_of request_of heard ++ later)
 all-requests [] later said plain = plain
 all-requests (h ∷ hs) later said plain = (requests-are h.event said.0.0, all-requests hs later said.1 plain)

@@ -33,7 +33,7 @@ same-some a b e = cc
 
 -- ---- statuses
 
-is_answered : ℕ → Bool
+pub is_answered : ℕ → Bool
 is_answered status = status == 200 || (status == 201)
 
 put-refused : (rule : PutRule) → is_answered (put_rule_status rule) ≡ false
@@ -48,12 +48,12 @@ unfolding is_answered
 rule-refused (B.Put rule) = put-refused rule
 rule-refused rule = refl
 
-status-refused : (refusal : Refusal) → is_answered (refusal_status refusal) ≡ false
+pub status-refused : (refusal : Refusal) → is_answered (refusal_status refusal) ≡ false
 unfolding is_answered
 status-refused (R.Broken rule) = rule-refused rule
 status-refused refusal = refl
 
-memory-refused : is_answered 507 ≡ false
+pub memory-refused : is_answered 507 ≡ false
 unfolding is_answered
 memory-refused = refl
 
@@ -63,7 +63,7 @@ wanted-answered (E.OpenRead host number base) = refl
 wanted-answered event = refl
 
 -- no response of such a status says anything
-none-said : (event : Event) (status : ℕ) → is_answered status ≡ false → status ≡ wanted event → ⊥
+pub none-said : (event : Event) (status : ℕ) → is_answered status ≡ false → status ≡ wanted event → ⊥
 none-said event status refused is = true≢false (sym (ap is_answered is ∙ wanted-answered event) ∙ refused)
 
 -- ---- bodies

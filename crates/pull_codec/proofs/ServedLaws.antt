@@ -24,13 +24,13 @@ use Rattle.pull_codec.specs.Relations.{IsCodec, AreHeard, AreInRange}
 none-some : {A : Type 0} (a : A) → None ≡ Some a → ⊥
 none-some a e = cc
 
-same-some : {A : Type 0} (a b : A) → Some a ≡ Some b → a ≡ b
+pub same-some : {A : Type 0} (a b : A) → Some a ≡ Some b → a ≡ b
 same-some a b e = cc
 
 same-ok : (said : Said Asked) (a b : Asked) → said ≡ Ok a → said ≡ Ok b → a ≡ b
 same-ok said a b e f = cc
 
-not-refused : (said : Said Asked) (a : Asked) (refusal : RequestRefusal) → said ≡ Ok a → said ≡ Err refusal → ⊥
+pub not-refused : (said : Said Asked) (a : Asked) (refusal : RequestRefusal) → said ≡ Ok a → said ≡ Err refusal → ⊥
 not-refused said a refusal e f = cc
 
 -- ---- one call
@@ -53,7 +53,7 @@ one-answering event (Ok answer) = refl
 one-answering event (Err refusal) = refl
 
 -- what is said of one call
-one-said : (event : Event) (reply : Reply) → says (T.Called ((event, reply) ∷ [])) ≡ Some (reply_said event reply)
+pub one-said : (event : Event) (reply : Reply) → says (T.Called ((event, reply) ∷ [])) ≡ Some (reply_said event reply)
 one-said event reply = λ i. said_by (one-file event reply i) (one-answering event reply i)
 
 -- a body of so few bytes is that of what is said of the call, and there is no file
@@ -76,16 +76,16 @@ no-memory-fits outcome none same = record {
 module _ (may : Event → Bool) (InRange : Event → Reply → Type 0) (request_of : Event → Ask) (Says : Event → Response → Reply → Type 0)
     (at : ℕ → Event → Event) (defaults : Defaults) (codec : IsCodec may InRange request_of Says at defaults) where
   -- the replies to the one call are in their ranges
-  abbrev IsWithin : List Call → Type 0
+  abbrev pub IsWithin : List Call → Type 0
   IsWithin calls = (event : Event) (reply : Reply) → calls ≡ (event, reply) ∷ [] → InRange event reply
 
   -- what the server read is the event
-  asked-is : (event : Event) (x : T.Exchange) → may event ≡ true → IsAsked (request_of event) x
+  pub asked-is : (event : Event) (x : T.Exchange) → may event ≡ true → IsAsked (request_of event) x
       → asked x.parts x.body x.moment defaults ≡ Ok (One (at x.moment event))
   asked-is event x fits a = (λ i. asked (a.parts i) (a.body i) x.moment defaults) ∙ codec.asks event x.moment fits
 
   -- what it called is this one call
-  one-made : (event : Event) (moment : ℕ) (said : Said Asked) (what : Asked) (body : List ℕ) (failed : Option ℕ) (calls : List Call)
+  pub one-made : (event : Event) (moment : ℕ) (said : Said Asked) (what : Asked) (body : List ℕ) (failed : Option ℕ) (calls : List Call)
       → may event ≡ true → said ≡ Ok (One (at moment event)) → said ≡ Ok what → T.Makes what body failed calls
       → (reply : Reply) × (calls ≡ (at moment event, reply) ∷ [])
   one-made event moment said what body failed calls fits is has makes =
@@ -101,7 +101,7 @@ module _ (may : Event → Bool) (InRange : Event → Reply → Type 0) (request_
       (codec.fits event moment reply fits (within (at moment event) reply calls_are))
 
   -- the response to what came of the request is read as it is said
-  outcome-fits : (event : Event) (moment : ℕ) (said : Said Asked) (body : List ℕ) (outcome : T.Outcome) → may event ≡ true
+  pub outcome-fits : (event : Event) (moment : ℕ) (said : Said Asked) (body : List ℕ) (outcome : T.Outcome) → may event ≡ true
       → IsWithin (T.calls_in outcome) → said ≡ Ok (One (at moment event)) → T.IsOutcome said body outcome → IsFitting outcome
   outcome-fits event moment said body (T.Refused refusal) fits within is o =
       absurd (not-refused said (One (at moment event)) refusal is o)

@@ -1,6 +1,10 @@
+pub mod Cuts
 pub mod Failures
+pub mod Fronts
 pub mod Marks
+pub mod Outcomes
 pub mod Ranges
+pub mod Refusals
 pub mod Rests
 pub mod Served
 pub mod Turns

@@ -39,10 +39,11 @@ heard_in-append host (Closes restore (Ok done) ∷ xs) ys =
     ap (λ (calls : List Call). (E.CloseRead restore, Ok A.Done) ∷ calls) (heard_in-append host xs ys)
 heard_in-append host (step ∷ xs) ys = heard_in-append host xs ys
 
-pub faults_in-append : (xs ys : List Step) → faults_in (xs ++ ys) ≡ faults_in xs ++ faults_in ys
-faults_in-append [] ys = refl
-faults_in-append (x ∷ xs) ys =
-    ap (λ faults. fault_in x ++ faults) (faults_in-append xs ys) ∙ sym (append_assoc (fault_in x) (faults_in xs) (faults_in ys))
+pub faults_in-append : (host : List ℕ) (xs ys : List Step) → faults_in host (xs ++ ys) ≡ faults_in host xs ++ faults_in host ys
+faults_in-append host [] ys = refl
+faults_in-append host (x ∷ xs) ys =
+    ap (λ faults. fault_in host x ++ faults) (faults_in-append host xs ys)
+    ∙ sym (append_assoc (fault_in host x) (faults_in host xs) (faults_in host ys))
 
 told_split : (host : List ℕ) (old new : LinkSeen) (xs ys : List Step) → AreTold host old new (xs ++ ys)
     → (mid : LinkSeen) × AreTold host old mid xs × AreTold host mid new ys
@@ -59,9 +60,9 @@ heard_home : (host : List ℕ) (calls : List Call) → heard_in host (map Home c
 heard_home host [] = refl
 heard_home host (call ∷ calls) = heard_home host calls
 
-faults_home : (calls : List Call) → faults_in (map Home calls) ≡ []
-faults_home [] = refl
-faults_home (call ∷ calls) = faults_home calls
+faults_home : (host : List ℕ) (calls : List Call) → faults_in host (map Home calls) ≡ []
+faults_home host [] = refl
+faults_home host (call ∷ calls) = faults_home host calls
 
 -- ---- phases
 
@@ -89,7 +90,7 @@ stopped_ends p same e = absurd (cc)
 pub record Rests (host : List ℕ) (p : Phase) (old new : LinkSeen) (steps : List Step) (q : Phase) : Type 0 where
   pub same : new ≡ old
   pub unheard : heard_in host steps ≡ []
-  pub fine : faults_in steps ≡ []
+  pub fine : faults_in host steps ≡ []
   pub stays : StaysUnrefused p q
 
 module _ (plan : Plan) (named : is_host_name plan.host ≡ true) where
@@ -98,7 +99,7 @@ module _ (plan : Plan) (named : is_host_name plan.host ≡ true) where
   untold old mid steps are told = subst (λ (s : List Step). AreTold plan.host old mid s) are told
 
   quiet_to : (p : Phase) (steps : List Step) (p' to : Phase) (old mid : LinkSeen) → mid ≡ old → heard_in plan.host steps ≡ []
-      → faults_in steps ≡ [] → p' ≡ to → IsRanged to → StaysUnrefused p to → TurnAsks plan.host p steps p' old mid
+      → faults_in plan.host steps ≡ [] → p' ≡ to → IsRanged to → StaysUnrefused p to → TurnAsks plan.host p steps p' old mid
   quiet_to p steps p' to old mid same none fine is ranged stays =
       quiet plan.host p steps p' old mid same none fine (subst IsRanged (sym is) ranged)
       (subst (λ (q : Phase). StaysUnrefused p q) (sym is) stays)
@@ -114,25 +115,25 @@ module _ (plan : Plan) (named : is_host_name plan.host ≡ true) where
       let here = subst IsRanged is r in
       quiet_to p steps p' (taken intake made.laying) old mid
       (told_home plan.host old mid made.calls (subst (λ (s : List Step). AreTold plan.host old mid s) are told))
-      (ap (heard_in plan.host) are ∙ heard_home plan.host made.calls) (ap faults_in are ∙ faults_home made.calls) new
+      (ap (heard_in plan.host) are ∙ heard_home plan.host made.calls) (ap (faults_in plan.host) are ∙ faults_home plan.host made.calls) new
       (taken_ranged intake made.laying here.0 here) (stays_on p (taken intake made.laying) (taken_on intake made.laying))
   turn_asks p steps p' old mid (refused intake frame stage made done call rest refusal is fits calls are new) r told =
       let all : List Call = done ++ (call.0, Err refusal) ∷ [] in
       quiet_to p steps p' (Aborting intake.dump (Refused refusal)) old mid
       (told_home plan.host old mid all (subst (λ (s : List Step). AreTold plan.host old mid s) are told))
-      (ap (heard_in plan.host) are ∙ heard_home plan.host all) (ap faults_in are ∙ faults_home all) new tt (λ status e. absurd (cc))
+      (ap (heard_in plan.host) are ∙ heard_home plan.host all) (ap (faults_in plan.host) are ∙ faults_home plan.host all) new tt (λ status e. absurd (cc))
   turn_asks p steps p' old mid (foreign intake frame is none are new) r told =
-      quiet_to p steps p' _ old mid (untold old mid steps are told) (ap (heard_in plan.host) are) (ap faults_in are) new tt
+      quiet_to p steps p' _ old mid (untold old mid steps are told) (ap (heard_in plan.host) are) (ap (faults_in plan.host) are) new tt
       (λ status e. absurd (cc))
   turn_asks p steps p' old mid (endless intake is count are new) r told =
-      quiet_to p steps p' _ old mid (untold old mid steps are told) (ap (heard_in plan.host) are) (ap faults_in are) new tt
+      quiet_to p steps p' _ old mid (untold old mid steps are told) (ap (heard_in plan.host) are) (ap (faults_in plan.host) are) new tt
       (λ status e. absurd (cc))
   turn_asks p steps p' old mid (complete newest done is are new) r told =
-      quiet_to p steps p' _ old mid (untold old mid steps are told) (ap (heard_in plan.host) are) (ap faults_in are) new tt
+      quiet_to p steps p' _ old mid (untold old mid steps are told) (ap (heard_in plan.host) are) (ap (faults_in plan.host) are) new tt
       (λ status e. absurd (cc))
   turn_asks p steps p' old mid (lacking are new) r told =
       let next = stopped_goes p in
-      quiet_to p steps p' (stopped p Memory) old mid (untold old mid steps are told) (ap (heard_in plan.host) are) (ap faults_in are) new
+      quiet_to p steps p' (stopped p Memory) old mid (untold old mid steps are told) (ap (heard_in plan.host) are) (ap (faults_in plan.host) are) new
       next.0 next.1
 
   -- ---- behind the end
@@ -148,7 +149,7 @@ module _ (plan : Plan) (named : is_host_name plan.host ≡ true) where
   record EndedOne (p : Phase) (step : Step) (old mid : LinkSeen) : Type 0 where
     pub same : mid ≡ old
     pub unheard : heard_in plan.host (step ∷ []) ≡ []
-    pub fine : faults_in (step ∷ []) ≡ []
+    pub fine : faults_in plan.host (step ∷ []) ≡ []
     pub on : end_in (after p step) ≡ end_in p
 
   ended_one : (p : Phase) (step : Step) (end : PullEnd) (old mid : LinkSeen) → end_in p ≡ Some end → due plan p ≡ Some (due_in step)
@@ -169,7 +170,7 @@ module _ (plan : Plan) (named : is_host_name plan.host ≡ true) where
         rests = record {
           same = w.same;
           unheard = ap (heard_in plan.host) are ∙ w.unheard;
-          fine = ap faults_in are ∙ w.fine;
+          fine = ap (faults_in plan.host) are ∙ w.fine;
           stays = λ status f. sym on ∙ f;
         };
         end = end;
@@ -188,7 +189,7 @@ module _ (plan : Plan) (named : is_host_name plan.host ≡ true) where
         rests = record {
           same = untold old mid steps are told;
           unheard = ap (heard_in plan.host) are;
-          fine = ap faults_in are;
+          fine = ap (faults_in plan.host) are;
           stays = subst (λ (q : Phase). StaysUnrefused p q) (sym new) (stopped_goes p).1;
         };
         end = w.0;
@@ -210,16 +211,21 @@ module _ (plan : Plan) (named : is_host_name plan.host ≡ true) where
       record {
         same = later.same ∙ t.rests.same;
         unheard = heard_in-append plan.host turn.steps (steps_of turns) ∙ (λ i. t.rests.unheard i ++ later.unheard i);
-        fine = faults_in-append turn.steps (steps_of turns) ∙ (λ i. t.rests.fine i ++ later.fine i);
+        fine = faults_in-append plan.host turn.steps (steps_of turns) ∙ (λ i. t.rests.fine i ++ later.fine i);
         stays = λ status f. t.rests.stays status (later.stays status f);
       }
 
 -- ---- all turns
 
 -- none failed, or one did, behind which nothing was asked
-pub data Last (old new : LinkSeen) (faults : List PeerFault) : Type 0 where
+pub data Last (old new : LinkSeen) (faults : List (Event × PeerFault)) : Type 0 where
   none : faults ≡ [] → new ≡ old → Last old new faults
-  failed : (event : Event) (fault : PeerFault) → faults ≡ fault ∷ [] → Failed event fault old new → Last old new faults
+  failed : (event : Event) (fault : PeerFault) → faults ≡ (event, fault) ∷ [] → Failed event fault old new → Last old new faults
+
+-- one was refused, with this status
+pub record IsRefused (host : List ℕ) (steps : List Step) (status : ℕ) : Type 0 where
+  pub event : Event
+  pub only : faults_in host steps ≡ (event, F.Refused status) ∷ []
 
 -- calls that were heard, and perhaps one more that failed
 pub record Asked (host : List ℕ) (p : Phase) (old new : LinkSeen) (steps : List Step) (q : Phase) : Type 0 where
@@ -227,39 +233,41 @@ pub record Asked (host : List ℕ) (p : Phase) (old new : LinkSeen) (steps : Lis
   pub mid : LinkSeen
   pub has : HasHeard old mid heard
   pub calls_are : map call_of heard ≡ heard_in host steps
-  pub last : Last mid new (faults_in steps)
+  pub last : Last mid new (faults_in host steps)
   pub refused_by : (status : ℕ) → end_in q ≡ Some (PeerRefused status)
-      → (end_in p ≡ Some (PeerRefused status)) ⊎ (faults_in steps ≡ F.Refused status ∷ [])
+      → (end_in p ≡ Some (PeerRefused status)) ⊎ IsRefused host steps status
 
 peer_refused : (fault : PeerFault) (status : ℕ) → Some (end_by fault) ≡ Some (PeerRefused status) → fault ≡ F.Refused status
 peer_refused (F.Refused other) status e = let same : other ≡ status = cc (e) in ap F.Refused same
 peer_refused fault status e = absurd (cc)
 
-earlier : (p p' : Phase) (xs ys : List Step) (status : ℕ) → StaysUnrefused p p' → faults_in xs ≡ []
-    → (end_in p' ≡ Some (PeerRefused status)) ⊎ (faults_in ys ≡ F.Refused status ∷ [])
-    → (end_in p ≡ Some (PeerRefused status)) ⊎ (faults_in (xs ++ ys) ≡ F.Refused status ∷ [])
-earlier p p' xs ys status stays fine (inl ends) = inl (stays status ends)
-earlier p p' xs ys status stays fine (inr faults) =
-    inr (faults_in-append xs ys ∙ ap (λ (f : List PeerFault). f ++ faults_in ys) fine ∙ faults)
+earlier : (host : List ℕ) (p p' : Phase) (xs ys : List Step) (status : ℕ) → StaysUnrefused p p' → faults_in host xs ≡ []
+    → (end_in p' ≡ Some (PeerRefused status)) ⊎ IsRefused host ys status
+    → (end_in p ≡ Some (PeerRefused status)) ⊎ IsRefused host (xs ++ ys) status
+earlier host p p' xs ys status stays fine (inl ends) = inl (stays status ends)
+earlier host p p' xs ys status stays fine (inr r) = inr (record {
+  event = r.event;
+  only = faults_in-append host xs ys ∙ ap (λ (f : List (Event × PeerFault)). f ++ faults_in host ys) fine ∙ r.only;
+})
 
 joined : (host : List ℕ) (p : Phase) (xs : List Step) (p' : Phase) (ys : List Step) (q : Phase) (old mid new : LinkSeen)
     → TurnAsks host p xs p' old mid → (IsRanged p' → Asked host p' mid new ys q)
     → ((end : PullEnd) → end_in p' ≡ Some end → Rests host p' mid new ys q) → Asked host p old new (xs ++ ys) q
 joined host p xs p' ys q old mid new (goes heard has calls fine ranged stays) later ended =
     let l = later ranged in
-    let faults : faults_in (xs ++ ys) ≡ faults_in ys =
-    faults_in-append xs ys ∙ ap (λ (f : List PeerFault). f ++ faults_in ys) fine in
+    let faults : faults_in host (xs ++ ys) ≡ faults_in host ys =
+    faults_in-append host xs ys ∙ ap (λ (f : List (Event × PeerFault)). f ++ faults_in host ys) fine in
     record {
       heard = heard ++ l.heard;
       mid = l.mid;
       has = runs-heard old mid l.mid heard l.heard has l.has;
       calls_are = map-append call_of heard l.heard ∙ (λ i. calls i ++ l.calls_are i) ∙ sym (heard_in-append host xs ys);
-      last = subst (λ (f : List PeerFault). Last l.mid new f) (sym faults) l.last;
-      refused_by = λ status e. earlier p p' xs ys status stays fine (l.refused_by status e);
+      last = subst (λ (f : List (Event × PeerFault)). Last l.mid new f) (sym faults) l.last;
+      refused_by = λ status e. earlier host p p' xs ys status stays fine (l.refused_by status e);
     }
 joined host p xs p' ys q old mid new (fails event fault unheard failing known ends) later ended =
     let r = ended (end_by fault) ends in
-    let faults : faults_in (xs ++ ys) ≡ fault ∷ [] = faults_in-append xs ys ∙ (λ i. failing i ++ r.fine i) in
+    let faults : faults_in host (xs ++ ys) ≡ (event, fault) ∷ [] = faults_in-append host xs ys ∙ (λ i. failing i ++ r.fine i) in
     record {
       heard = [];
       mid = old;
@@ -267,7 +275,10 @@ joined host p xs p' ys q old mid new (fails event fault unheard failing known en
       calls_are = sym (heard_in-append host xs ys ∙ (λ i. unheard i ++ r.unheard i));
       last = failed event fault faults (subst (λ (seen : LinkSeen). Failed event fault old seen) (sym r.same) known);
       refused_by = λ status e.
-          inr (faults ∙ ap (λ (f : PeerFault). f ∷ []) (peer_refused fault status (sym ends ∙ r.stays status e)));
+          inr (record {
+            event = event;
+            only = faults ∙ ap (λ (f : PeerFault). (event, f) ∷ []) (peer_refused fault status (sym ends ∙ r.stays status e));
+          });
     }
 
 pub asks : (plan : Plan) → is_host_name plan.host ≡ true → (turns : List Taken) (p : Phase) (old new : LinkSeen) (q : Phase) → IsRanged p

@@ -6,6 +6,7 @@ use Rattle.stream_traits.specs.Seen.{LinkSeen}
 use Rattle.stream_traits.specs.Told.{behind, WroteFront}
 use Rattle.stream_traits.specs.ToldLaws.{WroteFront-none}
 use Rattle.http_client.specs.Requests.{Ask, request_bytes}
+use Rattle.office_model.specs.declared.event.Event.{Event}
 use Rattle.office_model.specs.Office.{Office, Names}
 use Rattle.office_model.specs.Step.{Call}
 use Rattle.peer_exchange.specs.declared.fault.PeerFault.{PeerFault}
@@ -29,18 +30,16 @@ use Rattle.replica_talks.proofs.Rests.{Last, none, failed, Asked, asks}
 
 -- ---- the request that failed
 
-pub later_of : {old new : LinkSeen} {faults : List PeerFault} → Last old new faults → List Ask
+abbrev pub later_of : {old new : LinkSeen} {faults : List (Event × PeerFault)} → Last old new faults → List Ask
 later_of (none fine same) = []
 later_of (failed event fault are known) = request_of event ∷ []
 
-pub later_plain : (old new : LinkSeen) (faults : List PeerFault) (last : Last old new faults) → AreRequests (later_of last)
-unfolding later_of
+pub later_plain : (old new : LinkSeen) (faults : List (Event × PeerFault)) (last : Last old new faults) → AreRequests (later_of last)
 later_plain old new faults (none fine same) = tt
 later_plain old new faults (failed event fault are known) = (requests-are event known.fits, tt)
 
-later_wrote : (old new : LinkSeen) (faults : List PeerFault) (last : Last old new faults)
+later_wrote : (old new : LinkSeen) (faults : List (Event × PeerFault)) (last : Last old new faults)
     → WroteFront old.written new.written (written_for (later_of last))
-unfolding later_of
 later_wrote old new faults (none fine same) =
     subst (λ (seen : LinkSeen). WroteFront old.written seen.written []) (sym same) (WroteFront-none old.written [])
 later_wrote old new faults (failed event fault are known) =
@@ -79,14 +78,13 @@ whole_talk wrote read heard later all count exchanges cut end front are t = reco
 -- ---- calls that were heard are the server's
 
 -- the exchanges behind those
-pub behind_heard : List Heard → List T.Exchange → List T.Exchange
+abbrev pub behind_heard : List Heard → List T.Exchange → List T.Exchange
 behind_heard [] xs = xs
 behind_heard (h ∷ hs) [] = []
 behind_heard (h ∷ hs) (x ∷ xs) = behind_heard hs xs
 
 served_calls : (heard : List Heard) (xs : List T.Exchange) → AreServed at heard xs
     → T.calls_of xs ≡ map call_of heard ++ T.calls_of (behind_heard heard xs)
-unfolding behind_heard
 served_calls [] xs served = refl
 served_calls (h ∷ hs) [] served = absurd served
 served_calls (h ∷ hs) (x ∷ xs) served = λ i. served.0 i ++ served_calls hs xs served.1 i

@@ -57,10 +57,10 @@ call_of h = (h.event, h.reply)
 
 pub data TurnAsks (host : List ℕ) (p : Phase) (steps : List Step) (p' : Phase) (old mid : LinkSeen) : Type 0 where
   -- these calls were heard, and none failed
-  goes : (heard : List Heard) → HasHeard old mid heard → map call_of heard ≡ heard_in host steps → faults_in steps ≡ [] → IsRanged p'
+  goes : (heard : List Heard) → HasHeard old mid heard → map call_of heard ≡ heard_in host steps → faults_in host steps ≡ [] → IsRanged p'
       → StaysUnrefused p p' → TurnAsks host p steps p' old mid
   -- one failed, and the pull ends so
-  fails : (event : Event) (fault : PeerFault) → heard_in host steps ≡ [] → faults_in steps ≡ fault ∷ [] → Failed event fault old mid
+  fails : (event : Event) (fault : PeerFault) → heard_in host steps ≡ [] → faults_in host steps ≡ (event, fault) ∷ [] → Failed event fault old mid
       → end_in p' ≡ Some (end_by fault) → TurnAsks host p steps p' old mid
 
 pub heard_none : (seen : LinkSeen) → HasHeard seen seen []
@@ -68,7 +68,7 @@ heard_none seen = record { said = tt; exchanged = AreExchanged-none most seen }
 
 -- nothing was asked
 pub quiet : (host : List ℕ) (p : Phase) (steps : List Step) (p' : Phase) (old mid : LinkSeen) → mid ≡ old → heard_in host steps ≡ []
-    → faults_in steps ≡ [] → IsRanged p' → StaysUnrefused p p' → TurnAsks host p steps p' old mid
+    → faults_in host steps ≡ [] → IsRanged p' → StaysUnrefused p p' → TurnAsks host p steps p' old mid
 quiet host p steps p' old mid same none fine ranged stays =
     goes [] (subst (λ (seen : LinkSeen). HasHeard old seen []) (sym same) (heard_none old)) (sym none) fine ranged stays
 
@@ -123,7 +123,7 @@ module _ (plan : Plan) (named : is_host_name plan.host ≡ true) (old mid : Link
       → TurnAsks plan.host p (step ∷ []) (after p step) old mid
 
   one_heard : (p : Phase) (step : Step) (p' : Phase) (call : Call) → HasHeardOne old mid call.0 call.1
-      → heard_in plan.host (step ∷ []) ≡ call ∷ [] → faults_in (step ∷ []) ≡ [] → IsRanged p' → StaysUnrefused p p'
+      → heard_in plan.host (step ∷ []) ≡ call ∷ [] → faults_in plan.host (step ∷ []) ≡ [] → IsRanged p' → StaysUnrefused p p'
       → TurnAsks plan.host p (step ∷ []) p' old mid
   one_heard p step p' call x here fine ranged stays =
       goes (record { event = call.0; response = x.response; reply = call.1 } ∷ []) x.heard (sym here) fine ranged stays
