@@ -5,6 +5,7 @@ pub mod Marks
 pub mod Outcomes
 pub mod Ranges
 pub mod Refusals
+pub mod Replicas
 pub mod Rests
 pub mod Served
 pub mod Turns

@@ -3,15 +3,16 @@
 --     Talks      turns of a pull, over a link to such a server
 --     IsRefusedThere      what it asked last was refused there
 --     EndsEarly      what came ends behind the responses to what it heard, before or within one more
+--     LeadsHome      what its turns call at home
 use Rattle.std.specs.Prelude.{◌≡◌, ◌⊎◌, ℕ, true, List, [], ◌∷◌, ◌++◌, Some, Err, length, slice_get}
 use Rattle.stream_traits.specs.Seen.{LinkSeen}
 use Rattle.attr_records.specs.Names.{is_host_name}
 use Rattle.office_model.specs.declared.event.Event.{Event}
 use Rattle.office_model.specs.declared.refusal.Refusal.{Refusal}
-use Rattle.office_model.specs.Office.{Office, Names}
+use Rattle.office_model.specs.Office.{Office, Names, IsSound}
 use Rattle.office_model.specs.UsedNames.{AreSound}
-use Rattle.office_model.specs.Step.{Call, Running}
-use Rattle.office_model.specs.History.{Entry, IsHistory, calls_of}
+use Rattle.office_model.specs.Step.{Call, State, Running}
+use Rattle.office_model.specs.History.{Entry, IsHistory, calls_of, Leads}
 use Rattle.peer_exchange.specs.declared.fault.PeerFault.TheVariants as F
 use Rattle.request_events.specs.declared.defaults.Defaults.{Defaults}
 use Rattle.http_heads.specs.Responses.{IsEnded, IsTruncated, IsResponseRead}
@@ -22,10 +23,10 @@ use Rattle.peer_talk.specs.Mirror.{Response, AreResponses, IsTalkBetween}
 use Rattle.pull_codec.specs.Codec.{InRange}
 use Rattle.pull_codec.specs.Relations.{AreInRange}
 use Rattle.pull_work.specs.declared.plan.Plan.{Plan}
-use Rattle.pull_work.specs.Steps.{Step, AreTold}
+use Rattle.pull_work.specs.Steps.{Step, calls_in, AreTold}
 use Rattle.pull_work.specs.Script.{Phase, Asking}
 use Rattle.pull_work.specs.Runs.{Taken, AreTurns, steps_of}
-use Rattle.replicas.specs.Replicas.{Marked, all_in, own_in, AreAlone, heard_in}
+use Rattle.replicas.specs.Replicas.{Marked, all_in, own_in, AreAlone, heard_in, IsReplica}
 use Rattle.replica_talks.specs.Faults.{faults_in}
 
 -- What a client wrote and read is of a talk of this server. In a legal history of it from this office on, the calls of that talk are
@@ -78,3 +79,12 @@ pub record EndsEarly (host : List ℕ) (steps : List Step) (input : List ℕ) : 
   pub rest : List ℕ
   pub responses : AreResponses input answers rest
   pub ends : IsResponseRead rest IsEnded ⊎ IsResponseRead rest IsTruncated
+
+-- The calls of the turns at home lead a sound office to this state; what home and the other server's office have in common had one tree.
+pub record LeadsHome (plan : Plan) (home first : Office) (turns : List Taken) (state' : State) : Type 0 where
+  pub names : Names
+  pub faults : ℕ
+  pub faults' : ℕ
+  pub sound : IsSound home
+  pub leads : Leads (Running home names) faults (calls_in (steps_of turns)) state' faults'
+  pub replica : IsReplica home.hosts first.hosts plan.host
