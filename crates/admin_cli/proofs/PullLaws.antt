@@ -1,7 +1,7 @@
 -- A run of `pull`, from what the layers below it say.
 --     does_pull, pull_complete
 use Rattle.std.specs.Prelude.{◌||◌}
-use Rattle.std.proofs.Common.{◌≡◌, ℕ, ◌-◌, ◌^◌, ◌<◌, ◌≤◌, Bool, true, false, List, [], ◌∷◌, length, Option, refl, sym, ap, ◌∙◌, subst, inl, inr, arith}
+use Rattle.std.proofs.Common.{◌≡◌, ℕ, ◌-◌, ◌^◌, ◌<◌, ◌≤◌, Bool, true, false, List, [], ◌∷◌, length, Option, Some, refl, sym, ap, ◌∙◌, subst, inl, inr, arith}
 use Rattle.fault_counts.specs.Counts.{Rose, Counted}
 use Rattle.attr_records.specs.Names.{is_host_name}
 use Rattle.disk_trait.specs.declared.disk.Disk.{Ghosts as DiskGhosts}
@@ -27,7 +27,7 @@ use Rattle.pull_work.specs.Steps.{calls_in, AreTold}
 use Rattle.pull_work.specs.Script.{Asking, Over}
 use Rattle.pull_work.specs.Runs.{Goes, Taken, AreTurns, steps_of}
 use Rattle.replica_talks.specs.Peers.{Talks}
-use Rattle.replica_talks.proofs.Served.{talks_heard}
+use Rattle.replica_talks.proofs.Refusals.{refusals_said}
 use Rattle.command_line.specs.Line.{Line, Pull}
 use Rattle.admin_cli.specs.declared.note.Note.{Note}
 use Rattle.admin_cli.specs.declared.note.Note.TheVariants as N
@@ -168,10 +168,14 @@ module _ {D N S : Type 0} {d : DiskGhosts D} {n : NamerGhosts N S} (disk : D) (s
             (pull_others (plan_of host read start) Asking (Over end) goes.turns goes.are) host end ended is;
         replica = λ a b first names stands hears.
             makes_replica d n.digest_of disk store'.parts.journal.disk (plan_of host read start) goes.turns end
-            (store'.parts.halted || store'.parts.journal.halted) a b first names goes.are
+            (store'.parts.halted || store'.parts.journal.halted) a b first names
             (is_served disk store store' settles calm listed ready (calls_in (steps_of goes.turns)) moved a b stands)
-            (talks_heard (plan_of host read start) first names goes.turns (Over end) link wire' hears.input hears.wrote
-            (talks_of host read start first names goes.turns end link link' wire' named goes.are goes.told behind hears));
+            link wire' hears.input hears.wrote
+            (talks_of host read start first names goes.turns end link link' wire' named goes.are goes.told behind hears);
+        refused = λ first names status hears is.
+            refusals_said (plan_of host read start) first names goes.turns (Over end) link wire' hears.input hears.wrote
+            (talks_of host read start first names goes.turns end link link' wire' named goes.are goes.told behind hears) status
+            (ap (λ (e : PullEnd). Some e) is);
         note_is = refl;
       })
 

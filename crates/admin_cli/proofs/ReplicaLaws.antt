@@ -1,7 +1,10 @@
 -- What a pull leaves on the disk, by the law of a replica.
 --     makes_replica
-use Rattle.std.specs.Prelude.{◌⊎◌, ◌++◌, ◌×◌}
-use Rattle.std.proofs.Common.{◌≡◌, ℕ, Bool, true, false, List, [], ◌∷◌, length, Ok, Err, refl, sym, ◌∙◌, subst, inl, inr}
+use Rattle.std.specs.Prelude.{◌⊎◌, ◌++◌}
+use Rattle.std.specs.List.{Contains}
+use Rattle.std.proofs.Common.{◌≡◌, ℕ, ◌+◌, Bool, true, false, List, [], ◌∷◌, Ok, Err, refl, sym, ap, subst, inl, inr, arith}
+use Rattle.std.proofs.lemmas.List.{append-nil}
+use Rattle.stream_traits.specs.Seen.{LinkSeen}
 use Rattle.disk_trait.specs.declared.disk.Disk.{Ghosts as DiskGhosts}
 use Rattle.disk_trait.specs.Files.{Files}
 use Rattle.disk_trait.specs.Images.{only_wider}
@@ -12,21 +15,29 @@ use Rattle.office_model.specs.declared.event.Event.TheVariants as V
 use Rattle.office_model.specs.Meaning.{Judged, Carried}
 use Rattle.office_model.specs.Office.{Office, Durable, Host, Names, raised, reopened}
 use Rattle.office_model.specs.Step.{Call, State, Running, Halted, meaning_of}
-use Rattle.adopted_dumps.specs.Adopted.{Shown}
+use Rattle.restore_histories.specs.Listed.{Shown}
 use Rattle.store_parts.specs.Held.{IsEither}
 use Rattle.store_parts.specs.Runs.{MayRecover}
 use Rattle.store_opening.specs.Reopens.{first_of, second_of}
 use Rattle.serve_workers.specs.Stores.{LeftBy, MayRecoverIn, is_reopen}
 use Rattle.pull_work.specs.declared.plan.Plan.{Plan}
 use Rattle.pull_work.specs.declared.ends.PullEnd.{PullEnd}
-use Rattle.pull_work.specs.declared.ends.PullEnd.TheVariants.{Done}
-use Rattle.pull_work.specs.Steps.{calls_in}
+use Rattle.pull_work.specs.declared.ends.PullEnd.TheVariants.{Done, PeerForeign}
+use Rattle.pull_work.specs.Steps.{Step, Lists, Opens, Reads, Closes, calls_in}
 use Rattle.pull_work.specs.Script.{Asking, Over}
 use Rattle.pull_work.specs.Runs.{Taken, AreTurns, steps_of}
-use Rattle.replicas.specs.Replicas.{IsHeard, IsReplica, Brings, BringsIn, BringsAll, StaysReplica, Pulls, heard_in, shown_in, wanted}
+use Rattle.replicas.specs.Replicas.{IsReplica, Brings, BringsIn, BringsAll, StaysReplica, Pulls, shown_in, wanted}
 use Rattle.replicas.specs.ReplicaLaws.{pull_brings, done_brings_all}
 use Rattle.replicas.specs.Stops.{IsMadeBy, MayKeep}
 use Rattle.replicas.specs.StoppedLaws.{stopped_pull_brings}
+use Rattle.replicas.specs.Foreign.{IsForeign, SaysForeign, ReadsAll}
+use Rattle.replicas.specs.ForeignLaws.{foreign_is_read}
+use Rattle.peer_exchange.specs.declared.fault.PeerFault.{PeerFault}
+use Rattle.peer_exchange.specs.declared.fault.PeerFault.TheVariants as F
+use Rattle.replica_talks.specs.Faults.{fault_in, faults_in}
+use Rattle.replica_talks.specs.Peers.{Talks, EndsEarly}
+use Rattle.replica_talks.proofs.Served.{talks_heard}
+use Rattle.replica_talks.proofs.Cuts.{foreign_is_cut}
 use Rattle.admin_cli.specs.Run.{IsServed}
 use Rattle.admin_cli.specs.Replicated.{HasBrought, BringsOnDisk, MakesReplica}
 use Rattle.admin_cli.proofs.OtherLaws.{IsOther, AreOthers}
@@ -75,6 +86,34 @@ kept_in digest_of (Running office names) event found may = kept_of digest_of off
 kept_in digest_of (Halted a b names) event found (inl stands) = (a, inl refl, stands)
 kept_in digest_of (Halted a b names) event found (inr stands) = (b, inr refl, stands)
 
+-- ---- foreign answers
+
+among_more : (x y : Event × PeerFault) (xs : List (Event × PeerFault)) → Contains xs y → Contains (x ∷ xs) y
+among_more x y xs c = (c.0 + 1, omega (arith, c.1), c.2)
+
+first_said : (host : List ℕ) (step : Step) (steps : List Step) → IsForeign step
+    → (event : Event) × Contains (fault_in host step ++ faults_in host steps) (event, F.Foreign)
+first_said host (Lists (Err fault)) steps e = (V.Backups host, 0, omega arith, ap (λ (f : PeerFault). (V.Backups host, f)) e)
+first_said host (Opens number base (Err fault)) steps e =
+    (V.OpenRead host number base, 0, omega arith, ap (λ (f : PeerFault). (V.OpenRead host number base, f)) e)
+first_said host (Reads restore (Err fault)) steps e = (V.ReadNext restore, 0, omega arith, ap (λ (f : PeerFault). (V.ReadNext restore, f)) e)
+first_said host (Closes restore (Err fault)) steps e = (V.CloseRead restore, 0, omega arith, ap (λ (f : PeerFault). (V.CloseRead restore, f)) e)
+first_said host step steps e = absurd e
+
+behind_said : (host : List ℕ) (step : Step) (steps : List Step) (y : Event × PeerFault) → Contains (faults_in host steps) y
+    → Contains (fault_in host step ++ faults_in host steps) y
+behind_said host (Lists (Err fault)) steps y c = among_more (V.Backups host, fault) y (faults_in host steps) c
+behind_said host (Opens number base (Err fault)) steps y c = among_more (V.OpenRead host number base, fault) y (faults_in host steps) c
+behind_said host (Reads restore (Err fault)) steps y c = among_more (V.ReadNext restore, fault) y (faults_in host steps) c
+behind_said host (Closes restore (Err fault)) steps y c = among_more (V.CloseRead restore, fault) y (faults_in host steps) c
+behind_said host step steps y c = c
+
+said_foreign : (host : List ℕ) (steps : List Step) → SaysForeign steps → (event : Event) × Contains (faults_in host steps) (event, F.Foreign)
+said_foreign host [] no = absurd no
+said_foreign host (step ∷ steps) (inl here) = first_said host step steps here
+said_foreign host (step ∷ steps) (inr there) =
+    let r = said_foreign host steps there in (r.0, behind_said host step steps (r.0, F.Foreign) r.1)
+
 -- ---- the disk
 
 brings_none : (old first : List Host) (host : List ℕ) (kept : Durable) → kept.hosts ≡ old → IsReplica old first host
@@ -85,9 +124,9 @@ brings_none old first host kept same replica = record {
 }
 
 module _ {D : Type 0} (d : DiskGhosts D) (digest_of : List ℕ → List ℕ) (disk disk' : D) (plan : Plan) (turns : List Taken) (end : PullEnd)
-    (halted : Bool) (a b : Durable) (first : Office) (there : Names) (are : AreTurns plan Asking turns (Over end))
-    (served : IsServed d digest_of disk disk' (calls_in (steps_of turns)) halted a b)
-    (heard : IsHeard first there (heard_in plan.host (steps_of turns))) where
+    (halted : Bool) (a b : Durable) (first : Office) (there : Names)
+    (served : IsServed d digest_of disk disk' (calls_in (steps_of turns)) halted a b) (old new : LinkSeen) (input wrote : List ℕ)
+    (talks : Talks plan first there turns (Over end) old new input wrote) where
   home : Office
   home = reopened served.office
 
@@ -100,9 +139,9 @@ module _ {D : Type 0} (d : DiskGhosts D) (digest_of : List ℕ → List ℕ) (di
     there = there;
     turns = turns;
     sound = served.sound.office;
-    are = subst (λ (e : PullEnd). AreTurns plan Asking turns (Over e)) is are;
+    are = subst (λ (e : PullEnd). AreTurns plan Asking turns (Over e)) is talks.are;
     leads = served.history;
-    heard = heard;
+    heard = talks_heard plan first there turns (Over end) old new input wrote talks;
     replica = replica;
   }
 
@@ -120,7 +159,7 @@ module _ {D : Type 0} (d : DiskGhosts D) (digest_of : List ℕ → List ℕ) (di
   left_has replica found (inl (inr stands)) =
       (raised served.office, stands, brings_none served.office.hosts first.hosts plan.host (raised served.office) refl replica)
   left_has replica found (inr in_call) =
-      let others = subst AreOthers in_call.calls_are (pull_others plan Asking (Over end) turns are) in
+      let others = subst AreOthers in_call.calls_are (pull_others plan Asking (Over end) turns talks.are) in
       let not : is_reopen in_call.call.0 ≡ false = no_reopening in_call.before in_call.after in_call.call others in
       let k : Kept digest_of in_call.mid in_call.call.0 found =
       kept_in digest_of in_call.mid in_call.call.0 found
@@ -159,5 +198,14 @@ module _ {D : Type 0} (d : DiskGhosts D) (digest_of : List ℕ → List ℕ) (di
             (done.0, shown.0, shown.1);
       }
 
-  pub makes_replica : MakesReplica d digest_of disk disk' a b first.hosts plan.host end
-  makes_replica = record { old = served.office; is_one = served.is_one; brings = brings }
+  foreign : IsReplica served.office.hosts first.hosts plan.host → end ≡ PeerForeign → EndsEarly plan.host (steps_of turns) input ⊎ ReadsAll turns
+  foreign replica is = by (foreign_is_read plan home first (Over end) served.last (pulls end refl replica) is)
+    where
+      by : SaysForeign (steps_of turns) ⊎ ReadsAll turns → EndsEarly plan.host (steps_of turns) input ⊎ ReadsAll turns
+      by (inl says) =
+          let r = said_foreign plan.host (steps_of turns) says in
+          inl (foreign_is_cut plan first there turns (Over end) old new input wrote talks r.0 r.1)
+      by (inr all) = inr all
+
+  pub makes_replica : MakesReplica d digest_of disk disk' a b first.hosts plan.host turns input end
+  makes_replica = record { old = served.office; is_one = served.is_one; brings = brings; foreign = foreign }

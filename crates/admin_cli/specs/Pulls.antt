@@ -22,7 +22,7 @@ use Rattle.admin_cli.specs.declared.note.Note.{Note}
 use Rattle.admin_cli.specs.declared.note.Note.TheVariants as N
 use Rattle.admin_cli.specs.Command.{AsksFor}
 use Rattle.admin_cli.specs.Folders.{note_of_rule, note_of_call, IsCauseAtWork}
-use Rattle.admin_cli.specs.Replicated.{HearsPeer, MakesReplica}
+use Rattle.admin_cli.specs.Replicated.{HearsPeer, IsRefusedBy, MakesReplica}
 use Rattle.admin_cli.specs.Run.{StandsForEither, LeadsOnDisk}
 
 abbrev pub note_of_pull : (host : List ℕ) → PullEnd → (halted : Bool) → Note
@@ -75,6 +75,8 @@ module _ {D : Type 0} (d : DiskGhosts D) (digest_of : List ℕ → List ℕ) whe
         × (halted ≡ true → Rose (d.fault_count disk) (d.fault_count disk'))
     pub later : d.fault_count disk ≤ d.fault_count disk'
     pub stops : note ≡ N.DiskFailed → Rose (d.fault_count disk) (d.fault_count disk')
-    pub replica : (a b : Durable) (first : Office) (names : Names) → StandsForEither d digest_of disk a b → HearsPeer link link' first names
-        → MakesReplica d digest_of disk disk' a b first.hosts host end
+    pub replica : (a b : Durable) (first : Office) (names : Names) → StandsForEither d digest_of disk a b
+        → (hears : HearsPeer link link' first names) → MakesReplica d digest_of disk disk' a b first.hosts host goes.turns hears.input end
+    pub refused : (first : Office) (names : Names) (status : ℕ) → (hears : HearsPeer link link' first names) → end ≡ E.PeerRefused status
+        → IsRefusedBy hears host goes.turns status
     pub note_is : note ≡ note_of_pull host end halted

@@ -2,8 +2,9 @@
 --     HearsPeer      they were: in a legal history of that server
 --     HasBrought      an office whose backups of the host are those before, and behind them a beginning of those to be brought
 --     BringsOnDisk      the disk handed back has such a one, and so has whatever a crash meanwhile leaves
---     MakesReplica      so it is if a backup that both servers had with one number, times and kind had one tree
-use Rattle.std.specs.Prelude.{◌≡◌, ℕ, List, ◌++◌, length, Some}
+--     MakesReplica      so it is if a backup that both servers had with one number, times and kind had one tree; and then no frame is foreign
+--     IsRefusedBy      it ended by a refusal of the other server
+use Rattle.std.specs.Prelude.{◌≡◌, ◌⊎◌, ℕ, List, ◌++◌, length, Some}
 use Rattle.disk_trait.specs.declared.disk.Disk.{Ghosts as DiskGhosts}
 use Rattle.disk_trait.specs.Images.{Leaves, LeavesOnly}
 use Rattle.stream_traits.specs.Seen.{LinkSeen}
@@ -13,9 +14,11 @@ use Rattle.office_model.specs.Office.{Office, Durable, Host, Names}
 use Rattle.office_model.specs.Step.{IsPicked}
 use Rattle.store_parts.specs.Held.{IsEither}
 use Rattle.pull_work.specs.declared.ends.PullEnd.{PullEnd}
-use Rattle.pull_work.specs.declared.ends.PullEnd.TheVariants.{Done}
-use Rattle.replicas.specs.Replicas.{IsReplica, Brings, shown_in, wanted}
-use Rattle.replica_talks.specs.Peers.{IsPeer}
+use Rattle.pull_work.specs.declared.ends.PullEnd.TheVariants.{Done, PeerForeign}
+use Rattle.pull_work.specs.Runs.{Taken, steps_of}
+use Rattle.replicas.specs.Foreign.{ReadsAll}
+use Rattle.replicas.specs.Replicas.{IsReplica, Brings, own_in, shown_in, wanted}
+use Rattle.replica_talks.specs.Peers.{IsPeer, IsRefusedThere, EndsEarly}
 use Rattle.admin_cli.specs.Run.{StandsForEither}
 
 -- the other server began in this office, and what was written since the first view of the link and what came to it are of its talk
@@ -27,6 +30,11 @@ pub record HearsPeer (link link' : LinkSeen) (first : Office) (names : Names) : 
   pub wrote : List ℕ
   pub written_now : link'.written ≡ Some (before ++ wrote)
   pub peer : IsPeer first names wrote input
+
+-- the last event that was asked for was refused there with a refusal of this status, or the other server had no memory
+abbrev pub IsRefusedBy : {link link' : LinkSeen} {first : Office} {names : Names} → HearsPeer link link' first names → (host : List ℕ)
+    → List Taken → (status : ℕ) → Type 0
+IsRefusedBy hears host turns status = (status ≡ 507) ⊎ IsRefusedThere host (steps_of turns) (own_in hears.peer.marked) status
 
 -- the host's backups are the old ones and then a beginning of the other server's from the old next number on, with their numbers, times,
 -- kinds and trees; no other host changed, and what both servers have agrees
@@ -52,8 +60,11 @@ module _ {D : Type 0} (d : DiskGhosts D) (digest_of : List ℕ → List ℕ) whe
         → (count ≡ length (wanted old first host)) × (next ≡ before)
         × (shown_in before.hosts host ≡ shown_in old host ++ wanted old first host)
 
-  -- the disk stood for one of two offices, and for this one
-  pub record MakesReplica (disk disk' : D) (a b : Durable) (first : List Host) (host : List ℕ) (end : PullEnd) : Type 0 where
+  -- The disk stood for one of two offices, and for this one. An answer is foreign only if what came ended before it was whole, or behind
+  -- as many frames of a restore as none has.
+  pub record MakesReplica (disk disk' : D) (a b : Durable) (first : List Host) (host : List ℕ) (turns : List Taken) (input : List ℕ)
+      (end : PullEnd) : Type 0 where
     pub old : Durable
     pub is_one : IsPicked a b old
     pub brings : IsReplica old.hosts first host → BringsOnDisk disk disk' a b old.hosts first host end
+    pub foreign : IsReplica old.hosts first host → end ≡ PeerForeign → EndsEarly host (steps_of turns) input ⊎ ReadsAll turns

@@ -1,5 +1,5 @@
 -- What the calls of a pull make of the home office.
---     Shown      a backup as both servers show it
+--     shows_of      backups as both servers show them
 --     Gains      a host has one backup more
 --     DumpIsFilled      a dump into which was laid what leads from its tree to another has that one
 --     DumpIsAdopted, DumpMayBeAdopted      adopted then, it is the host's newest backup; if the disk failed at that, it may be
@@ -24,25 +24,11 @@ use Rattle.office_model.specs.History.{Leads}
 use Rattle.folder_laws.specs.Calls.{open_call}
 use Rattle.folder_laws.specs.OfficeLaws.{HasDump}
 use Rattle.frame_puts.specs.Runs.{LaidSince}
+use Rattle.restore_histories.specs.Listed.{Shown, shown_as, shown_of}
 
 -- ---- backups as they are shown
 
--- what a backup is on each server: its line without its marks, and its tree
-pub record Shown : Type 0 where
-  pub number : ℕ
-  pub start : ℕ
-  pub end : ℕ
-  pub kind : Kind
-  pub tree : Tree
-
--- of this line and this tree
-abbrev pub shown_as : Line → Tree → Shown
-shown_as line tree = record { number = line.number; start = line.start; end = line.end; kind = line.kind; tree = tree }
-
--- of a backup, of each of a host's
-abbrev pub shown_of : Backup → Shown
-shown_of backup = shown_as backup.line backup.tree
-
+-- what each of a host's backups is on each server
 abbrev pub shows_of : List Backup → List Shown
 shows_of backups = map shown_of backups
 

@@ -23,7 +23,8 @@ use Rattle.office_model.specs.laws.HistoryLaws.{IsSoundState-last}
 use Rattle.office_model.specs.laws.Judging.{at_is, found_is}
 use Rattle.call_scripts.specs.FirstCalls.{answered, none_left}
 use Rattle.folder_laws.specs.OfficeLaws.{HasDump, some_is, opened}
-use Rattle.adopted_dumps.specs.Adopted.{Shown, shown_as, shows_of, host_named, Gains, tree_of, base_of, IsFilled, adopt_event, adopt_call, IsLaidOpen, MayGain, IsUnchanged, MayGainAny, IsLeftBy, DumpIsAdopted, DumpMayBeAdopted, FaultMayGain}
+use Rattle.restore_histories.specs.Listed.{Shown, shown_as}
+use Rattle.adopted_dumps.specs.Adopted.{shows_of, host_named, Gains, tree_of, base_of, IsFilled, adopt_event, adopt_call, IsLaidOpen, MayGain, IsUnchanged, MayGainAny, IsLeftBy, DumpIsAdopted, DumpMayBeAdopted, FaultMayGain}
 use Rattle.adopted_dumps.specs.SplitLaws.{split, first_call}
 use Rattle.adopted_dumps.specs.PartLaws.{part_keeps, parts_change_nothing}
 use Rattle.adopted_dumps.specs.FillLaws.{dump_is_filled}
@@ -31,10 +32,10 @@ use Rattle.adopted_dumps.specs.GainLaws.{newest_shown, host_there, adopt_gains, 
 
 -- ---- a dump is opened and filled
 
-named_at : (hosts : List Host) (name : List ℕ) (a : At Host) → host_at hosts name ≡ Ok a → host_named hosts name ≡ Some a.value
+pub named_at : (hosts : List Host) (name : List ℕ) (a : At Host) → host_at hosts name ≡ Ok a → host_named hosts name ≡ Some a.value
 named_at hosts name a e = let at = at_is _ hosts _ a e in host_there hosts name a.index a.value at.0 at.1
 
-base_is : (kind : Kind) (backups : List Backup) (base : Tree) → OpenDumpEvent.base_of kind backups ≡ Ok base
+pub base_is : (kind : Kind) (backups : List Backup) (base : Tree) → OpenDumpEvent.base_of kind backups ≡ Ok base
     → base ≡ tree_of (base_of kind backups)
 base_is Full backups base e = sym (bare base e)
   where

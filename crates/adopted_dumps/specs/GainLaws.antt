@@ -26,7 +26,8 @@ use Rattle.office_model.specs.laws.Lawful.{judged}
 use Rattle.office_model.specs.laws.Lookups.{named, dump_index-at, host_index-at, host_index-found}
 use Rattle.office_model.specs.laws.RepeatLaws.{given_as, again_is}
 use Rattle.folder_laws.specs.OfficeLaws.{HasDump, some_is, at_end, asked_dump}
-use Rattle.adopted_dumps.specs.Adopted.{Shown, shown_as, shown_of, shows_of, host_named, Gains, MayGainAny}
+use Rattle.restore_histories.specs.Listed.{Shown, shown_as, shown_of}
+use Rattle.adopted_dumps.specs.Adopted.{shows_of, host_named, Gains, MayGainAny}
 
 ok_is : {A : Type 0} (x y : A) → judged x ≡ judged y → x ≡ y
 ok_is x y e = cc
@@ -148,7 +149,7 @@ gains_set hosts place old new name shown differ is named same shows next rules =
 -- ---- an adoption
 
 -- that of an open dump repeats none
-unrepeated : (session : SessionName) (ending : CommitEvent.Ending) (i : ℕ) (office : Office) → dump_index office.dumps session ≡ Some i
+pub unrepeated : (session : SessionName) (ending : CommitEvent.Ending) (i : ℕ) (office : Office) → dump_index office.dumps session ≡ Some i
     → CommitEvent.carried session ending office ≡ CommitEvent.ended session ending office
 unrepeated session ending i office is = ap (λ (place : Option ℕ). again office
     (if is_some place then None else option_map (λ (receipt : Receipt). A.Committed receipt.number) (receipt_named office.hosts session))

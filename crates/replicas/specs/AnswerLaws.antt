@@ -1,47 +1,36 @@
 -- The answer to an adoption of a dump that is open is the number that it is adopted with.
-use Rattle.std.specs.Prelude.{◌≡◌, ℕ, not, List, [], ◌∷◌, ◌++◌, Option, Some, None, Ok, slice_get, slice_set, is_some, if◌then◌else◌}
-use Rattle.std.specs.Option.{option_map}
+use Rattle.std.specs.Prelude.{◌≡◌, ℕ, not, List, ◌∷◌, ◌++◌, None, Ok, slice_get, slice_set, if◌then◌else◌}
 use Rattle.std.specs.List.{remove}
 use Rattle.std.proofs.Common.{refl, sym, ap, ◌∙◌, subst}
 use Rattle.attr_records.specs.Items.{Tree, is_dir}
 use Rattle.attr_records.specs.Trees.{IsTree}
 use Rattle.backup_rules.specs.declared.lines.Kind.{Kind}
-use Rattle.backup_rules.specs.declared.lines.Kind.TheVariants.{Full, Incr}
 use Rattle.backup_rules.specs.declared.lines.Line.{Line}
 use Rattle.receipts.specs.declared.session.SessionName.{SessionName}
-use Rattle.receipts.specs.declared.receipt.Receipt.{Receipt}
 use Rattle.office_model.specs.declared.event.Event.TheVariants as E
 use Rattle.office_model.specs.declared.answer.Answer.{Answer}
 use Rattle.office_model.specs.declared.answer.Answer.TheVariants as A
-use Rattle.office_model.specs.declared.refusal.BrokenRule.TheVariants.{NoHost, NoBackup, NoSession, NumberBehind}
-use Rattle.office_model.specs.Office.{Office, Host, Backup, Names, IsSound, host_index, dump_index}
-use Rattle.office_model.specs.Meaning.{Carried, Judged, found}
+use Rattle.office_model.specs.declared.refusal.BrokenRule.TheVariants.{NoSession, NumberBehind}
+use Rattle.office_model.specs.Office.{Office, Host, Names, IsSound}
+use Rattle.office_model.specs.Meaning.{Carried, found}
 use Rattle.office_model.specs.Pool.{with_tree}
-use Rattle.office_model.specs.Repeats.{again, receipt_named}
-use Rattle.office_model.specs.Parts.{At, host_at, dump_at, newest}
+use Rattle.office_model.specs.Parts.{dump_at}
 use Rattle.office_model.specs.Step.{Call, State, Running}
 use Rattle.office_model.specs.History.{Leads}
-use Rattle.office_model.specs.events.OpenDump as OpenDumpEvent
 use Rattle.office_model.specs.events.Commit as CommitEvent
 use Rattle.office_model.specs.events.Adopt as AdoptEvent
-use Rattle.office_model.specs.laws.Judging.{bound, passed, at_is, found_is}
+use Rattle.office_model.specs.laws.Judging.{bound, passed}
 use Rattle.office_model.specs.laws.Lawful.{judged}
 use Rattle.office_model.specs.laws.Lookups.{dump_index-at}
 use Rattle.call_scripts.specs.FirstCalls.{answered}
 use Rattle.folder_laws.specs.OfficeLaws.{HasDump, some_is, opened}
-use Rattle.adopted_dumps.specs.Adopted.{host_named, tree_of, base_of, adopt_event, IsLaidOpen}
+use Rattle.adopted_dumps.specs.Adopted.{tree_of, base_of, adopt_event, IsLaidOpen}
 use Rattle.adopted_dumps.specs.FillLaws.{dump_is_filled}
-use Rattle.adopted_dumps.specs.GainLaws.{host_there}
+use Rattle.adopted_dumps.specs.GainLaws.{unrepeated}
+use Rattle.adopted_dumps.specs.AdoptedLaws.{base_is, named_at}
 
 ok_is : {A : Type 0} (x y : A) → judged x ≡ judged y → x ≡ y
 ok_is x y e = cc
-
--- that of an open dump repeats none
-unrepeated : (session : SessionName) (ending : CommitEvent.Ending) (i : ℕ) (office : Office) → dump_index office.dumps session ≡ Some i
-    → CommitEvent.carried session ending office ≡ CommitEvent.ended session ending office
-unrepeated session ending i office is = ap (λ (place : Option ℕ). again office
-    (if is_some place then None else option_map (λ (receipt : Receipt). A.Committed receipt.number) (receipt_named office.hosts session))
-    (CommitEvent.ended session ending office)) is
 
 abbrev there : Line → Line
 there line = AdoptEvent.adopted_line line.number line.start line.end line.kind
@@ -72,21 +61,6 @@ adopted_answer office session name tree line c sound has e =
     let done : Carried = record { answer = A.Committed w.0.number; after = CommitEvent.after session office w.0 } in
     answer_by c done w.0.number l.0.number line.number (ok_is done c w.2) refl (ap (λ (m : CommitEvent.Committing). m.number) {x = made} {y = w.0} made_is)
     (ap (λ (x : Line). x.number) {x = there line} {y = l.0} line_is)
-
-base_is : (kind : Kind) (backups : List Backup) (base : Tree) → OpenDumpEvent.base_of kind backups ≡ Ok base
-    → base ≡ tree_of (base_of kind backups)
-base_is Full backups base e = sym (bare base e)
-  where
-    bare : (base : Tree) → (let none : Judged Tree = Ok [] in none ≡ Ok base) → [] ≡ base
-    bare base e = cc
-base_is Incr backups base e =
-    let is : option_map (λ (backup : Backup). backup.tree) (newest backups) ≡ Some base = found_is NoBackup _ base e in
-    sym (ap tree_of is)
-
-named_at : (hosts : List Host) (name : List ℕ) (a : At Host) → host_at hosts name ≡ Ok a → host_named hosts name ≡ Some a.value
-named_at hosts name a e =
-    let at : (host_index hosts name ≡ Some a.index) × (slice_get hosts a.index ≡ Some a.value) = at_is NoHost hosts (host_index hosts name) a e in
-    host_there hosts name a.index a.value at.0 at.1
 
 pub adopt_answer : (office : Office) (names : Names) (faults : ℕ) (name : List ℕ) (kind : Kind) (dump : SessionName) (line : Line) (tree : Tree)
     (answer : Answer) (calls more : List Call) (state' : State) (faults' : ℕ) → IsTree is_dir tree → IsLaidOpen office name kind dump tree calls

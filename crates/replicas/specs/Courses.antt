@@ -18,7 +18,8 @@ use Rattle.frame_puts.specs.declared.laying.Laying.{Laying}
 use Rattle.frame_puts.specs.declared.laying.Laying.TheVariants.{Nothing}
 use Rattle.frame_puts.specs.Runs.{Lays, LaidSince}
 use Rattle.restore_histories.specs.Given.{given_in, HaveNoEnd}
-use Rattle.adopted_dumps.specs.Adopted.{Shown, shown_of, shows_of, host_named, base_of, AdoptNone}
+use Rattle.restore_histories.specs.Listed.{Shown, shown_of}
+use Rattle.adopted_dumps.specs.Adopted.{shows_of, host_named, base_of, AdoptNone}
 use Rattle.listing_back.specs.declared.listing.Listing.{Listing}
 use Rattle.pull_work.specs.declared.plan.Plan.{Plan}
 use Rattle.pull_work.specs.declared.ends.PullEnd.{PullEnd}

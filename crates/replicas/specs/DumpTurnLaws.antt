@@ -24,7 +24,8 @@ use Rattle.frame_puts.specs.Runs.{Lays}
 use Rattle.frame_puts.specs.RunLaws.{lays_tree, lays_more}
 use Rattle.restore_histories.specs.Given.{HaveNoEnd}
 use Rattle.restore_histories.specs.RunLaws.{run_begins}
-use Rattle.adopted_dumps.specs.Adopted.{Shown, host_named, shown_as, shown_of, shows_of, base_of, Gains, adopt_event, IsLaidOpen, MayGain, AdoptsNone, AdoptNone, IsPart, IsRefused}
+use Rattle.restore_histories.specs.Listed.{Shown, shown_as, shown_of}
+use Rattle.adopted_dumps.specs.Adopted.{host_named, shows_of, base_of, Gains, adopt_event, IsLaidOpen, MayGain, AdoptsNone, AdoptNone, IsPart, IsRefused}
 use Rattle.adopted_dumps.specs.AdoptedLaws.{dump_is_adopted, dump_may_be_adopted}
 use Rattle.pull_work.specs.declared.ends.PullEnd.{PullEnd}
 use Rattle.pull_work.specs.declared.ends.PullEnd.TheVariants.{Refused}

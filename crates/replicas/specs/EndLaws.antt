@@ -4,7 +4,8 @@ use Rattle.std.proofs.Common.{refl, sym, ap, ◌∙◌, subst, append_assoc}
 use Rattle.office_model.specs.Office.{Durable}
 use Rattle.office_model.specs.Step.{Call, State, Running, Halted}
 use Rattle.office_model.specs.History.{Leads}
-use Rattle.adopted_dumps.specs.Adopted.{shows_of, shown_of, AdoptNone, IsUnchanged}
+use Rattle.restore_histories.specs.Listed.{shown_of}
+use Rattle.adopted_dumps.specs.Adopted.{shows_of, AdoptNone, IsUnchanged}
 use Rattle.adopted_dumps.specs.PartLaws.{parts_change_nothing}
 use Rattle.peer_exchange.specs.declared.fault.PeerFault.{PeerFault}
 use Rattle.peer_exchange.specs.declared.fault.PeerFault.TheVariants as F

@@ -35,7 +35,8 @@ use Rattle.office_model.specs.laws.Lookups.{host_index-at, host_index-found}
 use Rattle.office_model.specs.laws.RepeatLaws.{given_as}
 use Rattle.call_scripts.specs.FirstCalls.{answered}
 use Rattle.restore_histories.specs.ListedLaws.{found_backup, same_numbered}
-use Rattle.adopted_dumps.specs.Adopted.{Shown, shown_of, shows_of, host_named, Gains, AdoptsNone, IsUnchanged}
+use Rattle.restore_histories.specs.Listed.{Shown, shown_of}
+use Rattle.adopted_dumps.specs.Adopted.{shows_of, host_named, Gains, AdoptsNone, IsUnchanged}
 use Rattle.adopted_dumps.specs.SplitLaws.{first_call}
 use Rattle.adopted_dumps.specs.PartLaws.{parts_change_nothing}
 use Rattle.adopted_dumps.specs.GainLaws.{host_there}

@@ -17,7 +17,8 @@ use Rattle.office_model.specs.Parts.{lines_of}
 use Rattle.office_model.specs.Step.{Call, State, Running, Halted}
 use Rattle.office_model.specs.History.{Leads, last_state, last_faults}
 use Rattle.call_scripts.specs.FirstCalls.{answered}
-use Rattle.adopted_dumps.specs.Adopted.{Shown, shown_of, shows_of, host_named, AdoptsNone}
+use Rattle.restore_histories.specs.Listed.{Shown, shown_of}
+use Rattle.adopted_dumps.specs.Adopted.{shows_of, host_named, AdoptsNone}
 use Rattle.adopted_dumps.specs.PartLaws.{part_keeps}
 use Rattle.listing_back.specs.declared.listing.Listing.{Listing}
 use Rattle.pull_work.specs.declared.ends.PullEnd.TheVariants.{Refused}

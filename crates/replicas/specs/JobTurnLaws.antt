@@ -17,7 +17,8 @@ use Rattle.office_model.specs.History.{Leads}
 use Rattle.folder_laws.specs.Calls.{open_call}
 use Rattle.frame_puts.specs.declared.laying.Laying.TheVariants.{Nothing}
 use Rattle.restore_histories.specs.Given.{given_in, HaveNoEnd}
-use Rattle.adopted_dumps.specs.Adopted.{Shown, shows_of, host_named, IsPart}
+use Rattle.restore_histories.specs.Listed.{Shown}
+use Rattle.adopted_dumps.specs.Adopted.{shows_of, host_named, IsPart}
 use Rattle.pull_work.specs.declared.ends.PullEnd.TheVariants.{Done}
 use Rattle.pull_work.specs.Steps.{Step, Home, Lists, Opens, Reads, Closes, calls_in}
 use Rattle.pull_work.specs.Script.{ListsThere, Job, Intake, Bringing, Opening, Reading, Closing, Due, Calls, OpensThere, ReadsThere, ClosesThere, due, due_in, after, opening, kind_for, job_of, frame_limit}

@@ -6,7 +6,8 @@ use Rattle.office_model.specs.Places.{AtEach}
 use Rattle.office_model.specs.UsedNames.{Among}
 use Rattle.office_model.specs.Office.{Office, Host, Backup, AreHosts}
 use Rattle.office_model.specs.Step.{State, Running, Halted}
-use Rattle.adopted_dumps.specs.Adopted.{Shown, shown_of, shows_of, host_named}
+use Rattle.restore_histories.specs.Listed.{Shown, shown_of}
+use Rattle.adopted_dumps.specs.Adopted.{shows_of, host_named}
 use Rattle.pull_work.specs.declared.plan.Plan.{Plan}
 use Rattle.pull_work.specs.declared.ends.PullEnd.TheVariants.{Done}
 use Rattle.pull_work.specs.Steps.{Step, Home}

@@ -16,7 +16,8 @@ use Rattle.office_model.specs.UsedNames.{Among, AreSound}
 use Rattle.office_model.specs.Step.{Call, State, Running, Halted}
 use Rattle.office_model.specs.History.{Entry, IsHistory, calls_of, Leads}
 use Rattle.restore_histories.specs.Given.{given_by, given_in}
-use Rattle.adopted_dumps.specs.Adopted.{Shown, shows_of, host_named}
+use Rattle.restore_histories.specs.Listed.{Shown}
+use Rattle.adopted_dumps.specs.Adopted.{shows_of, host_named}
 use Rattle.pull_work.specs.declared.plan.Plan.{Plan}
 use Rattle.pull_work.specs.declared.ends.PullEnd.TheVariants.{Done}
 use Rattle.pull_work.specs.Steps.{Step, Lists, Opens, Reads, Closes, calls_in}

@@ -35,7 +35,7 @@ use Rattle.office_model.specs.laws.BackupLaws.{with_last-at}
 use Rattle.office_model.specs.laws.DurableLaws.{set_finds, kept_key}
 use Rattle.office_model.specs.laws.ExpireLaws.{unflagged_at}
 use Rattle.office_model.specs.laws.RepeatLaws.{given_as, again_is}
-use Rattle.restore_histories.specs.Listed.{lasting}
+use Rattle.restore_histories.specs.Listed.{shown_of}
 
 -- ---- hosts
 
@@ -44,7 +44,7 @@ pub record WasThere (old : List Backup) (backup : Backup) : Type 0 where
   pub place : ℕ
   pub was : Backup
   pub is_was : slice_get old place ≡ Some was
-  pub same : lasting backup ≡ lasting was
+  pub same : shown_of backup ≡ shown_of was
 
 -- a host has its name, its next number is no lower, and each of its backups is one of before, or has a number that was not given then
 pub record HostFollows (old new : Host) : Type 0 where
@@ -218,7 +218,7 @@ kept_follows host p backup on was = record {
   name = refl;
   next = no_less host.next;
   backups = λ i b at.
-      let w = kept_key lasting host.backups p i backup (events.Keep.kept_as on backup) b was refl at in
+      let w = kept_key shown_of host.backups p i backup (events.Keep.kept_as on backup) b was refl at in
       inl (record { place = i; was = w.0; is_was = w.1; same = w.2 });
 }
 
@@ -236,7 +236,7 @@ without_follows host p = record {
   name = refl;
   next = no_less host.next;
   backups = λ i b at.
-      let w = with_last-at lasting (filled_as true) (λ last. refl) (remove host.backups p) i b at in
+      let w = with_last-at shown_of (filled_as true) (λ last. refl) (remove host.backups p) i b at in
       inl (record { place = place_before p i; was = w.0; is_was = sym (slice_get-remove host.backups p i) ∙ w.1; same = w.2 });
 }
 
@@ -298,7 +298,7 @@ commit_follows host dump line free = record {
     step : (i : ℕ) (b : Backup) → (slice_get (older_of host) i ≡ Some b) ⊎ ((i ≡ length (older_of host)) × (b ≡ events.Commit.new_backup dump line))
         → WasThere host.backups b ⊎ (host.next ≤ b.line.number)
     step i b (inl f) =
-        let w = with_last-at lasting (λ last. filled_as (stays_filled host.rules last.line) last) (λ last. refl) host.backups i b f in
+        let w = with_last-at shown_of (λ last. filled_as (stays_filled host.rules last.line) last) (λ last. refl) host.backups i b f in
         inl (record { place = i; was = w.0; is_was = w.1; same = w.2 })
     step i b (inr f) = inr (subst (λ (x : Backup). host.next ≤ x.line.number) (sym f.1) free)
 

@@ -15,7 +15,7 @@ use Rattle.office_model.specs.laws.HistoryLaws.{IsSoundState-last}
 use Rattle.office_model.specs.laws.StepLaws.{faulted_is}
 use Rattle.restore_histories.specs.HoldingLaws.{HoldsIn, holds_reply, holds_halted}
 use Rattle.restore_histories.specs.EventLaws.{WasThere, FollowHosts, hosts_follow}
-use Rattle.restore_histories.specs.Listed.{lasting, IsStill, StaysIn, ListedStays}
+use Rattle.restore_histories.specs.Listed.{shown_of, IsStill, StaysIn, ListedStays}
 
 -- ---- what a look-up finds
 
@@ -69,7 +69,7 @@ pub record IsGivenOut (name : List ℕ) (number : ℕ) (was : Backup) (hosts : L
   pub is_host : slice_get hosts place ≡ Some host
   pub named : host.name ≡ name
   pub given : number < host.next
-  pub still : (i : ℕ) (backup : Backup) → slice_get host.backups i ≡ Some backup → backup.line.number ≡ number → lasting backup ≡ lasting was
+  pub still : (i : ℕ) (backup : Backup) → slice_get host.backups i ≡ Some backup → backup.line.number ≡ number → shown_of backup ≡ shown_of was
 
 -- so it is in the office that has it
 pub given_at_first : (hosts : List Host) (name : List ℕ) (number : ℕ) (was : Backup) → AreHosts hosts → backup_of hosts name number ≡ Ok was
@@ -87,7 +87,7 @@ given_at_first hosts name number was are e =
           let same : i ≡ f.index =
           same_numbered f.host.next f.host.backups sound.backups.numbered i f.index backup was at f.is_backup (numbered ∙ sym f.numbered) in
           let one : backup ≡ was = let g = ap (slice_get f.host.backups) same in let h = f.is_backup in cc in
-          ap lasting one;
+          ap shown_of one;
     }
 
 -- and where hosts follow these
@@ -105,7 +105,7 @@ given_later name number was old new follow has =
     }
   where
     step : (i : ℕ) (backup : Backup) → backup.line.number ≡ number → WasThere has.host.backups backup ⊎ (has.host.next ≤ backup.line.number)
-        → lasting backup ≡ lasting was
+        → shown_of backup ≡ shown_of was
     step i backup numbered (inl w) = w.same ∙ has.still w.place w.was w.is_was (ap (λ l. l.number) (sym w.same) ∙ numbered)
     step i backup numbered (inr above) = let less = has.given in absurd (omega arith)
 
