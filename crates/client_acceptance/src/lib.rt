@@ -8,3 +8,5 @@ mod http_client_tests;
 mod peer_tests;
 #[cfg(test)]
 mod pull_texts_tests;
+#[cfg(test)]
+mod remote_port_tests;
