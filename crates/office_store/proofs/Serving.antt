@@ -136,7 +136,7 @@ module _ {D N S : Type 0} {d : DiskGhosts D} {n : NamerGhosts N S} where
           (event_left state at);
       in_kind = runs.in_kind;
       damaged = tells old.parts event reply new.parts there says;
-      untouched = record { still = quiet; undone = λ none damage. runs.untouched damage };
+      untouched = record { still = quiet; undone = λ other none damage. runs.untouched none damage };
       halts = λ stopped.
           inr (may_stop event reply (λ fine. false≢true (sym (still_works old.parts new.parts (runs.halts fine) work) ∙ stopped)));
       awake = λ e. absurd (runs.awake e);
@@ -165,7 +165,7 @@ module _ {D N S : Type 0} {d : DiskGhosts D} {n : NamerGhosts N S} where
       crash = λ state at. FindsOnly-still old.parts.journal (MayRecover n.digest_of state event);
       in_kind = tt;
       damaged = tt;
-      untouched = record { still = λ still. refl; undone = λ none damage. refl };
+      untouched = record { still = λ still. refl; undone = λ other none damage. refl };
       halts = λ stopped. inl stuck;
       awake = λ e. (stuck, refl);
       stuck = λ was. inr refl;
@@ -186,7 +186,7 @@ module _ {D N S : Type 0} {d : DiskGhosts D} {n : NamerGhosts N S} where
         crash = crash;
         in_kind = reopens.in_kind;
         damaged = reopening_tells old.parts reply new.parts reopens;
-        untouched = record { still = λ still. absurd still; undone = λ none damage. absurd (none refl) };
+        untouched = record { still = λ still. absurd still; undone = λ other none damage. absurd (other refl) };
         halts = reopening_halts old.parts reply new.parts reopens;
         awake = λ e. absurd (reopens.awake e);
         stuck = λ was. inl refl;

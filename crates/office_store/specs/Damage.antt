@@ -7,7 +7,8 @@
 --         that wasn't, with what was found of it
 --     TellsDamage old event reply new      both, if the store didn't answer that it is halted
 --     WritesNoFile event      an abort, and what opens a restore or gives its next frame
---     LeavesTold old event reply new      what the disk tells is as before behind such an event, and behind one that found a damaged file
+--     LeavesTold old event reply new      what the disk tells is as before behind such an event, and behind one that found a damaged file, but for
+--         a reopening and the put of a stage
 use Rattle.std.specs.Prelude.{⊤, ◌≡◌, ℕ, [], ◌∷◌, Some, Ok, Err, OnOk, slice_get}
 use Rattle.disk_trait.specs.Files.{Files}
 use Rattle.disk_trait.specs.declared.disk.Disk.{Ghosts as DiskGhosts}
@@ -30,6 +31,7 @@ use Rattle.open_sessions.specs.declared.sessions.OpenRestore.{OpenRestore}
 use Rattle.open_sessions.specs.Places.{next_in}
 use Rattle.store_parts.specs.declared.parts.StoreParts.{StoreParts}
 use Rattle.store_parts.specs.FoundLaws.{reader_place}
+use Rattle.store_parts.specs.Runs.{CopiesNone}
 use Rattle.store_dumps.specs.Opening.{OpensDump}
 use Rattle.store_dumps.specs.Resuming.{ResumesDump}
 use Rattle.store_partials.specs.Heeding.{HeedsPartial, IsKnownFor, IsKnownNamed}
@@ -132,7 +134,8 @@ module _ {D N S : Type 0} {d : DiskGhosts D} {n : NamerGhosts N S} where
   TellsDamage old event (Err R.Halted) new = ⊤
   TellsDamage old event reply new = IsThere old event reply × SaysOfFiles old event reply new
 
-  -- a reopening may have brought a commit to its end before it finds a file that isn't the store's
+  -- a reopening may have brought a commit to its end before it finds a file that isn't the store's, and the put of a stage have copied a
+  -- part of the stage's file before that ends
   pub record LeavesTold (old : StoreParts D N S d n) (event : Event) (reply : Reply) (new : StoreParts D N S d n) : Type 0 where
     pub still : WritesNoFile event → told new.journal ≡ told old.journal
-    pub undone : (event ≡ E.Reopen → ⊥) → (IsUndamaged reply → ⊥) → told new.journal ≡ told old.journal
+    pub undone : (event ≡ E.Reopen → ⊥) → CopiesNone event → (IsUndamaged reply → ⊥) → told new.journal ≡ told old.journal

@@ -18,7 +18,7 @@ use Rattle.office_model.specs.declared.event.PutItem.TheVariants.{Whole, Staged}
 use Rattle.office_model.specs.declared.refusal.Refusal.TheVariants as R
 use Rattle.store_parts.specs.declared.parts.StoreParts.{StoreParts}
 use Rattle.store_parts.specs.Parked.{IsNoPartial}
-use Rattle.store_commits.specs.Tables.{IsTableOf, IsLost}
+use Rattle.store_commits.specs.Tables.{IsTableOf}
 use Rattle.store_reads.specs.Told.{HasDamagedTable}
 use Rattle.office_store.specs.declared.store.Store.{Store}
 use Rattle.office_store.specs.Damage.{TellsDamage}
@@ -151,7 +151,9 @@ module _ {D N S : Type 0} {d : DiskGhosts D} {n : NamerGhosts N S} where
   -- the disk tells behind it what it told before
   pub damaged_file : (old new : Store D N S d n) (event : Event) (file : FileId) (found : Option (List ℕ)) → NamesTables event
       → Serves old event (Err (R.Damaged file found)) new → IsDamagedBy event (told new.parts.journal) file
+  damaged_file old new (E.Put session path (Staged put) token) file found names serves =
+      by_event old.parts new.parts (E.Put session path (Staged put) token) file found names serves.damaged
   damaged_file old new event file found names serves =
       subst (λ (seen : Option Files). IsDamagedBy event seen file)
-      (sym (serves.untouched.undone (no_reopening event names) (λ undamaged. undamaged)))
+      (sym (serves.untouched.undone (no_reopening event names) tt (λ undamaged. undamaged)))
       (by_event old.parts new.parts event file found names serves.damaged)

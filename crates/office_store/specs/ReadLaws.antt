@@ -2,8 +2,8 @@
 --     IsReadAt parts name      an open restore gives what the files tell, and took in what it gave
 --     read_opened, read_on      so it does when it was opened, and behind each frame
 --     read_damaged      a file that it names is a content that isn't what its name and its row say
-use Rattle.std.specs.Prelude.{⊤, ◌⊎◌, ◌+◌, ◌-◌, ◌<◌, ◌≤◌, ◌==◌, ◌≢◌, min, nat_lt, if◌then◌else◌, length, take, drop, slice_get, slice_set}
-use Rattle.std.proofs.Common.{◌≡◌, ℕ, zero, suc, Bool, true, false, List, [], ◌∷◌, ◌++◌, Option, None, Some, Ok, Err, refl, sym, ap, ◌∙◌, subst, inl, inr, arith}
+use Rattle.std.specs.Prelude.{⊤, ◌+◌, ◌-◌, ◌<◌, ◌≤◌, ◌==◌, nat_lt, if◌then◌else◌, length, take, drop, slice_get}
+use Rattle.std.proofs.Common.{◌≡◌, ℕ, Bool, true, false, List, [], ◌∷◌, ◌++◌, Option, None, Some, Ok, Err, refl, sym, ap, ◌∙◌, subst, inl, inr, arith}
 use Rattle.std.proofs.lemmas.Bool.Decides.{nat_tests}
 use Rattle.std.proofs.lemmas.List.{length-drop, length-take}
 use Rattle.std.proofs.lemmas.Option.{slice_get_within}
@@ -38,10 +38,10 @@ use Rattle.open_sessions.specs.declared.sessions.Place.{Place}
 use Rattle.open_sessions.specs.declared.sessions.Place.TheVariants.{Removal, Entry, Content, Piece, Wrong}
 use Rattle.open_sessions.specs.Places.{piece_of as next_piece, piece_node, piece_found, removal_found, next_in, at_removal, behind_node, behind_entry}
 use Rattle.store_parts.specs.declared.parts.StoreParts.{StoreParts}
-use Rattle.store_reads.specs.Pieces.{IsOther, IsPieceFault}
+use Rattle.store_reads.specs.Pieces.{IsOther}
 use Rattle.store_restores.specs.Finding.{IsRestoreHere}
-use Rattle.store_restores.specs.Giving.{room_of, is_last, HasTaken, IsBehind, wrong_in, PassesPiece, FindsWrong, MovesTo, GivesNext}
-use Rattle.store_restores.specs.Opening.{IsOpened, OpensRestore}
+use Rattle.store_restores.specs.Giving.{room_of, is_last, HasTaken, IsBehind, wrong_in, PassesPiece, MovesTo, GivesNext}
+use Rattle.store_restores.specs.Opening.{IsOpened}
 use Rattle.store_restores.specs.Since.{removed_since, rows_since, TellsBase}
 use Rattle.office_store.specs.declared.store.Store.{Store}
 use Rattle.office_store.specs.DamagedFiles.{IsDamagedContent}
@@ -107,13 +107,13 @@ module _ {S : Type 0} (holds : S → List ℕ → Type 0) (seen : Option Files) 
   removal_asks asked row (Some found) e = cc
 
   -- the first piece
-  first_asked : (asked : Asked) (row : ℕ) (path : List ℕ) (file : StoredFile) (content : Option PoolId)
-      → slice_get rows row ≡ Some (path, T.File file) → file.content ≡ content → X.Piece asked ≡ next_piece row 0 file.size content
-      → IsAsked (Content row) asked
-  first_asked asked row path file None is_row content_is e = absurd cc
-  first_asked asked row path file (Some id) is_row content_is e =
-      let same : record { row = row; content = id; size = file.size; from = 0 } ≡ asked = cc in
-      subst (IsAsked (Content row)) same (record {
+  first_asked : (asked : Asked) (at : ℕ) (path : List ℕ) (file : StoredFile) (content : Option PoolId)
+      → slice_get rows at ≡ Some (path, T.File file) → file.content ≡ content → X.Piece asked ≡ next_piece at 0 file.size content
+      → IsAsked (Content at) asked
+  first_asked asked at path file None is_row content_is e = absurd cc
+  first_asked asked at path file (Some id) is_row content_is e =
+      let same : record { row = at; content = id; size = file.size; from = 0 } ≡ asked = cc in
+      subst (IsAsked (Content at)) same (record {
         path = path;
         file = file;
         is_row = is_row;
@@ -125,17 +125,17 @@ module _ {S : Type 0} (holds : S → List ℕ → Type 0) (seen : Option Files) 
         front = λ all bytes told there. refl;
       })
 
-  first_node : (asked : Asked) (row : ℕ) (path : List ℕ) (node : Record) → slice_get rows row ≡ Some (path, node)
-      → X.Piece asked ≡ piece_node row 0 node → IsAsked (Content row) asked
-  first_node asked row path (T.File file) is_row e = first_asked asked row path file file.content is_row refl e
-  first_node asked row path (T.Dir dir) is_row e = absurd cc
-  first_node asked row path (T.Link link) is_row e = absurd cc
-  first_node asked row path T.Deleted is_row e = absurd cc
+  first_node : (asked : Asked) (at : ℕ) (path : List ℕ) (node : Record) → slice_get rows at ≡ Some (path, node)
+      → X.Piece asked ≡ piece_node at 0 node → IsAsked (Content at) asked
+  first_node asked at path (T.File file) is_row e = first_asked asked at path file file.content is_row refl e
+  first_node asked at path (T.Dir dir) is_row e = absurd cc
+  first_node asked at path (T.Link link) is_row e = absurd cc
+  first_node asked at path T.Deleted is_row e = absurd cc
 
-  first_found : (asked : Asked) (row : ℕ) (found : Option (List ℕ × Record)) → slice_get rows row ≡ found
-      → X.Piece asked ≡ piece_found row 0 found → IsAsked (Content row) asked
-  first_found asked row None is_row e = absurd cc
-  first_found asked row (Some found) is_row e = first_node asked row found.0 found.1 is_row e
+  first_found : (asked : Asked) (at : ℕ) (found : Option (List ℕ × Record)) → slice_get rows at ≡ found
+      → X.Piece asked ≡ piece_found at 0 found → IsAsked (Content at) asked
+  first_found asked at None is_row e = absurd cc
+  first_found asked at (Some found) is_row e = first_node asked at found.0 found.1 is_row e
 
   -- a further one
   more_asked : (asked : Asked) (row given : ℕ) (digest : S) → IsGiven row given digest
@@ -190,7 +190,7 @@ module _ {S : Type 0} (holds : S → List ℕ → Type 0) (seen : Option Files) 
       → X.Wrong content digest ≡ next_in removed rows place → ⊥
   none_wrong removed (Removal row) content digest right e = removal_wrong content digest row (slice_get removed row) e
   none_wrong removed (Entry row) content digest right e = cc
-  none_wrong removed (Content row) content digest right e = found_wrong content digest row 0 (slice_get rows row) e
+  none_wrong removed (Content at) content digest right e = found_wrong content digest at 0 (slice_get rows at) e
   none_wrong removed (Piece row given digest') content digest right e = found_wrong content digest row given (slice_get rows row) e
   none_wrong removed (Wrong content' digest') content digest right e = right
 

@@ -51,7 +51,7 @@ module _ {D N S : Type 0} {d : DiskGhosts D} {n : NamerGhosts N S} where
 
   -- The store answered an event: from each state that it was in by a step to a state that it is in; and a crash meanwhile leaves
   -- what an opening finds to be an office of that step. Over any disk an answer is of the event's kind, and says of the files that were
-  -- called for whether they are damaged; if one was, the files are as they were, but for a reopening. A store that is halted after the event was so before, or the disk failed in it, or a reopening
+  -- called for whether they are damaged; if one was, the files are as they were, but for a reopening and the put of a stage. A store that is halted after the event was so before, or the disk failed in it, or a reopening
   -- found a file that isn't the store's; one that was halted answers so to all but a reopening, and no other does; and then nothing
   -- is done. Of a reopening its own promise holds, too: from the first sync that succeeded on a crash leaves one of the two offices
   -- alone, and after Ok the used names are those of the disk's Pool files.

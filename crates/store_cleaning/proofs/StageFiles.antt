@@ -332,7 +332,7 @@ module _ {D N S : Type 0} {d : DiskGhosts D} {n : NamerGhosts N S} where
       awake = runs.awake;
       halts = λ not. works_then old mid new works_left (runs.halts not);
       counted = subst (λ (k : ℕ). Counted k (d.fault_count new.journal.disk) (reply ≡ Err DiskFault)) same runs.counted;
-      untouched = λ damage. absurd (damage undamaged);
+      untouched = λ none damage. absurd (damage undamaged);
     }
 
     some_same : (office : Office) (names : Names) → IsRunning old office names → AreSome names.used names.used
@@ -357,7 +357,7 @@ module _ {D N S : Type 0} {d : DiskGhosts D} {n : NamerGhosts N S} where
         rose = λ e. counted.rose (let same : refusal ≡ DiskFault = cc in ap (λ (r : Refusal). Err r) same);
         stays = λ not. counted.stays (λ e. not (let same : refusal ≡ DiskFault = cc in ap (λ (r : Refusal). Err r) same));
       };
-      untouched = λ damage. absurd (damage (undamaged_left refusal kind));
+      untouched = λ none damage. absurd (damage (undamaged_left refusal kind));
     }
       where
         step : (office : Office) (names : Names) → IsRunning old office names → (refusal : Refusal)

@@ -277,7 +277,7 @@ module _ {D N S : Type 0} {d : DiskGhosts D} {n : NamerGhosts N S} where
       awake = λ e. absurd cc;
       halts = λ not. works_same old new halted stays;
       counted = counted_fine counted fine (λ e. absurd cc);
-      untouched = λ damage. absurd (damage tt);
+      untouched = λ none damage. absurd (damage tt);
     }
 
     pub runs_unswept : {failed : Type 0} → Counted (d.fault_count old.journal.disk) (d.fault_count new.journal.disk) failed → failed
@@ -294,5 +294,5 @@ module _ {D N S : Type 0} {d : DiskGhosts D} {n : NamerGhosts N S} where
       awake = λ e. absurd cc;
       halts = λ not. absurd (not refl);
       counted = counted_failed counted is refl;
-      untouched = λ damage. absurd (damage tt);
+      untouched = λ none damage. absurd (damage tt);
     }

@@ -254,7 +254,7 @@ module _ {D N S : Type 0} {d : DiskGhosts D} {n : NamerGhosts N S} where
             → Counted (d.fault_count old.journal.disk) (d.fault_count journal.disk) (IsErrOf {T = Option PoolId} (Err fault) P.Disk)
             → Runs old event (Err (refusal_of_pool fault)) mid
         runs_missed fault some misses undamaged known counted =
-            PutLaws.runs_missed old session path (Whole item) token journal pool form stays certain crash fault undamaged
+            PutLaws.runs_missed old session path (Whole item) token journal pool form stays certain crash fault undamaged (λ none. known)
             (λ office names at. record {
               bytes = item_bytes item;
               put = put_is office names at rule;

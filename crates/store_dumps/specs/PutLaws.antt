@@ -56,7 +56,7 @@ use Rattle.store_parts.specs.declared.parts.StoreParts.{StoreParts}
 use Rattle.store_parts.specs.Held.{given}
 use Rattle.store_parts.specs.States.{slots, IsWorking, IsRunning, staging_of}
 use Rattle.store_parts.specs.Refusals.{refusal_of_pool}
-use Rattle.store_parts.specs.Runs.{MayRecover, Steps, StaysAtWork, Runs}
+use Rattle.store_parts.specs.Runs.{CopiesNone, MayRecover, Steps, StaysAtWork, Runs}
 use Rattle.store_parts.specs.StepLaws.{names_refused, recover_before}
 use Rattle.store_parts.specs.RunLaws.{counted_fine, counted_failed, works_same}
 use Rattle.store_parts.specs.StagingLaws.{with_used, working_staged, crash_staged}
@@ -239,7 +239,7 @@ module _ {D N S : Type 0} {d : DiskGhosts D} {n : NamerGhosts N S} where
           awake = λ e. absurd cc;
           halts = λ not. works_at new same halted;
           counted = counted_at new same (counted_fine counted fine (λ x. absurd cc));
-          untouched = λ damage. absurd (damage tt);
+          untouched = λ none damage. absurd (damage tt);
         }
 
         -- it was not, and the claim is let go
@@ -274,7 +274,7 @@ module _ {D N S : Type 0} {d : DiskGhosts D} {n : NamerGhosts N S} where
           awake = λ e. absurd cc;
           halts = λ not. works_at new same halted;
           counted = counted_at new same (counted_fine counted fine (λ x. absurd cc));
-          untouched = λ damage. absurd (damage tt);
+          untouched = λ none damage. absurd (damage tt);
         }
         runs_put_back (PF.Broken broken) never go alike takes = record {
           steps = λ office names at. absurd (never office names at broken refl);
@@ -283,7 +283,7 @@ module _ {D N S : Type 0} {d : DiskGhosts D} {n : NamerGhosts N S} where
           awake = λ e. absurd cc;
           halts = λ not. works_at new same halted;
           counted = counted_at new same (counted_fine counted fine (λ x. absurd cc));
-          untouched = λ damage. absurd (damage tt);
+          untouched = λ none damage. absurd (damage tt);
         }
 
     -- ---- they got none
@@ -325,19 +325,20 @@ module _ {D N S : Type 0} {d : DiskGhosts D} {n : NamerGhosts N S} where
       }
 
     pub runs_missed : (fault : PoolFault) → ((id : PoolId) (found : Option (List ℕ)) → fault ≡ P.Damaged id found → ⊥)
+        → (CopiesNone event → IsNotForeign fault)
         → ((office : Office) (names : Names) → IsRunning old office names → IsMissed fault office names)
         → Counted (d.fault_count old.journal.disk) (d.fault_count journal.disk) (IsErrOf {T = Option PoolId} (Err fault) P.Disk)
         → Runs old event (Err (refusal_of_pool fault)) mid
-    runs_missed (P.Foreign file found) undamaged missed counted = record {
+    runs_missed (P.Foreign file found) undamaged known missed counted = record {
       steps = λ office names at. absurd (missed office names at).known;
       crash = λ office names at. crash_may mid refl office names at;
       in_kind = tt;
       awake = λ e. absurd cc;
       halts = λ not. works_at mid refl refl;
       counted = counted_fine counted (λ x. absurd cc) (λ x. absurd cc);
-      untouched = λ damage. absurd (damage tt);
+      untouched = λ none damage. absurd (known none);
     }
-    runs_missed P.Disk undamaged missed counted = record {
+    runs_missed P.Disk undamaged known missed counted = record {
       steps = λ office names at. let m = missed office names at in steps_missed P.Disk office names at m R.DiskFault
           ((early ((meaning_of event).carried office names), tt, refl), names_missed P.Disk office names at m R.DiskFault) tt;
       crash = λ office names at. crash_may mid refl office names at;
@@ -345,9 +346,9 @@ module _ {D N S : Type 0} {d : DiskGhosts D} {n : NamerGhosts N S} where
       awake = λ e. absurd cc;
       halts = λ not. absurd (not refl);
       counted = counted_failed counted refl refl;
-      untouched = λ damage. absurd (damage tt);
+      untouched = λ none damage. absurd (damage tt);
     }
-    runs_missed P.Memory undamaged missed counted = record {
+    runs_missed P.Memory undamaged known missed counted = record {
       steps = λ office names at. let m = missed office names at in
           steps_missed P.Memory office names at m R.Memory (refl, names_missed P.Memory office names at m R.Memory) tt;
       crash = λ office names at. crash_may mid refl office names at;
@@ -355,10 +356,10 @@ module _ {D N S : Type 0} {d : DiskGhosts D} {n : NamerGhosts N S} where
       awake = λ e. absurd cc;
       halts = λ not. works_at mid refl refl;
       counted = counted_fine counted (λ x. absurd cc) (λ x. absurd cc);
-      untouched = λ damage. absurd (damage tt);
+      untouched = λ none damage. absurd (damage tt);
     }
-    runs_missed (P.Damaged id found) undamaged missed counted = absurd (undamaged id found refl)
-    runs_missed P.ChainFull undamaged missed counted = record {
+    runs_missed (P.Damaged id found) undamaged known missed counted = absurd (undamaged id found refl)
+    runs_missed P.ChainFull undamaged known missed counted = record {
       steps = λ office names at. let m = missed office names at in steps_missed P.ChainFull office names at m (R.Broken ChainFull) (
         (m.put.full (full_as old mid office names at (certain at.fits.certain) m.bytes m.some (m.misses.full refl)), refl),
         names_missed P.ChainFull office names at m (R.Broken ChainFull),
@@ -368,5 +369,5 @@ module _ {D N S : Type 0} {d : DiskGhosts D} {n : NamerGhosts N S} where
       awake = λ e. absurd cc;
       halts = λ not. works_at mid refl refl;
       counted = counted_fine counted (λ x. absurd cc) (λ x. absurd cc);
-      untouched = λ damage. absurd (damage tt);
+      untouched = λ none damage. absurd (damage tt);
     }

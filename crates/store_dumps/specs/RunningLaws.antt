@@ -190,7 +190,7 @@ module _ {D N S : Type 0} {d : DiskGhosts D} {n : NamerGhosts N S} where
     counted = subst (λ (j : Journal D d). Counted (d.fault_count old.journal.disk) (d.fault_count j.disk) (Ok answer ≡ Err DiskFault))
         (sym journal)
         (counted_still (d.fault_count old.journal.disk) (Ok answer ≡ Err DiskFault) (λ e. absurd cc));
-    untouched = λ damage. absurd (damage tt);
+    untouched = λ none damage. absurd (damage tt);
   }
 
   -- nothing was done to what is open: the event was refused
@@ -222,7 +222,7 @@ module _ {D N S : Type 0} {d : DiskGhosts D} {n : NamerGhosts N S} where
     counted = subst (λ (j : Journal D d). Counted (d.fault_count old.journal.disk) (d.fault_count j.disk) (IsFault (Err refusal)))
         (sym kept.journal)
         (counted_still (d.fault_count old.journal.disk) (IsFault (Err refusal)) fine);
-    untouched = λ damage. ap (λ (j : Journal D d). told j) kept.journal;
+    untouched = λ none damage. ap (λ (j : Journal D d). told j) kept.journal;
   }
 
   pub runs_kept_memory : (old new : StoreParts D N S d n) (event : Event) → HasKept old new → Runs old event (Err Memory) new
@@ -275,5 +275,5 @@ module _ {D N S : Type 0} {d : DiskGhosts D} {n : NamerGhosts N S} where
     awake = runs.awake;
     halts = λ not. works_then old mid new (works_reads old mid reads) (runs.halts not);
     counted = counted_then counted fine runs.counted;
-    untouched = λ damage. runs.untouched damage ∙ reads.quiet.told_same;
+    untouched = λ none damage. runs.untouched none damage ∙ reads.quiet.told_same;
   }

@@ -292,7 +292,7 @@ module _ {D N S : Type 0} {d : DiskGhosts D} {n : NamerGhosts N S} where
         halts = λ not. works_reads old mid (reads_of old mid is_read);
         counted = subst (λ (k : ℕ). Counted (d.fault_count old.journal.disk) k (Ok Done ≡ Err R.DiskFault)) (sym still)
             (counted_still (d.fault_count old.journal.disk) (Ok Done ≡ Err R.DiskFault) (λ e. absurd cc));
-        untouched = λ damage. absurd (damage tt);
+        untouched = λ none damage. absurd (damage tt);
       }
 
   -- ---- the parts behind what was read

@@ -208,7 +208,7 @@ module _ {D N S : Type 0} {d : DiskGhosts D} {n : NamerGhosts N S} where
       awake = λ e. absurd cc;
       halts = λ not. works_stays old new stays;
       counted = counted_fine counted fine (λ e. absurd cc);
-      untouched = λ damage. absurd (damage tt);
+      untouched = λ none damage. absurd (damage tt);
     }
 
     -- refused, and at work with the same office
@@ -229,7 +229,7 @@ module _ {D N S : Type 0} {d : DiskGhosts D} {n : NamerGhosts N S} where
         awake = λ e. at_work (let f : refusal ≡ Halted = cc in f);
         halts = λ not. works_stays old new stays;
         counted = counted_fine counted fine (λ e. other (let f : refusal ≡ DiskFault = cc in f));
-        untouched = λ damage. stays.quiet.told_same;
+        untouched = λ none damage. stays.quiet.told_same;
       }
 
       pub runs_same_memory : Runs old event (Err Memory) new
@@ -255,5 +255,5 @@ module _ {D N S : Type 0} {d : DiskGhosts D} {n : NamerGhosts N S} where
     awake = awake;
     halts = λ not. works;
     counted = counted;
-    untouched = λ damage. same;
+    untouched = λ none damage. same;
   }

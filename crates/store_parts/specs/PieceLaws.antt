@@ -196,7 +196,7 @@ module _ {D N S : Type 0} {d : DiskGhosts D} {n : NamerGhosts N S} where
       awake = λ e. absurd cc;
       halts = λ not. works_same old new (ap (λ (p : StoreParts D N S d n). p.halted) only) stays;
       counted = counted_fine counted fine (λ e. absurd cc);
-      untouched = λ damage. absurd (damage tt);
+      untouched = λ none damage. absurd (damage tt);
     }
       where
         done : (office : Office) (stages : List Stage) → StagePieceEvent.with_piece number bytes office.stages ≡ Ok stages
@@ -224,5 +224,5 @@ module _ {D N S : Type 0} {d : DiskGhosts D} {n : NamerGhosts N S} where
       awake = λ e. absurd cc;
       halts = λ not. absurd (not refl);
       counted = counted_failed counted is refl;
-      untouched = λ damage. absurd (damage tt);
+      untouched = λ none damage. absurd (damage tt);
     }

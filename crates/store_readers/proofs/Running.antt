@@ -103,7 +103,7 @@ module _ {D N S : Type 0} {d : DiskGhosts D} {n : NamerGhosts N S} where
       awake = λ e. absurd cc;
       halts = λ not. works_same old new halted quiet.halted_same;
       counted = counted_fine counted fine (λ e. absurd cc);
-      untouched = λ damage. absurd (damage tt);
+      untouched = λ none damage. absurd (damage tt);
     }
 
     pub runs_kept : HasKept mid new → ((office : Office) (names : Names) → IsRunning old office names → IsRunning mid office names)
@@ -120,7 +120,7 @@ module _ {D N S : Type 0} {d : DiskGhosts D} {n : NamerGhosts N S} where
       awake = λ e. absurd cc;
       halts = λ not. works_same old new halted quiet.halted_same;
       counted = counted_fine counted fine (λ e. absurd cc);
-      untouched = λ damage. absurd (damage tt);
+      untouched = λ none damage. absurd (damage tt);
     }
       where
         running_kept : (office : Office) (names : Names) → IsRunning mid office names → IsRunning new office names

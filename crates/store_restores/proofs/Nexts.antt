@@ -315,7 +315,7 @@ module _ {D N S : Type 0} {d : DiskGhosts D} {n : NamerGhosts N S} where
           awake = λ e. absurd cc;
           halts = λ not. works_same old new stays.halted stays.quiet.halted_same;
           counted = counted_fine counted_new fine (λ e. cc);
-          untouched = λ damage. stays.quiet.told_same;
+          untouched = λ none damage. stays.quiet.told_same;
         }
         never_refused content digest (Damaged file found) kind never = record {
           steps = λ office names at. absurd (never office names at);
@@ -324,7 +324,7 @@ module _ {D N S : Type 0} {d : DiskGhosts D} {n : NamerGhosts N S} where
           awake = λ e. absurd cc;
           halts = λ not. works_same old new stays.halted stays.quiet.halted_same;
           counted = counted_fine counted_new fine (λ e. cc);
-          untouched = λ damage. stays.quiet.told_same;
+          untouched = λ none damage. stays.quiet.told_same;
         }
 
         -- ---- a piece that was read

@@ -224,7 +224,7 @@ module _ {D N S : Type 0} {d : DiskGhosts D} {n : NamerGhosts N S} where
       awake = λ e. absurd cc;
       halts = λ not. works_same old new halted quiet.halted_same;
       counted = counted_fine counted fine (λ e. absurd cc);
-      untouched = λ damage. absurd (damage tt);
+      untouched = λ none damage. absurd (damage tt);
     }
 
     -- memory is wanting, and the office is the same
@@ -242,5 +242,5 @@ module _ {D N S : Type 0} {d : DiskGhosts D} {n : NamerGhosts N S} where
       awake = λ e. absurd cc;
       halts = λ not. works_same old new halted quiet.halted_same;
       counted = counted_fine counted fine (λ e. absurd cc);
-      untouched = λ damage. absurd (damage tt);
+      untouched = λ none damage. absurd (damage tt);
     }

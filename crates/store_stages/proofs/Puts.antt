@@ -386,6 +386,7 @@ module _ {D N S : Type 0} {d : DiskGhosts D} {n : NamerGhosts N S} where
               → Runs old event (Err (refusal_of_pool fault)) mid
           runs_staged_missed fault some misses lost undamaged counted =
               PutLaws.runs_missed old session path (Staged file) token journal pool form stays certain crash fault undamaged
+              (λ none. absurd none)
               (λ office names at.
               let f = stage office names at in
               record {
