@@ -29,6 +29,7 @@ use Rattle.admin_cli.specs.Demos.{note_of_demo, HasDemoCause, DoesDemo}
 use Rattle.admin_cli.specs.Folders.{IsCauseAtWork}
 use Rattle.admin_cli.specs.Nights.{Says}
 use Rattle.admin_cli.specs.Run.{IsServed, IsComplete}
+use Rattle.admin_cli.proofs.DemoForeign.{demo_names}
 use Rattle.admin_cli.proofs.DemoStops.{demo_stops}
 use Rattle.admin_cli.proofs.EndLaws.{rule_ends, call_ends, all_ends, said_rose}
 use Rattle.admin_cli.proofs.FolderStops.{wider}
@@ -89,6 +90,9 @@ module _ {D N S : Type 0} {d : DiskGhosts D} {n : NamerGhosts N S} (disk : D) (s
             );
         later = omega (arith, calm, moved.later);
         unasked = refl;
+        foreign = λ file named.
+            demo_names store store' shows.calls number end failed (store'.parts.halted || store'.parts.journal.halted) file moved shows.ends
+            named;
         stops = λ is.
             demo_fails d n.digest_of disk store'.parts.journal.disk (store'.parts.halted || store'.parts.journal.halted) shows.calls
             (leads disk store store' settles calm listed ready shows.calls moved) number end failed shows.ends is;

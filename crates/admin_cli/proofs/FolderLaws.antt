@@ -21,8 +21,8 @@ use Rattle.store_opening.specs.Opens.{IsOf, Opened}
 use Rattle.store_opening.specs.Reopens.{first_of, second_of}
 use Rattle.store_opening.specs.Settles.{ComesToOne}
 use Rattle.store_opening.specs.KeptTables.{HasTablesFound}
-use Rattle.journal_view.specs.View.{FindsNow}
-use Rattle.serve_workers.specs.Stores.{Store, DirectPort, Moves, is_stopped}
+use Rattle.journal_view.specs.View.{told, FindsNow}
+use Rattle.serve_workers.specs.Stores.{Store, DirectPort, Moves, IsDamagedFile, IsDamagedRead, is_stopped}
 use Rattle.stream_traits.specs.Seen.{LinkSeen}
 use Rattle.call_scripts.specs.Scripts.{EndRefused}
 use Rattle.folder_trait.specs.declared.folder.Folder.{Ghosts as FolderGhosts}
@@ -48,6 +48,8 @@ use Rattle.admin_cli.specs.FolderTexts.{text_of_dump, text_of_restore}
 use Rattle.admin_cli.specs.Nights.{Says}
 use Rattle.admin_cli.specs.Run.{StandsForEither, IsServed, LeadsOnDisk, IsComplete}
 use Rattle.admin_cli.specs.Folders.{note_of_dump, note_of_restore, IsCauseAtWork, HasDumpCause, HasRestoreCause, Dumps, Restores, HoldsBackup, GivesBackup, DumpsFolder, RestoresFolder}
+use Rattle.admin_cli.proofs.DumpForeign.{dump_names}
+use Rattle.admin_cli.proofs.ReadForeign.{restore_names}
 use Rattle.admin_cli.proofs.EndLaws.{rule_ends, call_ends, all_ends, said_rose}
 use Rattle.admin_cli.proofs.FolderStops.{refused_at_work, wider}
 use Rattle.admin_cli.proofs.RefusalLaws.{file_of}
@@ -295,6 +297,10 @@ module _ {D N S : Type 0} {d : DiskGhosts D} {n : NamerGhosts N S} (disk : D) (s
           cause = λ a b stands.
               dump_cause d n.digest_of disk store'.parts.journal.disk halted' (f.tree folder) moments moments' kind host result a b stands dumps;
           later = dump_later port port' (f.tree folder) moments moments' kind host result port_is store_is made;
+          foreign = λ file tree is named.
+              subst (λ (s : Store D N S d n). IsDamagedFile (told s.parts.journal) file) (sym store_is)
+              (dump_names port port' (f.tree folder) moments moments' kind host result failed halted' file tree is (is_tree folder tree is)
+              made named);
           note_is = refl;
         })
 
@@ -331,6 +337,9 @@ module _ {D N S : Type 0} {d : DiskGhosts D} {n : NamerGhosts N S} (disk : D) (s
               restore_cause d n.digest_of disk store'.parts.journal.disk halted' (f.tree folder) (f.tree folder') host number result a b stands
               restores;
           later = restore_later port port' (f.tree folder) (f.tree folder') host number result port_is store_is made;
+          foreign = λ file named.
+              subst (λ (s : Store D N S d n). IsDamagedRead n.digest_of (told s.parts.journal) file) (sym store_is)
+              (restore_names port port' (f.tree folder) (f.tree folder') host number result failed halted' file made named);
           stops = λ is.
               restore_fails d n.digest_of disk store'.parts.journal.disk halted' (f.tree folder) (f.tree folder') host number result failed
               restores is;

@@ -15,7 +15,7 @@ use Rattle.office_model.specs.declared.answer.Answer.TheVariants as A
 use Rattle.office_model.specs.declared.refusal.Refusal.{Refusal}
 use Rattle.office_model.specs.declared.refusal.Refusal.TheVariants as R
 use Rattle.office_model.specs.Step.{Call}
-use Rattle.serve_workers.specs.Stores.{Store, TellsDamage, Serves, AreServed, Moves}
+use Rattle.serve_workers.specs.Stores.{Store, TellsDamage, IsDamagedTable, Serves, AreServed, Moves}
 use Rattle.call_scripts.specs.Scripts.{EndRefused, FollowsAfter, each_of}
 use Rattle.night_work.specs.declared.ends.NightEnd.{NightEnd}
 use Rattle.night_work.specs.declared.ends.NightEnd.TheVariants as F
@@ -30,10 +30,10 @@ use Rattle.admin_cli.specs.declared.note.Note.{Note}
 use Rattle.admin_cli.specs.declared.note.Note.TheVariants.{Foreign, Refused}
 use Rattle.admin_cli.specs.Folders.{note_of_rule, note_of_call}
 use Rattle.admin_cli.specs.Migrations.{note_of_migration}
-use Rattle.admin_cli.specs.Nights.{note_of_all, note_of_night, IsDamagedTable}
+use Rattle.admin_cli.specs.Nights.{note_of_all, note_of_night}
 
 -- each call is of such an event
-abbrev AreOf : (Event → Type 0) → List Call → Type 0
+abbrev pub AreOf : (Event → Type 0) → List Call → Type 0
 AreOf of [] = Unit {0}
 AreOf of (call ∷ calls) = of call.0 × AreOf of calls
 
@@ -85,7 +85,7 @@ all_called moment buckets made (call ∷ calls) follows =
 
 -- ---- what the note names
 
-not_of_all : (failed halted : Bool) (file : FileId) → note_of_all failed halted ≡ Foreign file → ⊥
+pub not_of_all : (failed halted : Bool) (file : FileId) → note_of_all failed halted ≡ Foreign file → ⊥
 not_of_all true halted file e = cc (e)
 not_of_all false true file e = cc (e)
 not_of_all false false file e = cc (e)
@@ -104,11 +104,11 @@ named_by (F.Refused R.Memory) failed halted file e = let no : ⊥ = cc (e) in ab
 named_by F.Memory failed halted file e = let no : ⊥ = cc (e) in absurd no
 
 -- a migration's note names what its last refusal named
-not_of_rule : (note : Note) (halted : Bool) (file : FileId) → (note ≡ Foreign file → ⊥) → note_of_rule note halted ≡ Foreign file → ⊥
+pub not_of_rule : (note : Note) (halted : Bool) (file : FileId) → (note ≡ Foreign file → ⊥) → note_of_rule note halted ≡ Foreign file → ⊥
 not_of_rule note true file other e = let no : ⊥ = cc (e) in absurd no
 not_of_rule note false file other e = other e
 
-by_call : (refusal : Refusal) (halted : Bool) (file : FileId) → note_of_call refusal halted ≡ Foreign file
+pub by_call : (refusal : Refusal) (halted : Bool) (file : FileId) → note_of_call refusal halted ≡ Foreign file
     → (found : Option (List ℕ)) × (refusal ≡ R.Damaged file found)
 by_call (R.Broken rule) halted file e =
     absurd (not_of_rule (Refused rule) halted file (λ same. let no : ⊥ = cc (same) in no) e)
@@ -130,13 +130,13 @@ each_of_migration (call ∷ calls) each = (each.0, each_of_migration calls each.
 
 module _ {D N S : Type 0} {d : DiskGhosts D} {n : NamerGhosts N S} where
   -- the call that was refused
-  record IsRefusedLast (of : Event → Type 0) (refusal : Refusal) (new : Store D N S d n) : Type 0 where
-    mid : Store D N S d n
-    event : Event
-    is_of : of event
-    serves : Serves mid event (Err refusal) new
+  pub record IsRefusedLast (of : Event → Type 0) (refusal : Refusal) (new : Store D N S d n) : Type 0 where
+    pub mid : Store D N S d n
+    pub event : Event
+    pub is_of : of event
+    pub serves : Serves mid event (Err refusal) new
 
-  refused_last : (of : Event → Type 0) (refusal : Refusal) (old new : Store D N S d n) (calls : List Call) → AreServed old calls new
+  pub refused_last : (of : Event → Type 0) (refusal : Refusal) (old new : Store D N S d n) (calls : List Call) → AreServed old calls new
       → AreOf of calls → EndRefused refusal calls → IsRefusedLast of refusal new
   refused_last of refusal old new [] served each ended = absurd ended
   refused_last of refusal old new ((event, Ok answer) ∷ calls) served each ended =

@@ -1,7 +1,10 @@
 pub mod CauseLaws
+pub mod DemoForeign
 pub mod DemoLaws
 pub mod DemoStops
+pub mod DumpForeign
 pub mod EndLaws
+pub mod FileLaws
 pub mod FolderLaws
 pub mod FolderStops
 pub mod ForeignLaws
@@ -11,8 +14,10 @@ pub mod MigrationLaws
 pub mod NightLaws
 pub mod OtherLaws
 pub mod PullCalls
+pub mod PullForeign
 pub mod PullLaws
 pub mod PullStops
+pub mod ReadForeign
 pub mod RefusalLaws
 pub mod ReplicaLaws
 pub mod RunLaws

@@ -71,11 +71,11 @@ others-append (x ∷ xs) ys first rest = (first.0, others-append xs ys first.1 r
 
 -- ---- the steps that call at home
 
-home_calls : (calls : List Call) → calls_in (map Home calls) ≡ calls
+pub home_calls : (calls : List Call) → calls_in (map Home calls) ≡ calls
 home_calls [] = refl
 home_calls (call ∷ calls) = ap (λ more. call ∷ more) (home_calls calls)
 
-calls_in-append : (xs ys : List Step) → calls_in (xs ++ ys) ≡ calls_in xs ++ calls_in ys
+pub calls_in-append : (xs ys : List Step) → calls_in (xs ++ ys) ≡ calls_in xs ++ calls_in ys
 calls_in-append [] ys = refl
 calls_in-append (Home call ∷ xs) ys = ap (λ calls. call ∷ calls) (calls_in-append xs ys)
 calls_in-append (Lists result ∷ xs) ys = calls_in-append xs ys
@@ -152,7 +152,7 @@ front_others (x ∷ done) call call' rest same others = (others.0, front_others 
 
 -- ---- what is due at home
 
-reads_there : (b : Bool) (restore : SessionName) (event : Event)
+pub reads_there : (b : Bool) (restore : SessionName) (event : Event)
     → (if b then None else Some (ReadsThere restore)) ≡ Some (Calls event) → ⊥
 reads_there true restore event e = cc (e)
 reads_there false restore event e = cc (e)

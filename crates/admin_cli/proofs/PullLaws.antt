@@ -37,6 +37,7 @@ use Rattle.admin_cli.specs.Folders.{IsCauseAtWork}
 use Rattle.admin_cli.specs.Replicated.{HearsPeer}
 use Rattle.admin_cli.specs.Run.{IsServed, IsComplete}
 use Rattle.admin_cli.proofs.ReplicaLaws.{makes_replica}
+use Rattle.admin_cli.proofs.PullForeign.{pull_names}
 use Rattle.admin_cli.proofs.PullCalls.{EndedBy, pull_ended, pull_others}
 use Rattle.admin_cli.proofs.PullStops.{pull_stops}
 use Rattle.admin_cli.proofs.EndLaws.{rule_ends, call_ends}
@@ -161,6 +162,9 @@ module _ {D N S : Type 0} {d : DiskGhosts D} {n : NamerGhosts N S} (disk : D) (s
               served.rose,
             );
         later = omega (arith, calm, moved.later);
+        foreign = λ file named.
+            pull_names store store' (plan_of host read start) host end goes.turns (store'.parts.halted || store'.parts.journal.halted) file
+            goes.are moved named;
         stops = λ is.
             pull_fails d n.digest_of disk store'.parts.journal.disk (store'.parts.halted || store'.parts.journal.halted)
             (calls_in (steps_of goes.turns))

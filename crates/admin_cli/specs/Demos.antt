@@ -2,15 +2,18 @@
 --     note_of_demo      the note of a run that opened its store
 --     HasDemoCause      why a demo over a store at work is refused
 --     DoesDemo      the store was opened, and the demo's calls were made
-use Rattle.std.specs.Prelude.{◌≡◌, ⊤, ℕ, ◌≤◌, Bool, true, List, Option}
+use Rattle.std.specs.Prelude.{◌≡◌, ◌⊎◌, ⊤, ℕ, ◌≤◌, Bool, true, List, Option, option_map}
 use Rattle.fault_counts.specs.Counts.{Rose}
+use Rattle.disk_trait.specs.declared.ids.FileId.{FileId}
 use Rattle.disk_trait.specs.declared.disk.Disk.{Ghosts as DiskGhosts}
 use Rattle.stream_traits.specs.Seen.{LinkSeen}
+use Rattle.journal_view.specs.Found.{seen}
 use Rattle.office_model.specs.Office.{Durable}
 use Rattle.demo_work.specs.declared.ends.DemoEnd.{DemoEnd}
 use Rattle.demo_work.specs.declared.ends.DemoEnd.TheVariants as E
 use Rattle.demo_work.specs.Ends.{Shows}
 use Rattle.demo_work.specs.Texts.{text_of}
+use Rattle.serve_workers.specs.Stores.{IsDamagedPartial, IsDamagedRead}
 use Rattle.command_line.specs.Line.{Line, Demo}
 use Rattle.admin_cli.specs.declared.note.Note.{Note}
 use Rattle.admin_cli.specs.declared.note.Note.TheVariants as N
@@ -33,7 +36,8 @@ HasDemoCause end faults faults' = ⊤
 module _ {D : Type 0} (d : DiskGhosts D) (digest_of : List ℕ → List ℕ) where
   -- The words ask for `demo`, the store was opened, and its calls, which are the script of the number's demo or the beginning of it,
   -- lead from the disk that came in to that handed back. The summary of their replies, if it ran to its end, was said on the link; a
-  -- demo that found a host called nothing else. The clock wasn't asked.
+  -- demo that found a host called nothing else. The clock wasn't asked. Over any disk a file is named only if it is a partial, a table or
+  -- a content that the disk handed back has damaged.
   pub record DoesDemo (disk disk' : D) (line : Option Line) (settings : List ℕ) (link link' : LinkSeen)
       (moments moments' : Option (List ℕ)) (note : Note) : Type 0 where
     pub number : ℕ
@@ -49,5 +53,7 @@ module _ {D : Type 0} (d : DiskGhosts D) (digest_of : List ℕ → List ℕ) whe
         × (halted ≡ true → Rose (d.fault_count disk) (d.fault_count disk'))
     pub later : d.fault_count disk ≤ d.fault_count disk'
     pub unasked : moments' ≡ moments
+    pub foreign : (file : FileId) → note ≡ N.Foreign file
+        → IsDamagedPartial (option_map seen (d.files disk')) file ⊎ IsDamagedRead digest_of (option_map seen (d.files disk')) file
     pub stops : note ≡ N.DiskFailed → Rose (d.fault_count disk) (d.fault_count disk')
     pub note_is : note ≡ note_of_demo end failed halted

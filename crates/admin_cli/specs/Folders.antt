@@ -3,11 +3,13 @@
 --     IsCauseAtWork      why a call of a store at work is refused
 --     HoldsBackup      what a disk stands for has a backup with this tree
 --     DumpsFolder, RestoresFolder      the store was opened, and the command's calls were made
-use Rattle.std.specs.Prelude.{◌≡◌, ⊤, ℕ, ◌≤◌, Bool, true, false, if◌then◌else◌, List, length, Option, Some, None, is_some, Result, Ok, Err, IfErr, IsErrOf}
+use Rattle.std.specs.Prelude.{◌≡◌, ⊤, ℕ, ◌≤◌, Bool, true, false, if◌then◌else◌, List, length, Option, Some, None, is_some, option_map, Result, Ok, Err, IfErr, IsErrOf}
 use Rattle.std.specs.Option.{ForSome}
 use Rattle.fault_counts.specs.Counts.{Rose, Counted}
+use Rattle.disk_trait.specs.declared.ids.FileId.{FileId}
 use Rattle.disk_trait.specs.declared.disk.Disk.{Ghosts as DiskGhosts}
 use Rattle.stream_traits.specs.Seen.{LinkSeen}
+use Rattle.journal_view.specs.Found.{seen}
 use Rattle.attr_records.specs.Items.{Tree}
 use Rattle.backup_rules.specs.declared.lines.Kind.{Kind}
 use Rattle.office_model.specs.Office.{Office, Durable, Backup}
@@ -25,6 +27,7 @@ use Rattle.folder_walk.specs.Dumps.{Dumped, Stopped as DumpStopped}
 use Rattle.folder_restore.specs.declared.refusals.RestoreRefusal.{RestoreRefusal}
 use Rattle.folder_restore.specs.declared.refusals.RestoreRefusal.TheVariants as W
 use Rattle.folder_restore.specs.Restores.{Restored, Stopped as RestoreStopped, IsUncalled}
+use Rattle.serve_workers.specs.Stores.{IsDamagedFile, IsDamagedRead}
 use Rattle.command_line.specs.Line.{Line, DumpFolder, RestoreFolder}
 use Rattle.admin_cli.specs.declared.note.Note.{Note}
 use Rattle.admin_cli.specs.declared.note.Note.TheVariants as N
@@ -109,7 +112,8 @@ module _ {D : Type 0} (d : DiskGhosts D) (digest_of : List ℕ → List ℕ) whe
   module _ {F : Type 0} (f : FolderGhosts F) where
     -- The words ask for `dump-folder`, the store was opened, and the folder was dumped: its calls, which are the script of a dump of its
     -- tree, lead from the disk that came in to that handed back, and its line, if it was committed, was said on the link. Then, if the
-    -- folder tells its tree, the disk stands for an office in which that is the backup's.
+    -- folder tells its tree, the disk stands for an office in which that is the backup's; and over any disk a file is named only if it is
+    -- one that the disk handed back has damaged.
     pub record DumpsFolder (disk disk' : D) (line : Option Line) (settings : List ℕ) (link link' : LinkSeen)
         (moments moments' : Option (List ℕ)) (folder folder' : F) (note : Note) : Type 0 where
       pub host : List ℕ
@@ -131,11 +135,14 @@ module _ {D : Type 0} (d : DiskGhosts D) (digest_of : List ℕ → List ℕ) whe
           → HasDumpCause result (d.fault_count disk) (d.fault_count disk')
           × (halted ≡ true → Rose (d.fault_count disk) (d.fault_count disk'))
       pub later : d.fault_count disk ≤ d.fault_count disk'
+      pub foreign : (file : FileId) (tree : Tree) → f.tree folder ≡ Some tree → note ≡ N.Foreign file
+          → IsDamagedFile (option_map seen (d.files disk')) file
       pub note_is : note ≡ note_of_dump result failed halted
 
     -- The words ask for `restore-folder`, the store was opened, and the backup was restored: its calls, which are the script of a
     -- restore, lead from the disk that came in to that handed back, and its line, if it ran to its end, was said on the link. Then, if
-    -- the folder tells its tree, that is the backup's. Nothing is called if something lies in the folder.
+    -- the folder tells its tree, that is the backup's. Nothing is called if something lies in the folder. Over any disk a file is named
+    -- only if it is a table or a content that the disk handed back has damaged.
     pub record RestoresFolder (disk disk' : D) (line : Option Line) (settings : List ℕ) (link link' : LinkSeen)
         (moments moments' : Option (List ℕ)) (folder folder' : F) (note : Note) : Type 0 where
       pub host : List ℕ
@@ -159,5 +166,6 @@ module _ {D : Type 0} (d : DiskGhosts D) (digest_of : List ℕ → List ℕ) whe
           × (halted ≡ true → Rose (d.fault_count disk) (d.fault_count disk'))
       pub later : d.fault_count disk ≤ d.fault_count disk'
       pub unasked : moments' ≡ moments
+      pub foreign : (file : FileId) → note ≡ N.Foreign file → IsDamagedRead digest_of (option_map seen (d.files disk')) file
       pub stops : note ≡ N.DiskFailed → Rose (d.fault_count disk) (d.fault_count disk')
       pub note_is : note ≡ note_of_restore result failed halted

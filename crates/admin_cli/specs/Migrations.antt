@@ -14,6 +14,7 @@ use Rattle.journal_view.specs.Found.{FindsAll, seen}
 use Rattle.office_model.specs.Office.{Durable, raised}
 use Rattle.office_model.specs.Step.{IsPicked}
 use Rattle.office_files.specs.TableLayouts.{is_first_layout}
+use Rattle.serve_workers.specs.Stores.{IsDamagedTable}
 use Rattle.migrate_work.specs.declared.ends.MigrationEnd.{MigrationEnd}
 use Rattle.migrate_work.specs.declared.ends.MigrationEnd.TheVariants as E
 use Rattle.migrate_work.specs.Ends.{Works}
@@ -24,7 +25,7 @@ use Rattle.admin_cli.specs.declared.note.Note.TheVariants as N
 use Rattle.admin_cli.specs.Command.{AsksFor}
 use Rattle.admin_cli.specs.Asked.{IsSettingsFile}
 use Rattle.admin_cli.specs.Folders.{note_of_call, IsCauseAtWork}
-use Rattle.admin_cli.specs.Nights.{note_of_all, IsDamagedTable, Says}
+use Rattle.admin_cli.specs.Nights.{note_of_all, Says}
 use Rattle.admin_cli.specs.Run.{StandsForEither, LeadsOnDisk}
 
 abbrev pub note_of_migration : MigrationEnd → (failed halted : Bool) → Note

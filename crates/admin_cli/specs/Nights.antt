@@ -1,22 +1,19 @@
 -- What the program promises for its command `night`.
 --     note_of_night      the note of a run that did its night, or ended at a refusal
---     IsDamagedTable      a file that a night names
 --     HasCause      why a night of a store at work is refused
 --     Says      what is said on the link
 --     DoesNight      the store was opened, and the night's calls were made
 use Rattle.std.specs.Prelude.{◌≡◌, ℕ, ◌≤◌, Bool, true, false, if◌then◌else◌, List, Option, None, Some, option_map}
 use Rattle.fault_counts.specs.Counts.{Rose, Counted}
 use Rattle.disk_trait.specs.declared.ids.FileId.{FileId}
-use Rattle.disk_trait.specs.declared.ids.FileId.TheVariants.{Table}
 use Rattle.disk_trait.specs.declared.disk.Disk.{Ghosts as DiskGhosts}
-use Rattle.disk_trait.specs.Files.{Files}
 use Rattle.stream_traits.specs.Seen.{LinkSeen}
 use Rattle.stream_traits.specs.Told.{behind, WroteFront}
 use Rattle.journal_view.specs.Found.{seen}
-use Rattle.backup_views.specs.Faults.{IsNoTable}
 use Rattle.office_model.specs.Office.{Durable}
 use Rattle.office_model.specs.declared.refusal.Refusal.{Refusal}
 use Rattle.office_model.specs.declared.refusal.Refusal.TheVariants as R
+use Rattle.serve_workers.specs.Stores.{IsDamagedTable}
 use Rattle.settings_file.specs.declared.read.Settings.{Settings}
 use Rattle.settings_file.specs.Document.{IsSettings}
 use Rattle.night_work.specs.declared.ends.NightEnd.{NightEnd}
@@ -46,14 +43,6 @@ note_of_night (E.Done night) failed halted = note_of_all failed halted
 note_of_night E.NotNow failed halted = note_of_all failed halted
 note_of_night (E.Refused refusal) failed halted = note_of_refused refusal halted
 note_of_night E.Memory failed halted = NoMemory
-
--- the file is a backup's table, and what these files tell of it, that it is absent too, is no table's
-pub record IsDamagedTable (told : Option Files) (file : FileId) : Type 0 where
-  pub host : ℕ
-  pub number : ℕ
-  pub file_is : file ≡ Table host number
-  pub found : Option (List ℕ)
-  pub no_table : IsNoTable told file found
 
 -- a refusal of a store at work: for want of memory, or by a fault of the disk, which is counted. A night breaks no rule
 abbrev pub IsRefusedFor : Refusal → (faults faults' : ℕ) → Type 0

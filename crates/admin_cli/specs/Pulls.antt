@@ -3,11 +3,13 @@
 --     HasPullCause      why a call at home of a store at work is refused
 --     IsBehindWire      a link, and what was seen of a wire over it
 --     DoesPull      the store was opened, and the pull's steps were made
-use Rattle.std.specs.Prelude.{◌≡◌, ⊤, ℕ, ◌≤◌, Bool, true, List, [], ◌∷◌, length, Option}
+use Rattle.std.specs.Prelude.{◌≡◌, ⊤, ℕ, ◌≤◌, Bool, true, List, [], ◌∷◌, length, Option, option_map}
 use Rattle.fault_counts.specs.Counts.{Rose, Counted}
+use Rattle.disk_trait.specs.declared.ids.FileId.{FileId}
 use Rattle.disk_trait.specs.declared.disk.Disk.{Ghosts as DiskGhosts}
 use Rattle.stream_traits.specs.Seen.{LinkSeen}
 use Rattle.stream_traits.specs.Told.{before}
+use Rattle.journal_view.specs.Found.{seen}
 use Rattle.office_model.specs.Office.{Office, Durable, Names}
 use Rattle.call_scripts.specs.Moments.{Gave}
 use Rattle.settings_file.specs.declared.read.Settings.{Settings}
@@ -17,6 +19,7 @@ use Rattle.pull_work.specs.declared.ends.PullEnd.{PullEnd}
 use Rattle.pull_work.specs.declared.ends.PullEnd.TheVariants as E
 use Rattle.pull_work.specs.Script.{Asking, Over}
 use Rattle.pull_work.specs.Runs.{Goes}
+use Rattle.serve_workers.specs.Stores.{IsDamagedFile}
 use Rattle.command_line.specs.Line.{Line, Pull}
 use Rattle.admin_cli.specs.declared.note.Note.{Note}
 use Rattle.admin_cli.specs.declared.note.Note.TheVariants as N
@@ -54,7 +57,8 @@ module _ {D : Type 0} (d : DiskGhosts D) (digest_of : List ℕ → List ℕ) whe
   -- The words ask for `pull`, the store was opened, the clock was read once, and the pull's steps, which are the script of a pull from its
   -- beginning to its end, lead from the disk that came in to that handed back, and over the link as they say: on it stand the requests
   -- alone, and what was taken of its input are their responses. The link's count rose exactly if it failed. If these were another
-  -- server's, the disk stands for a replica of the host's backups there, however far the pull came, and so does what a crash leaves.
+  -- server's, the disk stands for a replica of the host's backups there, however far the pull came, and so does what a crash leaves. Over any disk a
+  -- file is named only if it is one that the disk handed back has damaged.
   pub record DoesPull (disk disk' : D) (line : Option Line) (settings : List ℕ) (link link' : LinkSeen)
       (moments moments' : Option (List ℕ)) (note : Note) : Type 0 where
     pub host : List ℕ
@@ -74,6 +78,7 @@ module _ {D : Type 0} (d : DiskGhosts D) (digest_of : List ℕ → List ℕ) whe
         → HasPullCause end (d.fault_count disk) (d.fault_count disk')
         × (halted ≡ true → Rose (d.fault_count disk) (d.fault_count disk'))
     pub later : d.fault_count disk ≤ d.fault_count disk'
+    pub foreign : (file : FileId) → note ≡ N.Foreign file → IsDamagedFile (option_map seen (d.files disk')) file
     pub stops : note ≡ N.DiskFailed → Rose (d.fault_count disk) (d.fault_count disk')
     pub replica : (a b : Durable) (first : Office) (names : Names) → StandsForEither d digest_of disk a b
         → (hears : HearsPeer link link' first names) → MakesReplica d digest_of disk disk' a b first.hosts host goes.turns hears.input end

@@ -6,3 +6,5 @@ pub mod Ends
 pub mod Texts
 pub mod Steps
 pub mod CallLaws
+pub mod Reads
+pub mod ReadLaws
