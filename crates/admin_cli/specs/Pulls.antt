@@ -57,8 +57,8 @@ module _ {D : Type 0} (d : DiskGhosts D) (digest_of : List ℕ → List ℕ) whe
   -- The words ask for `pull`, the store was opened, the clock was read once, and the pull's steps, which are the script of a pull from its
   -- beginning to its end, lead from the disk that came in to that handed back, and over the link as they say: on it stand the requests
   -- alone, and what was taken of its input are their responses. The link's count rose exactly if it failed. If these were another
-  -- server's, the disk stands for a replica of the host's backups there, however far the pull came, and so does what a crash leaves. Over any disk a
-  -- file is named only if it is one that the disk handed back has damaged.
+  -- server's, the disk stands for a replica of the host's backups there, however far the pull came, and so does what a crash leaves. Over
+  -- any disk a file is named only if it is one that the disk handed back has damaged.
   pub record DoesPull (disk disk' : D) (line : Option Line) (settings : List ℕ) (link link' : LinkSeen)
       (moments moments' : Option (List ℕ)) (note : Note) : Type 0 where
     pub host : List ℕ
