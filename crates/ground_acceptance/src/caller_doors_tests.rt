@@ -1,3 +1,4 @@
+use crate::told::expect;
 use caller_doors::*;
 use std::alloc::Global;
 use std::collections::VecDeque;
@@ -38,30 +39,44 @@ fn door(alloc: Global, inputs: [&[u8]; 3], fails: u64) -> Result<ListDoor, Fail>
     Ok(ListDoor::new(alloc, links, fails)?)
 }
 
+/// Fails unless the door is closed, and each of its three links has its mark.
+fn expect_marked(door: &mut ListDoor) -> Result<(), Fail> {
+    expect(matches!(door.next(), Came::Closed), "not closed")?;
+    expect(door.served().len() == 3, "other links")?;
+    for link in door.served() {
+        expect(link.output() == b"x".as_slice(), "another mark")?;
+    }
+    Ok(())
+}
+
+/// Fails unless the next call of the door gives a link, or fails.
+fn expect_came(door: &mut ListDoor, has_link: bool) -> Result<(), Fail> {
+    let as_wanted = match door.next() {
+        Came::Link(_link) => has_link,
+        Came::Failed => !has_link,
+        Came::Closed => false,
+    };
+    expect(as_wanted, "another answer")
+}
+
 #[test]
 fn a_list_door_gives_each_link_once(rt: HostRuntime) -> Result<(), Fail> {
     let alloc = rt.alloc();
     let mut one = door(alloc, [b"a", b"b", b"c"], 1)?;
     let mut other = door(alloc, [b"d", b"e", b"f"], u64::MAX)?;
-    assert_eq!(rt; mark_apart(&rt, &mut one, &mut other), (3, 3));
-    assert_eq!(rt; (one.faults(), other.faults()), (1, 0));
-    assert!(rt; matches!(one.next(), Came::Closed));
-    assert_eq!(rt; one.served().len(), 3);
-    for link in one.served() {
-        assert_eq!(rt; link.output(), b"x".as_slice());
-    }
-    Ok(())
+    let marked = mark_apart(&rt, &mut one, &mut other);
+    expect(marked == (3, 3), "other counts of links")?;
+    expect(one.faults() == 1 && other.faults() == 0, "other faults")?;
+    expect_marked(&mut one)
 }
 
 #[test]
 fn a_door_fails_at_its_calls_alone(rt: HostRuntime) -> Result<(), Fail> {
-    let alloc = rt.alloc();
-    let mut door = door(alloc, [b"a", b"b", b"c"], 1)?;
-    assert!(rt; matches!(door.next(), Came::Link(_)));
-    assert!(rt; matches!(door.next(), Came::Failed));
-    assert!(rt; matches!(door.next(), Came::Link(_)));
-    assert_eq!(rt; (door.faults(), door.served().len()), (1, 0));
-    Ok(())
+    let mut door = door(rt.alloc(), [b"a", b"b", b"c"], 1)?;
+    expect_came(&mut door, true)?;
+    expect_came(&mut door, false)?;
+    expect_came(&mut door, true)?;
+    expect(door.faults() == 1 && door.served().is_empty(), "others")
 }
 
 /// Holds at two gates in two threads.
@@ -75,8 +90,7 @@ fn two_gates_wait_for_each_other(rt: HostRuntime) -> Result<(), Fail> {
     let mut one = FlagGate::new(&first, 0, &second, 0, 1_000_000_000);
     let mut other = FlagGate::new(&second, 0, &first, 0, 1_000_000_000);
     hold_apart(&rt, &mut one, &mut other);
-    assert_eq!(rt; (one.passed(), other.passed()), (true, true));
-    Ok(())
+    expect(one.passed() && other.passed(), "not both passed")
 }
 
 #[test]
@@ -86,14 +100,13 @@ fn a_gate_waits_at_its_request_alone(rt: HostRuntime) -> Result<(), Fail> {
     let mut other = FlagGate::new(&second, 1, &first, 1, 3);
     other.hold(0);
     one.hold(2);
-    assert_eq!(rt; (one.passed(), other.passed()), (false, false));
+    expect(!one.passed() && !other.passed(), "one has passed")?;
     other.hold(1);
-    assert_eq!(rt; other.passed(), false);
+    expect(!other.passed(), "the other has passed")?;
     one.hold(0);
     one.hold(1);
-    assert_eq!(rt; one.passed(), false);
+    expect(!one.passed(), "the one has passed")?;
     one.hold(2);
     other.hold(1);
-    assert_eq!(rt; (one.passed(), other.passed()), (true, true));
-    Ok(())
+    expect(one.passed() && other.passed(), "not both passed")
 }

@@ -19,4 +19,6 @@ mod short_text_tests;
 #[cfg(test)]
 mod stream_traits_tests;
 #[cfg(test)]
+mod told;
+#[cfg(test)]
 mod wire_bytes_tests;

@@ -1,5 +1,6 @@
-ghost use Rattle.std.specs.Prelude.{◌≡◌, OnOk};
+ghost use Rattle.std.specs.Prelude.{◌≡◌, IfOk, OnOk};
 
+use crate::told::expect;
 use std::alloc::Global;
 use std::test::Fail;
 use std::thread::{Threads, join};
@@ -54,78 +55,111 @@ fn move_apart<L: Link + Send + Drop, C: Clock + Drop>(
     )
 }
 
+/// A link that gives these bytes to be read, has this room, and fails at these calls.
+fn link_of(alloc: Global, input: &[u8], room: usize, fails: &[u64]) -> Result<MemoryLink, Fail>
+    ensures { IfOk result (λ link. ⟦<MemoryLink as Faults>⟧.sent link ≡ ⟦<MemoryLink as Faults>⟧.written link) }
+{
+    let input = input.to_vec(alloc)?;
+    let fails = fails.to_vec(alloc)?;
+    Ok(MemoryLink::new(alloc, input, room, fails)?)
+}
+
+fn expect_read<L: Link>(link: &mut L, want: Result<Option<u8>, Failed>) -> Result<(), Fail>
+    requires { L.sent link.old ≡ L.written link.old }
+    ensures { OnOk result (L.sent link.new ≡ L.written link.new) }
+{
+    expect(read_byte(link) == want, "another byte")
+}
+
+/// Fails unless a write of these bytes gives this, and the link has then written so much.
+fn expect_written(
+    link: &mut MemoryLink,
+    bytes: &[u8],
+    want: Result<usize, Failed>,
+    output: &[u8],
+) -> Result<(), Fail> {
+    expect(link.write(bytes) == want, "another write")?;
+    expect(link.output() == output, "other bytes were written")
+}
+
+fn expect_sent(link: &MemoryLink, sent: &[u8], faults: u64) -> Result<(), Fail> {
+    expect(link.sent() == sent, "other bytes were sent")?;
+    expect(link.faults() == faults, "another count of faults")
+}
+
 #[test]
 fn bytes_come_back_in_their_order(rt: HostRuntime) -> Result<(), Fail> {
     let alloc = rt.alloc();
-    let input = b"hello".to_vec(alloc)?;
-    let mut link = MemoryLink::new(alloc, input, 16, Vec::new(alloc))?;
-    assert_eq!(rt; read_byte(&mut link), Ok(Some(b'h')));
-    assert_eq!(rt; echo(alloc, &mut link, 4), Ok(()));
-    assert_eq!(rt; link.sent(), b"ello".as_slice());
-    assert_eq!(rt; write_byte(&mut link), Ok(1));
-    assert_eq!(rt; link.output(), b"ellox".as_slice());
-    assert_eq!(rt; link.sent(), b"ello".as_slice());
-    assert_eq!(rt; link.faults(), 0);
-    Ok(())
+    let mut link = link_of(alloc, b"hello", 16, &[])?;
+    expect_read(&mut link, Ok(Some(b'h')))?;
+    expect(echo(alloc, &mut link, 4) == Ok(()), "no echo")?;
+    expect_sent(&link, b"ello", 0)?;
+    expect(write_byte(&mut link) == Ok(1), "another write")?;
+    expect(link.output() == b"ellox".as_slice(), "other bytes")?;
+    expect_sent(&link, b"ello", 0)
 }
 
 #[test]
 fn a_claimed_length_takes_no_memory(rt: HostRuntime) -> Result<(), Fail> {
     let alloc = rt.alloc();
-    let input = b"abc".to_vec(alloc)?;
-    let mut link = MemoryLink::new(alloc, input, 0, Vec::new(alloc))?;
+    let mut link = link_of(alloc, b"abc", 0, &[])?;
     let got = read_exactly(alloc, &mut link, usize::MAX);
-    assert!(rt; matches!(got, Err(ReadFault::Ended)));
-    assert_eq!(rt; read_byte(&mut link), Ok(None));
-    Ok(())
+    expect(matches!(got, Err(ReadFault::Ended)), "not ended")?;
+    expect_read(&mut link, Ok(None))
 }
 
 #[test]
 fn listed_calls_and_writes_past_the_room_fail(rt: HostRuntime) -> Result<(), Fail> {
-    let alloc = rt.alloc();
-    let input = b"abc".to_vec(alloc)?;
-    let fails = [1u64, 3].to_vec(alloc)?;
-    let mut link = MemoryLink::new(alloc, input, 3, fails)?;
-    assert_eq!(rt; read_byte(&mut link), Ok(Some(b'a')));
-    assert_eq!(rt; read_byte(&mut link), Err(Failed));
-    assert_eq!(rt; link.write(b"xyzw"), Ok(3));
-    assert_eq!(rt; link.flush(), Err(Failed));
-    assert_eq!(rt; link.write(b"w"), Err(Failed));
-    assert_eq!(rt; link.output(), b"xyz".as_slice());
-    assert_eq!(rt; link.sent(), b"".as_slice());
-    assert_eq!(rt; link.faults(), 3);
-    Ok(())
+    let mut link = link_of(rt.alloc(), b"abc", 3, &[1, 3])?;
+    expect_read(&mut link, Ok(Some(b'a')))?;
+    expect_read(&mut link, Err(Failed))?;
+    expect_written(&mut link, b"xyzw", Ok(3), b"xyz")?;
+    expect(link.flush() == Err(Failed), "flushed")?;
+    expect_written(&mut link, b"w", Err(Failed), b"xyz")?;
+    expect_sent(&link, b"", 3)
+}
+
+fn expect_readings<C: Clock>(clock: &mut C, want: (u64, u64)) -> Result<(), Fail> {
+    expect(two_readings(clock) == want, "other readings")
+}
+
+/// A clock of the first moment and a later one.
+fn clock_of(alloc: Global, late: Moment) -> Result<ListClock, Fail> {
+    let mut moments = Vec::new(alloc);
+    moments.push(Moment::first())?;
+    moments.push(late)?;
+    if moments.is_empty() {
+        return Err(Fail::new("no moment"));
+    }
+    Ok(ListClock::new(moments))
 }
 
 #[test]
 fn a_list_clock_keeps_its_last_moment(rt: HostRuntime) -> Result<(), Fail> {
-    let alloc = rt.alloc();
     let late = Moment::new(137_438_953_471).ok_or("a moment")?;
-    assert_eq!(rt; Moment::new(137_438_953_472), None);
-    let mut moments = Vec::new(alloc);
-    moments.push(Moment::first())?;
-    moments.push(late)?;
-    assert!(rt; !moments.is_empty());
-    let mut clock = ListClock::new(moments);
-    assert_eq!(rt; two_readings(&mut clock), (0, late.seconds()));
-    assert_eq!(rt; two_readings(&mut clock), (late.seconds(), late.seconds()));
-    Ok(())
+    expect(Moment::new(137_438_953_472).is_none(), "too late a moment")?;
+    let mut clock = clock_of(rt.alloc(), late)?;
+    expect_readings(&mut clock, (0, late.seconds()))?;
+    expect_readings(&mut clock, (late.seconds(), late.seconds()))
+}
+
+fn expect_apart(
+    rt: &impl Threads,
+    link: &mut MemoryLink,
+    clock: &mut FixedClock,
+) -> Result<(), Fail> {
+    let got = write_apart(rt, link, clock);
+    expect(got == (Ok(1), Moment::first()), "another write or moment")
 }
 
 #[test]
 fn links_and_clocks_go_into_threads(rt: HostRuntime) -> Result<(), Fail> {
-    let alloc = rt.alloc();
-    let input = b"abc".to_vec(alloc)?;
-    let mut link = MemoryLink::new(alloc, input, 2, Vec::new(alloc))?;
+    let mut link = link_of(rt.alloc(), b"abc", 2, &[])?;
     let mut clock = FixedClock::new(Moment::first());
-    assert_eq!(rt;
-        write_apart(&rt, &mut link, &mut clock),
-        (Ok(1), Moment::first())
-    );
+    expect_apart(&rt, &mut link, &mut clock)?;
     let (link, mut clock) = move_apart(&rt, link, clock);
-    assert_eq!(rt; link.output(), b"xx".as_slice());
-    assert_eq!(rt; two_readings(&mut clock), (0, 0));
-    Ok(())
+    expect(link.output() == b"xx".as_slice(), "other bytes")?;
+    expect_readings(&mut clock, (0, 0))
 }
 
 /// Holds at a gate, as a connection does.

@@ -1,4 +1,5 @@
-use std::alloc::AllocError;
+use crate::told::expect;
+use std::test::Fail;
 use wire_bytes::*;
 
 // A sealed table with one file `a.txt`, of mode 0644, whose content is `hello`, as Python's `hashlib` seals it.
@@ -15,35 +16,43 @@ const NUMBERS: &[u8] =
     b"\x07\x01\x02\0\0\0\x01\0\0\0\x03\xff\xff\xff\xff\xff\xff\xff\xfe\x01\x03abc";
 
 #[test]
-fn a_table_is_written_and_sealed(rt: HostRuntime) -> Result<(), AllocError> {
+fn a_table_is_written_and_sealed(rt: HostRuntime) -> Result<(), Fail> {
     let mut out = Vec::new(rt.alloc());
     put_bytes(&mut out, b"RTB1\0\0\0\x01\x01")?;
     put_text16(&mut out, b"a.txt")?;
     put_u32(&mut out, 0o644)?;
     put_bytes(&mut out, &TABLE[20..62])?;
     let file = seal(out)?;
-    assert_eq!(rt; file.as_slice(), TABLE.as_slice());
-    Ok(())
+    expect(file.as_slice() == TABLE.as_slice(), "another table")
 }
 
-#[test]
-fn a_sealed_table_is_read(rt: HostRuntime) {
-    let body = open_sealed(&TABLE).expect(&rt, "the seal is right");
-    assert_eq!(rt; body.len(), 62);
-    let mut reader = Reader::of_sealed(&TABLE).expect(&rt, "the seal is right");
-    assert_eq!(rt; reader.read_magic(b"RTB1"), Ok(()));
-    assert_eq!(rt; reader.read_u32(), Ok(1));
-    assert_eq!(rt; reader.read_flag(), Ok(true));
-    let path = reader.read_text16().expect(&rt, "a path");
-    assert_eq!(rt; path, b"a.txt".as_slice());
+/// The fields of a table's head, up to the path.
+fn expect_head(reader: &mut Reader<'_>) -> Result<(), Fail> {
+    expect(reader.read_magic(b"RTB1") == Ok(()), "another magic")?;
+    expect(reader.read_u32() == Ok(1), "another number")?;
+    expect(reader.read_flag() == Ok(true), "another flag")?;
+    expect(reader.read_text16() == Ok(b"a.txt"), "another path")
+}
+
+/// Behind the path are 46 bytes, which a copy of the reader reads, and the reader still has to.
+fn expect_rest(reader: Reader<'_>) -> Result<(), Fail> {
     let mut ahead = reader.copy();
-    assert!(rt; ahead.read_bytes(46).is_ok());
-    assert_eq!(rt; ahead.finish(), Ok(()));
-    assert_eq!(rt; reader.finish(), Err(TrailingBytes(16)));
+    expect(ahead.read_bytes(46).is_ok(), "too few bytes")?;
+    expect(ahead.finish() == Ok(()), "more bytes")?;
+    expect(reader.finish() == Err(TrailingBytes(16)), "at its end")
 }
 
 #[test]
-fn numbers_are_written(rt: HostRuntime) -> Result<(), AllocError> {
+fn a_sealed_table_is_read(rt: HostRuntime) -> Result<(), Fail> {
+    let body = open_sealed(&TABLE).expect(&rt, "the seal is right");
+    expect(body.len() == 62, "another length")?;
+    let mut reader = Reader::of_sealed(&TABLE).expect(&rt, "the seal is right");
+    expect_head(&mut reader)?;
+    expect_rest(reader)
+}
+
+#[test]
+fn numbers_are_written(rt: HostRuntime) -> Result<(), Fail> {
     let mut out = Vec::new(rt.alloc());
     put_u8(&mut out, 7)?;
     put_u16(&mut out, 258)?;
@@ -51,27 +60,32 @@ fn numbers_are_written(rt: HostRuntime) -> Result<(), AllocError> {
     put_i64(&mut out, -2)?;
     put_flag(&mut out, true)?;
     put_text8(&mut out, b"abc")?;
-    assert_eq!(rt; out.as_slice(), NUMBERS);
-    Ok(())
+    expect(out.as_slice() == NUMBERS, "other bytes")
 }
 
 #[test]
-fn numbers_are_read(rt: HostRuntime) {
+fn numbers_are_read(_rt: HostRuntime) -> Result<(), Fail> {
     let mut reader = Reader::new(NUMBERS);
-    assert_eq!(rt; reader.read_u8(), Ok(7));
-    assert_eq!(rt; reader.read_u16(), Ok(258));
-    assert_eq!(rt; reader.read_u64(), Ok(0x1_0000_0003));
-    assert_eq!(rt; reader.read_i64(), Ok(-2));
-    assert_eq!(rt; reader.offset(), 19);
+    expect(reader.read_u8() == Ok(7), "another u8")?;
+    expect(reader.read_u16() == Ok(258), "another u16")?;
+    expect(reader.read_u64() == Ok(0x1_0000_0003), "another u64")?;
+    expect(reader.read_i64() == Ok(-2), "another i64")?;
+    expect(reader.offset() == 19, "another offset")
 }
 
 #[test]
-fn what_is_broken_is_refused_at_its_place(rt: HostRuntime) {
-    assert_eq!(rt; open_sealed(&TABLE[..77]).err(), Some(BadSeal(61)));
+fn what_is_broken_is_refused_at_its_place(_rt: HostRuntime) -> Result<(), Fail> {
+    let broken = open_sealed(&TABLE[..77]).err();
+    expect(broken == Some(BadSeal(61)), "another seal")?;
     let mut reader = Reader::new(&NUMBERS[20..]);
-    assert_eq!(rt; reader.read_flag(), Err(FieldFault::Foreign(0)));
-    assert_eq!(rt; reader.read_digest(), Err(FieldFault::Ended(0)));
-    let text = reader.read_text8().expect(&rt, "a text");
-    assert_eq!(rt; text, b"abc".as_slice());
-    assert!(rt; reader.is_at_end());
+    expect(
+        reader.read_flag() == Err(FieldFault::Foreign(0)),
+        "another flag",
+    )?;
+    expect(
+        reader.read_digest() == Err(FieldFault::Ended(0)),
+        "a digest",
+    )?;
+    expect(reader.read_text8() == Ok(b"abc"), "another text")?;
+    expect(reader.is_at_end(), "more bytes")
 }
