@@ -1,0 +1,6 @@
+pub mod PairLemmas
+pub mod PathLemmas
+pub mod ReadBack
+pub mod ReadLemmas
+pub mod TextLemmas
+pub mod ValueLemmas
