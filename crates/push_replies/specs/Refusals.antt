@@ -46,7 +46,7 @@ rule_named name =
     else if bytes_eq name (codes "Kept") then Some B.Kept
     else limit_named name
 
--- of a damaged file a response says the name, and not what was found in it: it names no refusal
+-- a refusal that has a name alone
 abbrev pub refusal_named : List ℕ → Option Refusal
 refusal_named name =
     if bytes_eq name (codes "Halted") then Some R.Halted

@@ -52,10 +52,10 @@ answer_of (E.Commit dump now) status body = committed_of status body
 answer_of (E.Backups host) status body = backups_of status body
 answer_of event status body = None
 
--- The reply that a response says to an event: an answer, if its status is 200 or 201, and else the refusal that it names. 507 is want of
--- memory, and says nothing.
+-- The reply that a response says to an event: an answer, if its status is 200 or 201, and else the refusal that it names. 502 is a
+-- damaged file, of which it doesn't say what was found, and 507 want of memory: both say nothing.
 abbrev pub reply_in : Event → ℕ → List ℕ → Option Reply
 reply_in event status body =
     if (status == 200) || (status == 201) then option_map (λ answer. Ok answer) (answer_of event status body)
-    else if status == 507 then None
+    else if (status == 502) || (status == 507) then None
     else option_map (λ refusal. Err refusal) (refusal_of body)

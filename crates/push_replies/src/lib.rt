@@ -14,7 +14,7 @@
 //! // Some(Ok(Answer::Committed(7)))
 //! ```
 //!
-//! Of a damaged file a response says the name and not what was found in it, and of want of memory (507) nothing: both are none. One more
+//! Of a damaged file (502) a response says the name and not what was found in it, and of want of memory (507) nothing: both are none. One more
 //! event is a case in `answer_of` (specs/Replies), and one in `read_answer`.
 #![tactic(auto)]
 

@@ -80,7 +80,7 @@ fn rule_named(name: &str) -> Option<BrokenRule>
     }
 }
 
-/// The refusal that a name is of; none of a damaged file's.
+/// The refusal that a name is of, if it has a name alone.
 fn refusal_named(name: &str) -> Option<Refusal>
     ensures { result ≡ refusal_named name.now }
 {

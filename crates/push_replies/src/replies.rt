@@ -48,7 +48,7 @@ pub fn read_reply(
 {
     if status == 200 || status == 201 {
         answered(alloc, event, status, body)
-    } else if status == 507 {
+    } else if status == 502 || status == 507 {
         Ok(None)
     } else {
         refused(alloc, body)

@@ -1,5 +1,6 @@
 pub mod PairLemmas
 pub mod PathLemmas
+pub mod PlainLemmas
 pub mod ReadBack
 pub mod ReadLemmas
 pub mod TextLemmas

@@ -5,7 +5,9 @@ use Rattle.form_urlencoded.proofs.FormLemmas.{raw_pairs-nil}
 use Rattle.json.proofs.Printed.Utf8.{are_ascii, IsUtf8-are_ascii}
 use Rattle.std.proofs.lemmas.Fmt.{IsAscii-decimal}
 use Rattle.std.proofs.lemmas.Str.{IsUtf8-from_ascii, IsUtf8-from_is_utf8}
+use Rattle.std.proofs.lemmas.Bool.{true≢false}
 use Rattle.attr_records.specs.Attributes.{Attributes}
+use Rattle.attr_records.specs.Items.{is_large}
 use Rattle.attr_records.specs.Names.{is_host_name, is_link_target}
 use Rattle.attr_records.specs.PathRules.{broken_path_rule}
 use Rattle.attr_records.specs.declared.nodes.Item.{Item}
@@ -55,7 +57,7 @@ use Rattle.event_texts.proofs.NameLemmas.{IsName, question, decimal_name, host_n
 use Rattle.event_texts.proofs.PathLemmas.{first-of-hosts, second-of-hosts, host-in, number-in, session-in}
 use Rattle.event_texts.proofs.ReadBack.{requests-read-back}
 use Rattle.push_texts.specs.Queries.{attribute_pairs, item_pairs, put_pairs, path_pairs, kind_pairs, kind_text}
-use Rattle.push_texts.specs.Requests.{PushTexts, with_query, dumps_path, opening_target, dump_path, entry_path, commit_path, put_target, removal_target, list_path, list_target, item_body, with_body, getting, push_texts, is_unsaid, unless_unsaid}
+use Rattle.push_texts.specs.Requests.{PushTexts, with_query, dumps_path, opening_target, dump_path, entry_path, commit_path, put_target, removal_target, list_path, list_target, item_body, with_body, getting, push_texts, is_unsaid, is_unput, unless_unsaid}
 use Rattle.push_texts.specs.Laws.{AreAttributes, IsItem, IsPath, IsInRange, at, asked_for, size_of, IsHeadOf, PushesReadBack}
 use Rattle.push_texts.proofs.PairLemmas.{AreSaid, pairs-back, later_rule, taken-is, ascii-said}
 use Rattle.push_texts.proofs.PathLemmas.{dumps-form, entry-form, commit-form, dump-form, list-form, dumps-plain, within-plain, dump-plain, list-plain, first-of-dumps, last-of-dumps}
@@ -333,6 +335,10 @@ pub said-is : (unsaid : Bool) (x y : PushTexts) → unless_unsaid unsaid x ≡ S
 said-is true x y e = absurd (cc e)
 said-is false x y e = (refl, some-is x y e)
 
+pub neither-is : (a b : Bool) → (a || b) ≡ false → (a ≡ false) × (b ≡ false)
+neither-is true b e = absurd (true≢false e)
+neither-is false b e = (refl, e)
+
 read-as : (event : Event) (x texts : PushTexts) → Reads x (λ moment. asked_for moment event) → x ≡ texts → Reads texts (λ moment. asked_for moment event)
 read-as event x texts reads is = subst (λ (t : PushTexts). Reads t (λ moment. asked_for moment event)) is reads
 
@@ -340,8 +346,8 @@ pub pushes-read-back : PushesReadBack
 pushes-read-back (E.OpenDump host kind now None) texts e range =
     read-as (E.OpenDump host kind now None) _ texts (opening-back host kind range) (some-is _ texts e)
 pushes-read-back (E.Put dump path (Whole item) None) texts e range =
-    let said = said-is (holds_replacement path) (with_body (codes "PUT") (put_target dump path item) (item_body item)) texts e in
-    read-as (E.Put dump path (Whole item) None) _ texts (put-back dump range.0 path range.1 said.0 item range.2) said.1
+    let said = said-is (is_unput path item) (with_body (codes "PUT") (put_target dump path item) (item_body item)) texts e in
+    read-as (E.Put dump path (Whole item) None) _ texts (put-back dump range.0 path range.1 (neither-is (holds_replacement path) (is_large item) said.0).0 item range.2) said.1
 pushes-read-back (E.Remove dump path None) texts e range =
     let said = said-is (holds_replacement path) (with_body (codes "DELETE") (removal_target dump path) []) texts e in
     read-as (E.Remove dump path None) _ texts (removal-back dump range.0 path range.1 said.0) said.1

@@ -1,6 +1,6 @@
 -- What a client writes of an event of a push is read as that event.
 --     PushesReadBack, PushesArePlain      the laws
-use Rattle.std.specs.Prelude.{◌≡◌, ℕ, ℤ, pos, negsuc, ◌<◌, ◌≤◌, ◌^◌, nat_lt, true, false, List, [], length, Option, Some, None, Ok, IfSome, unwrap_or, IsUtf8, if◌then◌else◌}
+use Rattle.std.specs.Prelude.{◌≡◌, ℕ, ℤ, pos, negsuc, ◌<◌, ◌≤◌, ◌^◌, nat_lt, true, false, List, [], length, Option, Some, None, Ok, IfSome, unwrap_or, IsUtf8, bytes_eq, codes, if◌then◌else◌}
 use Rattle.std.specs.List.{list_all}
 use Rattle.httparse.specs.Grammar.{is_token, is_uri_byte}
 use Rattle.attr_records.specs.Attributes.{Attributes}
@@ -84,13 +84,16 @@ PushesReadBack =
     (event : Event) (texts : PushTexts) → push_texts event ≡ Some texts → IsInRange event → (head : HeadParts) → IsHeadOf texts head
     → (moment : ℕ) (defaults : Defaults) → asked head (unwrap_or texts.body []) moment defaults ≡ Ok (asked_for moment event)
 
--- method and target may stand in a head, and are short
+-- method and target may stand in a head, and are short; the body is within the limit of a tree's files
 pub record IsPlainRequest (texts : PushTexts) : Type 0 where
   pub method : is_token texts.method ≡ true
   pub few : length texts.method ≤ 6
+  pub no_head : bytes_eq texts.method (codes "HEAD") ≡ false
   pub some : 0 < length texts.target
   pub target : list_all is_uri_byte texts.target ≡ true
   pub short : length texts.target ≤ 13000
+  pub text : IsUtf8 texts.target
+  pub body : IfSome texts.body (λ bytes. length bytes ≤ 67108864)
 
 abbrev pub PushesArePlain : Type 0
 PushesArePlain = (event : Event) (texts : PushTexts) → push_texts event ≡ Some texts → IsInRange event → IsPlainRequest texts

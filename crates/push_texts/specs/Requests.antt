@@ -1,7 +1,8 @@
 -- The requests of a push: method, target and body, as a client writes them.
 --     push_texts      the request of an event of a push
-use Rattle.std.specs.Prelude.{ℕ, Bool, false, List, [], ◌++◌, codes, decimal, Option, Some, None, if◌then◌else◌}
+use Rattle.std.specs.Prelude.{ℕ, Bool, false, ◌||◌, List, [], ◌++◌, codes, decimal, Option, Some, None, if◌then◌else◌}
 use Rattle.form_urlencoded.specs.Form.{extend_pairs}
+use Rattle.attr_records.specs.Items.{is_large}
 use Rattle.attr_records.specs.declared.nodes.Item.{Item}
 use Rattle.attr_records.specs.declared.nodes.Item.TheVariants.{File, Dir, Link}
 use Rattle.backup_rules.specs.declared.lines.Kind.{Kind}
@@ -79,16 +80,20 @@ abbrev pub is_unsaid : Option (List ℕ) → Bool
 is_unsaid None = false
 is_unsaid (Some path) = holds_replacement path
 
--- the request, unless it would name such a path
+-- an item that no request puts at a path: the path holds it, or the item is a file of more than 67,108,864 bytes
+abbrev pub is_unput : List ℕ → Item → Bool
+is_unput path item = holds_replacement path || is_large item
+
+-- the request, unless it would name such a path, or put such an item
 abbrev pub unless_unsaid : Bool → PushTexts → Option PushTexts
 unless_unsaid unsaid texts = if unsaid then None else Some texts
 
--- The request that asks for an event of a push: one without a token, whose path a query may say, and whose item comes whole. The others
--- have none, those of stages among them.
+-- The request that asks for an event of a push: one without a token, whose path a query may say, and whose item comes whole, with at most
+-- 67,108,864 bytes. The others have none, those of stages among them.
 abbrev pub push_texts : Event → Option PushTexts
 push_texts (E.OpenDump host kind now None) = Some (with_body (codes "POST") (opening_target host kind) [])
 push_texts (E.Put dump path (Whole item) None) =
-    unless_unsaid (holds_replacement path) (with_body (codes "PUT") (put_target dump path item) (item_body item))
+    unless_unsaid (is_unput path item) (with_body (codes "PUT") (put_target dump path item) (item_body item))
 push_texts (E.Remove dump path None) = unless_unsaid (holds_replacement path) (with_body (codes "DELETE") (removal_target dump path) [])
 push_texts (E.Commit dump now) = Some (with_body (codes "POST") (commit_path dump) [])
 push_texts (E.Abort dump) = Some (with_body (codes "DELETE") (dump_path dump) [])

@@ -14,8 +14,8 @@
 //! // DELETE /dumps/1-0/entry?path=old%2Fa+file
 //! ```
 //!
-//! A file of at most 65,536 bytes is read as one event, a longer one as the put of these bytes by a stage. Events with a token, those of
-//! stages, and those of a path that holds U+FFFD, which no query may say, have no request.
+//! A file of at most 65,536 bytes is read as one event, a longer one as the put of these bytes by a stage. Files of more than 67,108,864
+//! bytes, events with a token, those of stages, and those of a path that holds U+FFFD, which no query may say, have no request.
 #![tactic(auto)]
 
 mod laws;

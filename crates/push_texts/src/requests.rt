@@ -66,7 +66,7 @@ fn is_unsaid(directory: &Option<PathName>) -> bool
     }
 }
 
-/// The request that puts an item at a path, if a query may say the path.
+/// The request that puts an item at a path, if a query may say the path and the file isn't too large.
 fn put_request<'a>(
     alloc: Global,
     dump: SessionName,
@@ -75,7 +75,7 @@ fn put_request<'a>(
 ) -> Result<Option<PushRequest<'a>>, AllocError>
     ensures { IfOk result (λ found. found ≡ push_texts (E.Put dump path.now (Whole item.now) None)) }
 {
-    if holds_replacement(path.as_slice()) {
+    if holds_replacement(path.as_slice()) || item.is_large() {
         return Ok(None);
     }
     let target = put_target(alloc, dump, path, item)?;
@@ -117,8 +117,8 @@ fn list_request<'a>(
     }))
 }
 
-/// The request that asks for an event: for those of a push, with an item that comes whole, without a token, and of a path that a query
-/// may say; None for the others.
+/// The request that asks for an event: for those of a push, with an item that comes whole with at most 67,108,864 bytes, without a token,
+/// and of a path that a query may say; None for the others.
 pub fn push_request<'a>(
     alloc: Global,
     event: &'a Event,

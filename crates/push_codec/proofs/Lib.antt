@@ -1,0 +1,4 @@
+pub mod CodecLaws
+pub mod EventLaws
+pub mod KindLemmas
+pub mod RangeLemmas
