@@ -53,7 +53,11 @@ fn nanos_at(value: &Value) -> Option<u32>
     ensures small { IfSome result (λ nanos. nanos ≤ 999999999) }
 {
     let nanos = number_at(value, "nanos")?;
-    if nanos <= MAX_NANOS { Some(nanos) } else { None }
+    if nanos <= MAX_NANOS {
+        Some(nanos)
+    } else {
+        None
+    }
 }
 
 /// The attributes of a node.

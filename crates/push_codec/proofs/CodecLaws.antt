@@ -39,6 +39,7 @@ asked-in (E.Remove dump path token) e = tt
 asked-in (E.Abort dump) e = tt
 asked-in (E.Commit dump now) e = tt
 asked-in (E.Backups host) e = tt
+asked-in (E.List host number directory) e = tt
 asked-in event e = absurd (true≢false (sym e))
 
 asked-at : (event : Event) (moment : ℕ) → IsAsked event → IsAsked (at moment event)
@@ -122,6 +123,8 @@ answer-fits (E.Commit dump now) (A.Committed number) asked kind-is is few = omeg
 answer-fits (E.Commit dump now) answer asked kind-is is few = absurd (cc kind-is)
 answer-fits (E.Backups host) (A.Backups lines next dump) asked kind-is is few = omega (arith, few, listing-few lines next dump is.0 is.1 is.2)
 answer-fits (E.Backups host) answer asked kind-is is few = absurd (cc kind-is)
+answer-fits (E.List host number directory) (A.Entries entries) asked kind-is is few = few
+answer-fits (E.List host number directory) answer asked kind-is is few = absurd (cc kind-is)
 answer-fits event answer asked kind-is is few = absurd asked
 
 -- a restore's end, whose refusals have the bodies that those of all events have

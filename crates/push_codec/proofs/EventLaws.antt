@@ -39,7 +39,7 @@ pub requests-read : RequestsAreRead
 requests-read event moment defaults e =
     let p = pushed event e in
     subst (λ (found : Option PushTexts). asked (parts_asked (ask_with (unwrap_or found no_texts))) (unwrap_or (ask_with (unwrap_or found no_texts)).body []) moment defaults
-        ≡ Ok (asked_for moment event)) (sym p.has)
+    ≡ Ok (asked_for moment event)) (sym p.has)
     (pushes-read-back event p.texts p.has p.range (parts_asked (ask_with p.texts)) (head-is p.texts) moment defaults)
 
 -- one call is read as one event

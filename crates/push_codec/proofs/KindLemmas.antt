@@ -10,6 +10,8 @@ use Rattle.office_model.specs.Meaning.{Reply}
 use Rattle.office_model.specs.Step.{IsAnswerTo}
 use Rattle.listing_back.specs.declared.listing.Listing.{Listing}
 use Rattle.listing_back.specs.Listings.{listing_of}
+use Rattle.office_model.specs.declared.answer.NamedNode.{NamedNode}
+use Rattle.entries_back.specs.Entries.{entries_of}
 use Rattle.push_replies.specs.Refusals.{refusal_of}
 use Rattle.push_replies.specs.Replies.{dump_of, number_of_body, answer_of, reply_in}
 
@@ -36,6 +38,12 @@ backups-kind host true (Some listing) = refl
 backups-kind host true None = tt
 backups-kind host false listing = tt
 
+entries-kind : (host : List ℕ) (number : ℕ) (directory : Option (List ℕ)) (found : Bool) (entries : Option (List NamedNode))
+    → IfSome (if found then option_map (λ es. A.Entries es) entries else None) (IsAnswerTo (E.List host number directory))
+entries-kind host number directory true (Some entries) = refl
+entries-kind host number directory true None = tt
+entries-kind host number directory false entries = tt
+
 answer-kind : (event : Event) (status : ℕ) (body : List ℕ) → IfSome (answer_of event status body) (IsAnswerTo event)
 answer-kind (E.OpenDump host kind now token) status body = opened-kind (E.OpenDump host kind now token) refl (status == 201) (dump_of body) (number_of_body body)
 answer-kind (E.Put dump path item token) status body = done-kind (E.Put dump path item token) refl (status == 200)
@@ -43,6 +51,7 @@ answer-kind (E.Remove dump path token) status body = done-kind (E.Remove dump pa
 answer-kind (E.Abort dump) status body = done-kind (E.Abort dump) refl (status == 200)
 answer-kind (E.Commit dump now) status body = committed-kind (E.Commit dump now) refl (status == 201) (number_of_body body)
 answer-kind (E.Backups host) status body = backups-kind host (status == 200) (listing_of body)
+answer-kind (E.List host number directory) status body = entries-kind host number directory (status == 200) (entries_of body)
 answer-kind event status body = tt
 
 step : (event : Event) (made none : Bool) (answer : Option Answer) (refusal : Option Refusal) → IfSome answer (IsAnswerTo event)

@@ -17,7 +17,7 @@ use Rattle.pull_codec.specs.Codec.{is_session}
 use Rattle.push_texts.specs.Requests.{PushTexts, push_texts}
 use Rattle.push_texts.specs.Laws.{IsLong, AreAttributes, IsItem, IsPath, IsInRange}
 use Rattle.push_codec.specs.Ranges.{is_long, are_attributes, is_item, is_path, is_place, is_put, is_ranged}
-use Rattle.push_codec.specs.Codec.{is_listing, may}
+use Rattle.push_codec.specs.Codec.{may}
 
 pub both : (a b : Bool) → (a && b) ≡ true → (a ≡ true) × (b ≡ true)
 both a b e = (first_so a b e, second_so a b e)
@@ -94,6 +94,5 @@ pushed-by event (Some texts) is e range = record { texts = texts; has = is; rang
 
 pub pushed : (event : Event) → may event ≡ true → IsPushed event
 pushed event e =
-    let p = both (not (is_listing event)) (is_some (push_texts event) && is_ranged event) e in
-    let q = both (is_some (push_texts event)) (is_ranged event) p.1 in
+    let q = both (is_some (push_texts event)) (is_ranged event) e in
     pushed-by event (push_texts event) refl q.0 (ranged-in event q.1)

@@ -4,7 +4,7 @@
 --     refusal_of      what an event without a request is refused with
 --     Says      the response to it says this reply
 --     InRange      a server may reply so to it
-use Rattle.std.specs.Prelude.{◌≡◌, ℕ, ◌≤◌, nat_lt, Bool, true, false, ◌&&◌, not, List, [], length, Option, Some, None, Ok, Err, codes, unwrap_or, is_some, if◌then◌else◌}
+use Rattle.std.specs.Prelude.{◌≡◌, ℕ, ◌<◌, ◌≤◌, ◌^◌, nat_lt, Bool, true, false, ◌&&◌, not, List, [], length, Option, Some, None, Ok, Err, codes, unwrap_or, is_some, if◌then◌else◌}
 use Rattle.attr_records.specs.Items.{is_large}
 use Rattle.attr_records.specs.declared.nodes.Item.TheVariants.{File}
 use Rattle.attr_records.specs.declared.trees.PutRule.TheVariants.{FileTooLarge}
@@ -19,6 +19,8 @@ use Rattle.office_model.specs.declared.refusal.Refusal.TheVariants.{Broken}
 use Rattle.office_model.specs.Meaning.{Reply}
 use Rattle.office_model.specs.Office.{number_limit, piece_limit}
 use Rattle.office_model.specs.Step.{IsAnswerTo}
+use Rattle.reply_bodies.specs.Objects.{json_text}
+use Rattle.reply_bodies.specs.Replies.{entries_data}
 use Rattle.http_client.specs.Requests.{Ask}
 use Rattle.peer_talk.specs.Mirror.{Response}
 use Rattle.pull_codec.specs.Codec.{IsRefusal}
@@ -30,14 +32,9 @@ use Rattle.push_codec.specs.Ranges.{is_ranged}
 
 -- ---- events
 
--- what a listing says isn't read back, so it isn't asked for
-abbrev pub is_listing : Event → Bool
-is_listing (E.List host number directory) = true
-is_listing event = false
-
 -- an event of a push that has a request, and is as the program's types have it
 abbrev pub may : Event → Bool
-may event = not (is_listing event) && (is_some (push_texts event) && is_ranged event)
+may event = is_some (push_texts event) && is_ranged event
 
 -- stands for the texts of events that have none
 abbrev pub no_texts : PushTexts
@@ -78,13 +75,14 @@ may_one event = may event && is_one event
 
 -- ---- replies
 
--- what a response says; nothing of a listing
+-- what a response says
 abbrev pub Says : Event → Response → Reply → Type 0
 Says event response reply = reply_in event response.status response.body ≡ Some reply
 
--- there is at most a line for each number
+-- there is at most a line for each number; and the body that lists entries has fewer than 2^64 bytes
 abbrev pub IsFew : Answer → Type 0
 IsFew (A.Backups lines next dump) = length lines ≤ number_limit
+IsFew (A.Entries entries) = length (json_text (entries_data entries)) < 2 ^ 64
 IsFew answer = Unit {0}
 
 -- an answer of the event's kind, in its ranges, or a refusal

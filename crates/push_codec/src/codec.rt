@@ -1,7 +1,7 @@
 //! The codec.
 
 ghost use Rattle.std.specs.Prelude.{◌≡◌};
-ghost use Rattle.push_codec.specs.Codec.{is_listing, is_of_large};
+ghost use Rattle.push_codec.specs.Codec.{is_of_large};
 
 use crate::ranges::event_fits;
 use attr_records::PutRule;
@@ -30,13 +30,6 @@ fn is_of_large(event: &Event) -> bool
     }
 }
 
-/// Whether an event asks for a listing, which isn't read back.
-fn is_listing(event: &Event) -> bool
-    ensures { result ≡ is_listing event.now }
-{
-    matches!(event, Event::List { .. })
-}
-
 impl Codec for PushCodec {
     ghost use Rattle.push_codec.specs.Codec as spec;
 
@@ -54,15 +47,14 @@ impl Codec for PushCodec {
 
     fn request<'a>(alloc: Global, event: &'a Event) -> Result<Option<Asked<'a>>, AllocError> {
         event_fits(event);
-        if is_listing(event) {
-            return Ok(None);
-        }
         match push_request(alloc, event)? {
-            Some(PushRequest {
-                method,
-                target,
-                body,
-            }) => Ok(Some(Asked {
+            Some(
+                PushRequest {
+                    method,
+                    target,
+                    body,
+                },
+            ) => Ok(Some(Asked {
                 method,
                 target,
                 body,

@@ -79,7 +79,10 @@ pub(crate) fn event_fits(event: &Event)
             let _name = host.as_slice();
         }
         Event::Put {
-            dump, path, item, ..
+            dump,
+            path,
+            item,
+            ..
         } => {
             session_fits(*dump);
             path_fits(path);

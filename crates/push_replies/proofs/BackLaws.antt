@@ -1,5 +1,5 @@
 -- What is read of the response to a reply is that reply.
-use Rattle.std.proofs.Common.{◌≡◌, ℕ, ◌<◌, ◌≤◌, ◌^◌, true, false, List, [], ◌∷◌, Option, Some, None, Ok, Err, option_map, option_and_then, IsUtf8, codes, refl, sym, ap, ◌∙◌, arith}
+use Rattle.std.proofs.Common.{◌≡◌, ℕ, ◌<◌, ◌≤◌, ◌^◌, true, false, List, [], ◌∷◌, Option, Some, None, Ok, Err, option_map, option_and_then, if◌then◌else◌, nat_lt, IsUtf8, codes, refl, sym, ap, ◌∙◌, arith}
 use Rattle.std.proofs.lemmas.Str.{IsUtf8-from_is_utf8}
 use Rattle.json.proofs.Printed.Utf8.{are_ascii, IsUtf8-are_ascii}
 use Rattle.attr_records.specs.declared.trees.PutRule.{PutRule}
@@ -17,16 +17,17 @@ use Rattle.office_model.specs.declared.refusal.Refusal.TheVariants as R
 use Rattle.office_model.specs.RuleNames.{put_rule_name, rule_name}
 use Rattle.office_model.specs.Meaning.{Reply}
 use Rattle.office_model.specs.Step.{IsAnswerTo}
-use Rattle.reply_bodies.specs.Laws.{IsSession}
+use Rattle.reply_bodies.specs.Laws.{IsSession, NamesFile}
 use Rattle.reply_bodies.specs.Objects.{Field, Text, Count, json_text, object_of, object_text}
 use Rattle.reply_bodies.specs.Replies.{refused, refusal_fields}
 use Rattle.reply_bodies.proofs.PlainReplies.{short_replies, refusals_plain}
 use Rattle.json_back.specs.Reading.{data_of}
 use Rattle.json_back.proofs.BackLaws.{bytes-read}
-use Rattle.listing_back.specs.Members.{if_small}
+use Rattle.listing_back.specs.Members.{if_small, number_at}
 use Rattle.listing_back.specs.Listings.{listing_of}
 use Rattle.listing_back.proofs.BackLaws.{listings-back}
 use Rattle.listing_back.proofs.SessionLaws.{session-back, session-utf8}
+use Rattle.entries_back.proofs.BackLaws.{entries-back}
 use Rattle.std.proofs.lemmas.Bool.Decides.{nat_tests}
 use Rattle.http_replies.specs.Messages.{put_rule_status, rule_status, refusal_status, answer_message}
 use Rattle.push_replies.specs.Refusals.{put_rule_named, limit_named, rule_named, refusal_named, refusal_in, refusal_of}
@@ -56,9 +57,9 @@ abbrev numbered : ℕ → List Field
 numbered number = (codes "number", Count number) ∷ []
 
 small-back : (n : ℕ) → n < 2 ^ 32 → if_small n ≡ Some n
-small-back n small = ap (λ b. Rattle.std.proofs.Common.cond b (Some n) None) (within n (2 ^ 32) small)
+small-back n small = ap (λ b. if b then Some n else None) (within n (2 ^ 32) small)
   where
-    within : (a b : ℕ) → a < b → Rattle.std.proofs.Common.nat_lt a b ≡ true
+    within : (a b : ℕ) → a < b → nat_lt a b ≡ true
     within a b h = grind (arith, nat_tests)
 
 number-bytes : (number : ℕ) → number < 2 ^ 32 → data_of (object_text (numbered number)) ≡ Some (object_of (numbered number))
@@ -68,11 +69,11 @@ number-bytes number small =
     ∙ bytes-read (object_of (numbered number)) (tt, omega (arith, small), tt) (key (codes "number") refl, tt, tt) (omega arith)
 
 number-back : (number : ℕ) → number < 2 ^ 32 → number_of_body (object_text (numbered number)) ≡ Some number
-number-back number small = ap (option_and_then (Rattle.listing_back.specs.Members.number_at (codes "number"))) (number-bytes number small) ∙ small-back number small
+number-back number small = ap (option_and_then (number_at (codes "number"))) (number-bytes number small) ∙ small-back number small
 
 -- ---- refusals
 
-refused-bytes : (refusal : Refusal) (name : List ℕ) → refusal_fields refusal ≡ refused name → Rattle.reply_bodies.specs.Laws.NamesFile refusal → IsUtf8 name
+refused-bytes : (refusal : Refusal) (name : List ℕ) → refusal_fields refusal ≡ refused name → NamesFile refusal → IsUtf8 name
     → data_of (object_text (refused name)) ≡ Some (object_of (refused name))
 unfolding json_text
 refused-bytes refusal name is file text =
@@ -105,7 +106,7 @@ unfolding rule_name
 rule-back (B.Put rule) = put-rule-back rule
 rule-back rule = refl
 
-refusal-named : (refusal : Refusal) (name : List ℕ) → refusal_fields refusal ≡ refused name → Rattle.reply_bodies.specs.Laws.NamesFile refusal → IsUtf8 name
+refusal-named : (refusal : Refusal) (name : List ℕ) → refusal_fields refusal ≡ refused name → NamesFile refusal → IsUtf8 name
     → refusal_named name ≡ Some refusal → refusal_of (object_text (refusal_fields refusal)) ≡ Some refusal
 refusal-named refusal name is file text back =
     ap (λ (fields : List Field). refusal_of (object_text fields)) is
@@ -166,4 +167,7 @@ answers-back (E.Commit dump now) answer asked is range = absurd (cc is)
 answers-back (E.Backups host) (A.Backups lines next dump) asked is range =
     ap (λ listing. option_map (λ (answer : Answer). Ok answer) (option_map (λ l. A.Backups l.lines l.next l.dump) listing)) (listings-back lines next dump range.0 range.1 range.2)
 answers-back (E.Backups host) answer asked is range = absurd (cc is)
+answers-back (E.List host number directory) (A.Entries entries) asked is range =
+    ap (λ found. option_map (λ (answer : Answer). Ok answer) (option_map (λ es. A.Entries es) found)) (entries-back entries range)
+answers-back (E.List host number directory) answer asked is range = absurd (cc is)
 answers-back event answer asked is range = absurd asked

@@ -13,6 +13,7 @@ use Rattle.reply_bodies.specs.Laws.{IsSession}
 use Rattle.reply_bodies.specs.Objects.{object_text}
 use Rattle.reply_bodies.specs.Replies.{refusal_fields}
 use Rattle.listing_back.specs.Laws.{IsRanged, MaybeSession}
+use Rattle.entries_back.specs.Laws.{IsEntry}
 use Rattle.http_replies.specs.Messages.{refusal_status, answer_message}
 use Rattle.push_replies.specs.Replies.{reply_in}
 
@@ -24,14 +25,16 @@ IsAsked (E.Remove dump path token) = Unit {0}
 IsAsked (E.Abort dump) = Unit {0}
 IsAsked (E.Commit dump now) = Unit {0}
 IsAsked (E.Backups host) = Unit {0}
+IsAsked (E.List host number directory) = Unit {0}
 IsAsked event = ⊥
 
--- numbers have their bits
+-- numbers have their bits, and names keep their rules
 abbrev pub IsAnswer : Answer → Type 0
 IsAnswer (A.Dump name) = IsSession name
 IsAnswer (A.Already number) = number < 2 ^ 32
 IsAnswer (A.Committed number) = number < 2 ^ 32
 IsAnswer (A.Backups lines next dump) = AllByRecursion IsRanged lines × (next < 2 ^ 64) × MaybeSession dump
+IsAnswer (A.Entries entries) = AllByRecursion IsEntry entries
 IsAnswer answer = Unit {0}
 
 -- the refusal is named whole by its response

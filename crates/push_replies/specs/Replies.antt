@@ -12,6 +12,7 @@ use Rattle.serde_json.specs.Data.{Data}
 use Rattle.json_back.specs.Reading.{data_of}
 use Rattle.listing_back.specs.Members.{number_at, text_at, session_of}
 use Rattle.listing_back.specs.Listings.{listing_of}
+use Rattle.entries_back.specs.Entries.{entries_of}
 use Rattle.push_replies.specs.Refusals.{refusal_of}
 
 -- the dump that an object names, and that bytes name as JSON
@@ -39,6 +40,9 @@ abbrev pub backups_of : ℕ → List ℕ → Option Answer
 backups_of status body =
     if status == 200 then option_map (λ listing. A.Backups listing.lines listing.next listing.dump) (listing_of body) else None
 
+abbrev pub entries_at : ℕ → List ℕ → Option Answer
+entries_at status body = if status == 200 then option_map (λ entries. A.Entries entries) (entries_of body) else None
+
 -- of what was done nothing is read
 abbrev pub done_at : ℕ → Option Answer
 done_at status = if status == 200 then Some A.Done else None
@@ -50,6 +54,7 @@ answer_of (E.Remove dump path token) status body = done_at status
 answer_of (E.Abort dump) status body = done_at status
 answer_of (E.Commit dump now) status body = committed_of status body
 answer_of (E.Backups host) status body = backups_of status body
+answer_of (E.List host number directory) status body = entries_at status body
 answer_of event status body = None
 
 -- The reply that a response says to an event: an answer, if its status is 200 or 201, and else the refusal that it names. 502 is a

@@ -2,9 +2,10 @@
 
 ghost use Rattle.std.specs.Prelude.{◌≡◌, IfOk};
 ghost use Rattle.serde_json.specs.View.{view};
-ghost use Rattle.push_replies.specs.Replies.{dump_in, dump_of, number_of_body, opened_of, committed_of, backups_of, done_at, answer_of};
+ghost use Rattle.push_replies.specs.Replies.{dump_in, dump_of, number_of_body, opened_of, committed_of, backups_of, entries_at, done_at, answer_of};
 
 use crate::members::{number_at, session_of, text_at};
+use entries_back::read_entries;
 use json_back::read_json;
 use listing_back::{Listing, read_listing};
 use office_model::{Answer, Event, SessionName};
@@ -81,6 +82,19 @@ fn read_backups(alloc: Global, status: u16, body: &[u8]) -> Result<Option<Answer
     }
 }
 
+/// What lies in a directory of a backup.
+fn read_entries_at(alloc: Global, status: u16, body: &[u8]) -> Result<Option<Answer>, AllocError>
+    ensures { IfOk result (λ answer. answer ≡ entries_at status body.now) }
+{
+    if status != 200 {
+        return Ok(None);
+    }
+    match read_entries(alloc, body)? {
+        Some(entries) => Ok(Some(Answer::Entries(entries))),
+        None => Ok(None),
+    }
+}
+
 /// What says that an event was done, of which nothing is read.
 fn done_at(status: u16) -> Option<Answer>
     ensures { result ≡ done_at status }
@@ -106,6 +120,7 @@ pub(crate) fn read_answer(
         Event::Put { .. } | Event::Remove { .. } | Event::Abort { .. } => Ok(done_at(status)),
         Event::Commit { .. } => read_committed(alloc, status, body),
         Event::Backups { .. } => read_backups(alloc, status, body),
+        Event::List { .. } => read_entries_at(alloc, status, body),
         _ => Ok(None),
     }
 }

@@ -1,5 +1,5 @@
 //! What the responses to the events of a push say, for who asked another server: the answer to a dump's opening, its puts and removals,
-//! its commit or its end, the listing of a host's backups, or the refusal by its name. Its main clause says that what is read is
+//! its commit or its end, the listing of a host's backups, what lies in a directory of one, or the refusal by its name. Its main clause says that what is read is
 //! `reply_in event status body`; the law, that this is the reply whose response it was. The crate knows events, statuses and bodies, and
 //! no link.
 //!

@@ -25,10 +25,7 @@ fn answered(
 }
 
 /// The refusal that a response says.
-fn refused(
-    alloc: Global,
-    body: &[u8],
-) -> Result<Option<Result<Answer, Refusal>>, AllocError>
+fn refused(alloc: Global, body: &[u8]) -> Result<Option<Result<Answer, Refusal>>, AllocError>
     ensures { IfOk result (λ reply. reply ≡ option_map (λ refusal. Err refusal) (refusal_of body.now)) }
 {
     match read_refusal(alloc, body)? {

@@ -29,7 +29,7 @@ byte-encode c s =
     (λ _. cond_both (nat_lt c 65536) ((224 + c / 4096) ∷ next (c / 64) ∷ next c ∷ []) ((240 + c / 262144) ∷ next (c / 4096) ∷ next (c / 64) ∷ next c ∷ []) (All IsByte)
     (λ low. All-cons IsByte (224 + c / 4096) (next (c / 64) ∷ next c ∷ []) (omega (arith, ltb-true c 65536 low)) (two (c / 64) c))
     (λ _. All-cons IsByte (240 + c / 262144) (next (c / 4096) ∷ next (c / 64) ∷ next c ∷ []) (high c (scalar_cases c s))
-        (All-cons IsByte (next (c / 4096)) (next (c / 64) ∷ next c ∷ []) (small (c / 4096)) (two (c / 64) c)))))
+    (All-cons IsByte (next (c / 4096)) (next (c / 64) ∷ next c ∷ []) (small (c / 4096)) (two (c / 64) c)))))
   where
     small : (n : ℕ) → 128 + n % 64 < 256
     small n = omega arith

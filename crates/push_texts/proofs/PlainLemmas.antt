@@ -151,7 +151,7 @@ more_part : (most : ℕ) (form key value : List ℕ) (n : ℕ) → IsPart most f
     → IsPart (most + 17 + 3 * n) (append_pair form key value)
 more_part most form key value n p k v =
     let all = part-append (most + 1) (16 + 3 * n) (form ++ separator form) (serialize_pair (key, value))
-        (part-append most 1 form (separator form) p (separator_part form)) (pair_part key value n k v) in
+    (part-append most 1 form (separator form) p (separator_part form)) (pair_part key value n k v) in
     wider (most + 1 + (16 + 3 * n)) (most + 17 + 3 * n) _ (omega arith) all
 
 -- further pairs of short values

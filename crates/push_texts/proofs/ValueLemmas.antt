@@ -108,13 +108,13 @@ pub attributes-back : (kind : ItemKind) (pairs : List Pair) (attr : Attributes) 
 unfolding attributes_of
 attributes-back kind pairs attr h s =
     let mode : value_or mode_of (default_mode kind) (codes "mode") pairs ≡ Some attr.mode =
-        ap (λ (v : Option (List ℕ)). option_map_or mode_of v (Some (default_mode kind))) s.mode ∙ mode-back attr.mode h.mode in
+    ap (λ (v : Option (List ℕ)). option_map_or mode_of v (Some (default_mode kind))) s.mode ∙ mode-back attr.mode h.mode in
     let uid : number_or (codes "uid") pairs ≡ Some attr.uid = number-back (codes "uid") pairs attr.uid h.uid s.uid in
     let gid : number_or (codes "gid") pairs ≡ Some attr.gid = number-back (codes "gid") pairs attr.gid h.gid s.gid in
     let mtime : value_or seconds_of (pos 0) (codes "mtime") pairs ≡ Some attr.mtime =
-        ap (λ (v : Option (List ℕ)). option_map_or seconds_of v (Some (pos 0))) s.mtime ∙ seconds-back attr.mtime h.mtime in
+    ap (λ (v : Option (List ℕ)). option_map_or seconds_of v (Some (pos 0))) s.mtime ∙ seconds-back attr.mtime h.mtime in
     let nanos : nanos_or pairs ≡ Some attr.nanos =
-        ap (λ (v : Option (List ℕ)). option_map_or (number_of 999999999) v (Some 0)) s.nanos ∙ number_of-decimal 999999999 attr.nanos h.nanos (lit< tt) in
+    ap (λ (v : Option (List ℕ)). option_map_or (number_of 999999999) v (Some 0)) s.nanos ∙ number_of-decimal 999999999 attr.nanos h.nanos (lit< tt) in
     λ i. option_and_then (λ mode. option_and_then (λ uid. option_and_then (λ gid. option_and_then (λ mtime. option_map
     (λ nanos. record { mode = mode; uid = uid; gid = gid; mtime = mtime; nanos = nanos })
     (nanos i))
