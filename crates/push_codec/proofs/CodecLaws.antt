@@ -1,5 +1,5 @@
 -- What is read of the response to a reply is that reply.
-use Rattle.std.proofs.Common.{◌≡◌, ℕ, ◌+◌, ◌*◌, ◌<◌, ◌≤◌, ◌^◌, Bool, true, false, ◌&&◌, List, [], ◌∷◌, ◌++◌, length, Option, Some, None, Ok, Err, refl, sym, ap, ◌∙◌, arith, codes, decimal, length-append}
+use Rattle.std.proofs.Common.{◌≡◌, ℕ, ◌<◌, ◌≤◌, ◌^◌, true, false, List, [], ◌∷◌, ◌++◌, length, Option, Some, None, Ok, Err, refl, sym, ◌∙◌, arith, codes, decimal, length-append}
 use Rattle.std.proofs.lemmas.Bool.{true≢false}
 use Rattle.receipts.specs.declared.session.SessionName.{SessionName}
 use Rattle.receipts.specs.Session.{session_text}
@@ -19,13 +19,12 @@ use Rattle.peer_talk.specs.Sayings.{reply_said}
 use Rattle.reply_bodies.specs.Laws.{IsSession}
 use Rattle.reply_bodies.specs.Objects.{Text, Count, object_text, text_field, number_field}
 use Rattle.pull_codec.specs.Codec.{IsRefusal}
-use Rattle.pull_codec.specs.Relations.{IsCodec}
 use Rattle.pull_codec.proofs.FitLaws.{reply-fits}
 use Rattle.pull_codec.proofs.TextLengths.{wide-few, session-few, listing-few}
 use Rattle.push_replies.specs.Replies.{reply_in}
 use Rattle.push_replies.specs.Laws.{IsAsked, IsAnswer, IsNamed}
 use Rattle.push_replies.proofs.BackLaws.{answers-back, refusals-back}
-use Rattle.push_codec.specs.Codec.{may, is_one, may_one, request_of, at, Says, IsFew, InRange}
+use Rattle.push_codec.specs.Codec.{may, is_one, may_one, at, Says, IsFew, InRange}
 use Rattle.push_codec.specs.Laws.{PushesAreCoded, RepliesAreSaid}
 use Rattle.push_codec.proofs.EventLaws.{one-read}
 use Rattle.push_codec.proofs.RangeLemmas.{both}

@@ -1,5 +1,5 @@
 -- A server reads each request of a push as its event.
-use Rattle.std.proofs.Common.{◌≡◌, ℕ, ◌+◌, ◌<◌, ◌≤◌, ◌^◌, Bool, true, false, not, ◌&&◌, nat_lt, nat_le, List, [], ◌++◌, length, Option, Some, None, Ok, IfSome, IsUtf8, bytes_eq, unwrap_or, if◌then◌else◌, refl, sym, ap, ◌∙◌, subst, arith, codes, decimal, length-append}
+use Rattle.std.proofs.Common.{◌≡◌, ℕ, ◌<◌, ◌≤◌, Bool, true, false, not, ◌&&◌, nat_lt, nat_le, List, [], ◌++◌, length, Option, Some, None, Ok, IfSome, unwrap_or, if◌then◌else◌, refl, sym, ap, ◌∙◌, subst, arith, codes, decimal, length-append}
 use Rattle.std.proofs.lemmas.Bool.{true≢false}
 use Rattle.std.proofs.lemmas.Bool.Decides.{nat_tests}
 use Rattle.std.proofs.lemmas.Fmt.{length-decimal-le}
@@ -9,22 +9,20 @@ use Rattle.office_model.specs.declared.event.Event.{Event}
 use Rattle.office_model.specs.declared.event.Event.TheVariants as E
 use Rattle.office_model.specs.declared.event.PutItem.TheVariants.{Whole}
 use Rattle.http_heads.specs.Fronts.{head_limit}
-use Rattle.http_heads.specs.Fields.{body_limit}
 use Rattle.http_wire.specs.Message.{line_end, length_line, field_line}
 use Rattle.http_client.specs.Requests.{length_part, request_head}
 use Rattle.http_client.specs.Plain.{has_fitting_body, is_plain}
 use Rattle.http_client.specs.Laws.{parts_asked, size_of as size_read}
 use Rattle.request_events.specs.declared.defaults.Defaults.{Defaults}
-use Rattle.request_events.specs.Asked.{Asked, One, InStages, asked}
-use Rattle.browse_http.specs.Talk as T
+use Rattle.request_events.specs.Asked.{Asked, One, asked}
 use Rattle.peer_talk.specs.Mirror.{IsRequest}
-use Rattle.push_texts.specs.Requests.{PushTexts, push_texts}
+use Rattle.push_texts.specs.Requests.{PushTexts}
 use Rattle.push_texts.specs.Laws.{asked_for, size_of, IsHeadOf, IsPlainRequest}
 use Rattle.push_texts.proofs.PlainLemmas.{pushes-are-plain}
 use Rattle.push_texts.proofs.ReadBack.{pushes-read-back}
 use Rattle.push_codec.specs.Codec.{may, no_texts, ask_with, request_of, at, is_one, may_one}
 use Rattle.push_codec.specs.Laws.{RequestsAreRead, PushesAreRequests}
-use Rattle.push_codec.proofs.RangeLemmas.{both, IsPushed, pushed}
+use Rattle.push_codec.proofs.RangeLemmas.{both, pushed}
 
 -- ---- reading
 

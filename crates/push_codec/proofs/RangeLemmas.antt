@@ -1,5 +1,5 @@
 -- The tests of ranges, as facts.
-use Rattle.std.proofs.Common.{◌≡◌, ℕ, ℤ, pos, negsuc, ◌<◌, ◌≤◌, ◌^◌, nat_lt, nat_le, Bool, true, false, not, ◌&&◌, List, Option, Some, None, IfSome, is_some, is_none, refl, sym}
+use Rattle.std.proofs.Common.{◌≡◌, ℕ, ℤ, pos, negsuc, ◌^◌, nat_lt, nat_le, Bool, true, ◌&&◌, List, Option, Some, None, IfSome, is_some, is_none, refl, sym}
 use Rattle.std.specs.Cmp.{first_so, second_so}
 use Rattle.std.proofs.lemmas.Bool.{ltb-true, leb-true, true≢false}
 use Rattle.attr_records.specs.Attributes.{Attributes}
@@ -16,7 +16,7 @@ use Rattle.event_texts.specs.Laws.{IsSession}
 use Rattle.pull_codec.specs.Codec.{is_session}
 use Rattle.push_texts.specs.Requests.{PushTexts, push_texts}
 use Rattle.push_texts.specs.Laws.{IsLong, AreAttributes, IsItem, IsPath, IsInRange}
-use Rattle.push_codec.specs.Ranges.{is_long, are_attributes, is_item, is_path, is_place, is_put, is_ranged}
+use Rattle.push_codec.specs.Ranges.{is_long, are_attributes, is_item, is_path, is_place, is_ranged}
 use Rattle.push_codec.specs.Codec.{may}
 
 pub both : (a b : Bool) → (a && b) ≡ true → (a ≡ true) × (b ≡ true)

@@ -4,7 +4,7 @@
 --     refusal_of      what an event without a request is refused with
 --     Says      the response to it says this reply
 --     InRange      a server may reply so to it
-use Rattle.std.specs.Prelude.{◌≡◌, ℕ, ◌<◌, ◌≤◌, ◌^◌, nat_lt, Bool, true, false, ◌&&◌, not, List, [], length, Option, Some, None, Ok, Err, codes, unwrap_or, is_some, if◌then◌else◌}
+use Rattle.std.specs.Prelude.{◌≡◌, ℕ, ◌<◌, ◌≤◌, ◌^◌, nat_lt, Bool, true, false, ◌&&◌, not, [], length, Some, None, Ok, Err, codes, unwrap_or, is_some, if◌then◌else◌}
 use Rattle.attr_records.specs.Items.{is_large}
 use Rattle.attr_records.specs.declared.nodes.Item.TheVariants.{File}
 use Rattle.attr_records.specs.declared.trees.PutRule.TheVariants.{FileTooLarge}
