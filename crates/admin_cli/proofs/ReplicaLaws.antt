@@ -4,6 +4,7 @@ use Rattle.std.specs.Prelude.{◌⊎◌, ◌++◌}
 use Rattle.std.specs.List.{Contains}
 use Rattle.std.proofs.Common.{◌≡◌, ℕ, ◌+◌, Bool, true, false, List, [], ◌∷◌, Ok, Err, refl, sym, ap, subst, inl, inr, arith}
 use Rattle.std.proofs.lemmas.List.{append-nil}
+use native.Mathlib.Numerals.{unary_clauses}
 use Rattle.stream_traits.specs.Seen.{LinkSeen}
 use Rattle.disk_trait.specs.declared.disk.Disk.{Ghosts as DiskGhosts}
 use Rattle.disk_trait.specs.Files.{Files}
@@ -71,7 +72,7 @@ no_reopening [] after call others = other_is call.0 others.0
 no_reopening (it ∷ before) after call others = no_reopening before after call others.1
 
 -- what an opening finds then is an office that the stop may have left
-Kept : (List ℕ → List ℕ) → State → Event → Files → Type 0
+abbrev Kept : (List ℕ → List ℕ) → State → Event → Files → Type 0
 Kept digest_of mid event found = (kept : Durable) × MayKeep mid event kept × StandsFor digest_of found kept
 
 kept_of : (digest_of : List ℕ → List ℕ) (office : Office) (judged : Judged Carried) (found : Files) → MayRecover digest_of office judged found
@@ -89,15 +90,15 @@ kept_in digest_of (Halted a b names) event found (inr stands) = (b, inr refl, st
 -- ---- foreign answers
 
 among_more : (x y : Event × PeerFault) (xs : List (Event × PeerFault)) → Contains xs y → Contains (x ∷ xs) y
-among_more x y xs c = (c.0 + 1, omega (arith, c.1), c.2)
+among_more x y xs c = (c.0 + 1, omega (arith, c.1), simp unary_clauses c.2)
 
 first_said : (host : List ℕ) (step : Step) (steps : List Step) → IsForeign step
     → (event : Event) × Contains (fault_in host step ++ faults_in host steps) (event, F.Foreign)
-first_said host (Lists (Err fault)) steps e = (V.Backups host, 0, omega arith, ap (λ (f : PeerFault). (V.Backups host, f)) e)
+first_said host (Lists (Err fault)) steps e = (V.Backups host, (0, omega arith, ap (λ (f : PeerFault). (V.Backups host, f)) e))
 first_said host (Opens number base (Err fault)) steps e =
-    (V.OpenRead host number base, 0, omega arith, ap (λ (f : PeerFault). (V.OpenRead host number base, f)) e)
-first_said host (Reads restore (Err fault)) steps e = (V.ReadNext restore, 0, omega arith, ap (λ (f : PeerFault). (V.ReadNext restore, f)) e)
-first_said host (Closes restore (Err fault)) steps e = (V.CloseRead restore, 0, omega arith, ap (λ (f : PeerFault). (V.CloseRead restore, f)) e)
+    (V.OpenRead host number base, (0, omega arith, ap (λ (f : PeerFault). (V.OpenRead host number base, f)) e))
+first_said host (Reads restore (Err fault)) steps e = (V.ReadNext restore, (0, omega arith, ap (λ (f : PeerFault). (V.ReadNext restore, f)) e))
+first_said host (Closes restore (Err fault)) steps e = (V.CloseRead restore, (0, omega arith, ap (λ (f : PeerFault). (V.CloseRead restore, f)) e))
 first_said host step steps e = absurd e
 
 behind_said : (host : List ℕ) (step : Step) (steps : List Step) (y : Event × PeerFault) → Contains (faults_in host steps) y
@@ -109,7 +110,7 @@ behind_said host (Closes restore (Err fault)) steps y c = among_more (V.CloseRea
 behind_said host step steps y c = c
 
 said_foreign : (host : List ℕ) (steps : List Step) → SaysForeign steps → (event : Event) × Contains (faults_in host steps) (event, F.Foreign)
-said_foreign host [] no = absurd no
+said_foreign host [] none = absurd none
 said_foreign host (step ∷ steps) (inl here) = first_said host step steps here
 said_foreign host (step ∷ steps) (inr there) =
     let r = said_foreign host steps there in (r.0, behind_said host step steps (r.0, F.Foreign) r.1)
@@ -127,7 +128,7 @@ module _ {D : Type 0} (d : DiskGhosts D) (digest_of : List ℕ → List ℕ) (di
     (halted : Bool) (a b : Durable) (first : Office) (there : Names)
     (served : IsServed d digest_of disk disk' (calls_in (steps_of turns)) halted a b) (old new : LinkSeen) (input wrote : List ℕ)
     (talks : Talks plan first there turns (Over end) old new input wrote) where
-  home : Office
+  abbrev home : Office
   home = reopened served.office
 
   pulls : (last : PullEnd) → end ≡ last → IsReplica served.office.hosts first.hosts plan.host
@@ -146,12 +147,12 @@ module _ {D : Type 0} (d : DiskGhosts D) (digest_of : List ℕ → List ℕ) (di
   }
 
   -- what a crash since the first sync leaves
-  Left : Files → Type 0
+  abbrev Left : Files → Type 0
   Left found =
       IsEither digest_of served.office (raised served.office) found
       ⊎ MayRecoverIn digest_of (Running home served.names) served.opening (calls_in (steps_of turns)) found
 
-  Has : Files → Type 0
+  abbrev Has : Files → Type 0
   Has found = (kept : Durable) × StandsFor digest_of found kept × HasBrought served.office.hosts first.hosts plan.host kept
 
   left_has : IsReplica served.office.hosts first.hosts plan.host → (found : Files) → Left found → Has found
