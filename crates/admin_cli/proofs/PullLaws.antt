@@ -70,7 +70,7 @@ behind_wire ahead left wire link few left_is same written sent faults = record {
 
 -- ---- the other server
 
-talks_of : (host : List ℕ) (read : Settings) (start : ℕ) (first : Office) (names : Names) (turns : List Taken) (end : PullEnd)
+abbrev talks_of : (host : List ℕ) (read : Settings) (start : ℕ) (first : Office) (names : Names) (turns : List Taken) (end : PullEnd)
     (link link' wire' : LinkSeen) → is_host_name host ≡ true → AreTurns (plan_of host read start) Asking turns (Over end)
     → AreTold host link wire' (steps_of turns) → IsBehindWire wire' link' → (hears : HearsPeer link link' first names)
     → Talks (plan_of host read start) first names turns (Over end) link wire' hears.input hears.wrote

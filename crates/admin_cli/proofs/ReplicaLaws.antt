@@ -131,7 +131,7 @@ module _ {D : Type 0} (d : DiskGhosts D) (digest_of : List ℕ → List ℕ) (di
   abbrev home : Office
   home = reopened served.office
 
-  pulls : (last : PullEnd) → end ≡ last → IsReplica served.office.hosts first.hosts plan.host
+  abbrev pulls : (last : PullEnd) → end ≡ last → IsReplica served.office.hosts first.hosts plan.host
       → Pulls plan home first (Over last) served.last
   pulls last is replica = record {
     names = served.names;
@@ -171,7 +171,7 @@ module _ {D : Type 0} (d : DiskGhosts D) (digest_of : List ℕ → List ℕ) (di
         call = in_call.call;
         after = in_call.after;
         mid = in_call.mid;
-        mid_faults = in_call.count;
+        count = in_call.count;
         calls_are = in_call.calls_are;
         leads = in_call.leads;
         may = k.1;
