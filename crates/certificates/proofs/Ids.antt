@@ -4,7 +4,7 @@ use Rattle.std.specs.Int.{w32}
 use Rattle.std.specs.Simd.{first_chunks}
 use Rattle.std.specs.List.{AllByRecursion}
 use Rattle.std.proofs.Common.{refl, sym, ap, subst, ◌∙◌, append_assoc, drop}
-use Rattle.wire_bytes.specs.Reading.{Reading, left, Passes}
+use Rattle.wire_bytes.specs.Reading.{Reading, Passes}
 use Rattle.wire_bytes.specs.ReadingLaws.{passes_both}
 use Rattle.wire_bytes.specs.Layout.{number_bytes, IsNumber, HasLength}
 use Rattle.wire_bytes.specs.Breaks.{items_bytes}

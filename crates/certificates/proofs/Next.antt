@@ -1,5 +1,5 @@
 -- A thing that may stand behind others, or that may not.
-use Rattle.std.specs.Prelude.{◌≡◌, ℕ, Bool, true, false, List, [], ◌∷◌, ◌++◌, Option, Some, None}
+use Rattle.std.specs.Prelude.{◌≡◌, ℕ, true, false, List, [], ◌∷◌, ◌++◌, Option, Some}
 use Rattle.std.specs.declared.cmp.Ordering.{Ordering}
 use Rattle.std.proofs.Common.{refl, sym, ◌∙◌}
 use Rattle.std.proofs.lemmas.Bool.{false≢true}
@@ -8,7 +8,7 @@ use Rattle.wire_bytes.specs.declared.fault.FieldFault.TheVariants.{Ended, Foreig
 use Rattle.wire_bytes.specs.Reading.{Reading}
 use Rattle.wire_bytes.specs.Grammar.{Grammar, field}
 use Rattle.wire_bytes.specs.GrammarReading.{Finds, Refuses, fault_offset}
-use Rattle.wire_bytes.specs.GrammarLaws.{field_fits, narrow_finds, narrow_refuses, misfit_refuses, whole_refuses}
+use Rattle.wire_bytes.specs.GrammarLaws.{field_fits, narrow_finds, misfit_refuses, whole_refuses}
 use Rattle.certificates.specs.Layout.{last_key, is_after, IsNext}
 
 pub last_key-snoc : {A K : Type 0} (key : A → K) (xs : List A) (x : A) → last_key key (xs ++ x ∷ []) ≡ Some (key x)

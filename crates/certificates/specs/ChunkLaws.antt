@@ -2,10 +2,10 @@
 --     length_all      how long prints of one size are
 --     cut_prints      prints of one size are what their bytes are cut into
 --     cut_all, cut_each      the parts have all bytes, and the size
-use Rattle.std.specs.Prelude.{◌≡◌, ℕ, zero, suc, ◌+◌, ◌*◌, ◌≤◌, List, [], ◌∷◌, ◌++◌, length, take, drop, map}
+use Rattle.std.specs.Prelude.{◌≡◌, ℕ, zero, suc, ◌+◌, ◌*◌, List, [], ◌∷◌, ◌++◌, length, take, drop, map}
 use Rattle.std.specs.List.{AllByRecursion}
 use Rattle.std.specs.Simd.{first_chunks}
-use Rattle.std.proofs.Common.{refl, sym, ap, subst, ◌∙◌, length-append, append_assoc, length-take, length-drop, arith}
+use Rattle.std.proofs.Common.{refl, sym, ap, ◌∙◌, length-append, length-take, length-drop, arith}
 use Rattle.std.proofs.Math.Nat.{suc-mul, zero-mul}
 use Rattle.std.proofs.lemmas.List.{take_at, drop_at, take-append-drop}
 use Rattle.wire_bytes.specs.Layout.{HasLength}

@@ -10,7 +10,7 @@ use Rattle.std.proofs.Common.{refl}
 use Rattle.wire_bytes.specs.Layout.{number_bytes, IsNumber, text_bytes, IsText, flag_bytes, HasLength}
 use Rattle.wire_bytes.specs.Seal.{sealed}
 use Rattle.wire_bytes.specs.Breaks.{items_bytes}
-use Rattle.wire_bytes.specs.Grammar.{Grammar, field, number, magic, followed_by, Sees, seen_as, items_of, counted}
+use Rattle.wire_bytes.specs.Grammar.{Grammar, field, number, magic, followed_by, Sees, seen_as, counted}
 use Rattle.certificates.specs.Certificate.{Id, Table, Item, HostPart, PoolFile, Certificate}
 
 -- the key of the last of a list, if there is one

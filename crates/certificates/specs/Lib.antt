@@ -5,3 +5,5 @@ pub mod ChunkLaws
 pub mod Records
 pub mod SizeLaws
 pub mod PrintLaws
+pub mod Written
+pub mod WrittenLaws

@@ -3,7 +3,7 @@
 --     table_fits, host_fits, certificate_fits      what each of them fits by
 --     length-table, length-host, length-certificate      how long they are
 --     rising_ids      the keys of things that stand in order rise
-use Rattle.std.specs.Prelude.{◌≡◌, ℕ, ◌+◌, ◌*◌, Bool, true, false, List, [], ◌∷◌, ◌++◌, length, map}
+use Rattle.std.specs.Prelude.{◌≡◌, ℕ, ◌+◌, ◌*◌, true, List, [], ◌∷◌, ◌++◌, length, map}
 use Rattle.std.specs.declared.cmp.Ordering.{Ordering}
 use Rattle.std.specs.declared.cmp.Ordering.TheVariants.{Less, Equal, Greater}
 use Rattle.std.specs.Ordering.{is_lt}
@@ -15,7 +15,7 @@ use Rattle.wire_bytes.specs.Layout.{number_bytes, IsNumber, text_bytes, IsText}
 use Rattle.wire_bytes.specs.Breaks.{items_bytes, AreItems}
 use Rattle.wire_bytes.specs.Grammar.{field, followed_by, seen_as, items_of}
 use Rattle.wire_bytes.proofs.Numbers.{length-number_bytes}
-use Rattle.certificates.specs.Certificate.{Id, Table, Item, HostPart, PoolFile, Certificate}
+use Rattle.certificates.specs.Certificate.{Id, Table, HostPart, Certificate}
 use Rattle.certificates.specs.Layout.{last_key, is_after, IsNext, id_cmp, one_id_bytes, ids_bytes, AreIds, table_grammar, IsNextTable, item_bytes, IsItem, IsNextItem, host_grammar, file_bytes, IsFile, IsNextFile, certificate_magic, certificate_grammar}
 use Rattle.certificates.specs.ChunkLaws.{length_all}
 use Rattle.certificates.specs.SizeLaws.{all_fit, all_map, length-item, length-file}

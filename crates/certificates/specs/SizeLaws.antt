@@ -2,12 +2,12 @@
 --     all_fit      each of things that rise fits
 --     length-item, length-file      an item has 26 bytes, a file of the pool 43
 --     cut_items, cut_files      what their bytes are cut into
-use Rattle.std.specs.Prelude.{◌≡◌, ℕ, ◌*◌, ◌/◌, List, [], ◌∷◌, ◌++◌, length, map, Bool}
+use Rattle.std.specs.Prelude.{◌≡◌, ℕ, ◌*◌, ◌/◌, List, [], ◌∷◌, ◌++◌, length, map}
 use Rattle.std.specs.declared.cmp.Ordering.{Ordering}
 use Rattle.std.specs.Int.{w64}
 use Rattle.std.specs.Simd.{first_chunks}
 use Rattle.std.specs.List.{AllByRecursion}
-use Rattle.std.proofs.Common.{refl, sym, ap, ◌∙◌, length-append, arith}
+use Rattle.std.proofs.Common.{ap, ◌∙◌, length-append, arith}
 use Rattle.wire_bytes.specs.Layout.{number_bytes, flag_bytes}
 use Rattle.wire_bytes.specs.Breaks.{items_bytes, AreItems}
 use Rattle.wire_bytes.proofs.Numbers.{length-number_bytes}

@@ -1,5 +1,5 @@
 -- What the parts of bytes that a reader gives tell of what was read.
-use Rattle.std.specs.Prelude.{◌≡◌, ℕ, List, length, map, Result, MatchResult}
+use Rattle.std.specs.Prelude.{◌≡◌, ℕ, List, length, map, Result, MatchResult, IfOk, IfErr}
 use Rattle.wire_bytes.specs.declared.fault.FieldFault.{FieldFault}
 use Rattle.wire_bytes.specs.Reading.{Reading}
 use Rattle.wire_bytes.specs.Breaks.{items_bytes}
@@ -10,8 +10,8 @@ use Rattle.certificates.specs.declared.bytes.Run.{Run}
 use Rattle.certificates.specs.declared.bytes.TableBytes.{TableBytes}
 use Rattle.certificates.specs.declared.bytes.HostBytes.{HostBytes}
 use Rattle.certificates.specs.declared.bytes.CertificateBytes.{CertificateBytes}
-use Rattle.certificates.specs.Certificate.{Id, Table, Item, HostPart, PoolFile, Certificate}
-use Rattle.certificates.specs.Layout.{table_grammar, host_grammar, item_bytes, file_bytes}
+use Rattle.certificates.specs.Certificate.{Table, HostPart, Certificate}
+use Rattle.certificates.specs.Layout.{table_grammar, host_grammar, item_bytes, file_bytes, certificate_grammar}
 
 -- a value was read, and what is given tells it
 pub record FindsTelling {X V : Type 0} (Tells : V → X → Type 0) (grammar : Grammar V) (old : Reading) (x : X) (new : Reading) : Type 0 where
@@ -55,3 +55,8 @@ pub record IsFileOf {X : Type 0} (Tells : Certificate → X → Type 0) (grammar
 pub record IsNoFile (grammar : Grammar Certificate) (file : List ℕ) (offset : ℕ) : Type 0 where
   pub breaks : FileBreaks grammar file offset
   pub none : (certificate : Certificate) → grammar.Fits certificate → file ≡ sealed (grammar.print certificate) → ⊥
+
+-- what bytes are read as
+pub record IsRead (file : List ℕ) (result : Result CertificateBytes ℕ) : Type 0 where
+  pub ok : IfOk result (IsFileOf IsCertificate certificate_grammar file)
+  pub err : IfErr result (IsNoFile certificate_grammar file)

@@ -7,6 +7,7 @@
 #![tactic(auto)]
 
 mod bytes;
+mod laws;
 mod order;
 mod reading;
 mod records;
@@ -14,6 +15,7 @@ mod tables;
 mod writing;
 
 pub use bytes::{CertificateBytes, HostBytes, Run, TableBytes};
+pub use laws::what_is_written_is_read;
 pub use reading::{read_certificate, read_host};
 pub use tables::read_table;
 pub use writing::{put_file, put_head, put_ids, put_item, put_table};

@@ -1,10 +1,10 @@
 //! Reads hosts, and whole certificates.
 
-ghost use Rattle.std.specs.Prelude.{◌≡◌, Some, IfOk, IfErr};
+ghost use Rattle.std.specs.Prelude.{◌≡◌, Some};
 ghost use Rattle.wire_bytes.specs.Grammar.{field};
 ghost use Rattle.wire_bytes.specs.GrammarReading.{fault_offset};
 ghost use Rattle.certificates.specs.Layout.{host_grammar, hosts_grammar, certificate_grammar};
-ghost use Rattle.certificates.specs.Telling.{ReadsTelling, AreIn, IsHost, IsCertificate, IsFileOf, IsNoFile};
+ghost use Rattle.certificates.specs.Telling.{ReadsTelling, AreIn, IsHost, IsCertificate, IsRead};
 
 use crate::bytes::{CertificateBytes, HostBytes, Run};
 use crate::records::{read_items, read_pool};
@@ -105,8 +105,7 @@ fn offset_of(fault: FieldFault) -> usize
 
 /// The parts of a certificate. Refused exactly if the bytes are none, with the first offset at which they break the layout.
 pub fn read_certificate(file: &[u8]) -> Result<CertificateBytes<'_>, usize>
-    ensures ok { IfOk result (λ x. IsFileOf IsCertificate certificate_grammar file.now x) }
-    ensures err { IfErr result (λ offset. IsNoFile certificate_grammar file.now offset) }
+    ensures { IsRead file.now result }
 {
     let mut reader = match Reader::of_sealed(file) {
         Ok(reader) => reader,

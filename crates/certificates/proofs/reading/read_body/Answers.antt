@@ -1,5 +1,4 @@
 -- `RCK1`, the epoch, the hosts, and the files of the pool.
-use Rattle.std.proofs.Common.{refl}
 use Rattle.std.specs.Int.{w64}
 use Rattle.wire_bytes.specs.Layout.{IsNumber}
 use Rattle.wire_bytes.specs.Grammar.{number, followed_by}

@@ -1,4 +1,4 @@
-use Rattle.std.proofs.Common.{◌≡◌, List}
+use Rattle.std.proofs.Common.{List}
 use Rattle.wire_bytes.specs.ItemLaws.{ItemsRead}
 use Rattle.certificates.specs.Certificate.{HostPart}
 use Rattle.certificates.specs.Layout.{host_grammar}

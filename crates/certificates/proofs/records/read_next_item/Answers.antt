@@ -1,5 +1,5 @@
 -- Where none stands, or one that may not stand there.
-use Rattle.std.proofs.Common.{◌≡◌, Some, ap, refl, ◌∙◌, Option}
+use Rattle.std.proofs.Common.{Some, ap, refl, ◌∙◌, Option}
 use Rattle.wire_bytes.specs.GrammarLaws.{field_finds, field_refuses, narrow_refuses}
 use Rattle.certificates.specs.Certificate.{Id}
 use Rattle.certificates.specs.Records.{the_item}

@@ -1,11 +1,11 @@
 -- A further one, where there is none, and all of them.
-use Rattle.std.proofs.Common.{◌≡◌, ℕ, List, [], ◌∷◌, ◌++◌, length, Some, refl, ap, sym, subst, ◌∙◌, arith}
+use Rattle.std.proofs.Common.{◌≡◌, [], ◌∷◌, ◌++◌, Some, refl, ap, sym, subst, ◌∙◌}
 use Rattle.wire_bytes.specs.Reading.{Reading, Passes}
 use Rattle.wire_bytes.specs.Breaks.{items_bytes}
 use Rattle.wire_bytes.specs.Grammar.{items_of}
 use Rattle.wire_bytes.specs.GrammarLaws.{field_finds, field_refuses, then_finds, then_refuses, first_refuses, seen_finds, seen_refuses}
 use Rattle.wire_bytes.specs.ItemLaws.{items_read_none, items_read_more, items_refuse, items_find}
-use Rattle.certificates.specs.Layout.{last_key, IsNextFile, file_bytes}
+use Rattle.certificates.specs.Layout.{IsNextFile, file_bytes}
 use Rattle.certificates.specs.SizeLaws.{cut_files}
 use Rattle.certificates.proofs.Next.{last_key-snoc}
 use Rattle.certificates.proofs.records.read_pool.Goals as goal

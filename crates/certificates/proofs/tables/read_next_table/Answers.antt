@@ -1,5 +1,5 @@
 -- Where no table stands, or one that may not stand there.
-use Rattle.std.proofs.Common.{◌≡◌, Some, ap, ◌∙◌, Option, ℕ}
+use Rattle.std.proofs.Common.{Some, ap, ◌∙◌, Option, ℕ}
 use Rattle.std.specs.Ordering.{nat_cmp}
 use Rattle.wire_bytes.specs.GrammarLaws.{whole_finds, narrow_refuses}
 use Rattle.certificates.specs.Layout.{last_key, is_after, table_grammar, IsNextTable}
