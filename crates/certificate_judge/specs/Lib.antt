@@ -3,3 +3,4 @@ pub mod Verdicts
 pub mod Judging
 pub mod Right
 pub mod RightLaws
+pub mod VerdictLaws

@@ -26,3 +26,8 @@ abbrev pub IsVerdict : List ℕ → Verdict → Type 0
 IsVerdict bytes Sound = HasFaults bytes []
 IsVerdict bytes (Wrong offset number) = HasSome bytes offset number
 IsVerdict bytes (Foreign offset) = IsNoFile certificate_grammar bytes offset
+
+-- the verdict on a certificate, by its faults
+abbrev pub verdict_by : List ℕ → Verdict
+verdict_by [] = Sound
+verdict_by (offset ∷ more) = Wrong offset (length (offset ∷ more))

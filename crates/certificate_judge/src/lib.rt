@@ -13,5 +13,5 @@ mod tally;
 mod verdict;
 
 pub use judging::check_certificate;
-pub use laws::what_sound_says;
+pub use laws::{what_is_sound, what_sound_says};
 pub use verdict::Verdict;
