@@ -1,18 +1,17 @@
 -- Items that are judged a block at a time.
-use Rattle.std.specs.Prelude.{◌≡◌, ℕ, zero, suc, ◌+◌, ◌*◌, ◌<◌, ◌≤◌, ◌^◌, min, List, [], ◌∷◌, ◌++◌, length, take, drop, map}
+use Rattle.std.specs.Prelude.{◌≡◌, ℕ, zero, suc, ◌+◌, ◌*◌, ◌<◌, ◌≤◌, ◌^◌, List, [], ◌∷◌, ◌++◌, length, take, drop, map}
 use Rattle.std.specs.declared.cmp.Ordering.TheVariants.{Less}
 use Rattle.std.specs.List.{AllByRecursion}
 use Rattle.std.proofs.Common.{refl, sym, ap, subst, ◌∙◌, append_assoc, arith}
-use Rattle.std.proofs.lemmas.List.{append-nil, length-map, length-take, length-drop, length-take-le, take-append-drop}
+use Rattle.std.proofs.lemmas.List.{append-nil, length-map, length-drop, length-take-le, take-append-drop}
 use Rattle.certificates.specs.Certificate.{Id, Item, HostPart}
 use Rattle.certificates.specs.Layout.{id_cmp, item_bytes, IsItem, host_grammar}
-use Rattle.certificates.specs.Telling.{IsHost}
 use Rattle.certificates.specs.SizeLaws.{all_fit}
 use Rattle.certificates.specs.PrintLaws.{AreRising, rising_ids, host_fits}
 use Rattle.certificate_judge.specs.declared.tally.Tally.{Tally}
 use Rattle.certificate_judge.specs.Faults.{occurrences, ids_of_items, is_miscounted, wrong}
-use Rattle.certificate_judge.specs.Judging.{IsTally, AreNumbers, ids_in}
-use Rattle.certificate_judge.proofs.Parts.{ids_in-items, occurrences-bound}
+use Rattle.certificate_judge.specs.Judging.{IsTally, ids_in}
+use Rattle.certificate_judge.proofs.Parts.{ids_in-items}
 use Rattle.certificate_judge.proofs.Wrongs.{wrong-append}
 
 -- ---- parts of lists

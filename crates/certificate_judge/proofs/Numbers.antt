@@ -5,9 +5,9 @@ use Rattle.std.specs.List.{AllByRecursion}
 use Rattle.std.proofs.Common.{refl, sym, ap, subst, ◌∙◌, arith}
 use Rattle.std.proofs.lemmas.List.{take_more}
 use Rattle.std.proofs.Common.{get_or, length-set}
-use Rattle.certificates.specs.Certificate.{Id, Table}
+use Rattle.certificates.specs.Certificate.{Id}
 use Rattle.certificates.specs.Layout.{id_cmp}
-use Rattle.certificate_judge.specs.Faults.{is_same, number_of, number_in}
+use Rattle.certificate_judge.specs.Faults.{is_same, number_of}
 use Rattle.certificates.specs.PrintLaws.{AreRising}
 use Rattle.certificate_judge.specs.Judging.{AreNumbers, place, one_more, bumped}
 use Rattle.certificate_judge.proofs.Halving.{same_from_test, same_itself, apart_above, flipped, not_same}

@@ -1,8 +1,8 @@
 -- What records tell of the things whose bytes they are.
-use Rattle.std.specs.Prelude.{◌≡◌, ℕ, zero, suc, ◌+◌, ◌*◌, ◌<◌, ◌≤◌, ◌^◌, ◌==◌, ◌||◌, not, Bool, true, false, List, [], ◌∷◌, ◌++◌, length, take, drop, map, Option, Some, None, is_none, is_some, nat_eq, if◌then◌else◌}
+use Rattle.std.specs.Prelude.{◌≡◌, ℕ, zero, suc, ◌+◌, ◌*◌, ◌<◌, ◌≤◌, ◌^◌, ◌==◌, not, Bool, true, false, List, [], ◌∷◌, ◌++◌, length, take, drop, map, Option, Some, None, is_none, is_some, if◌then◌else◌}
 use Rattle.std.specs.Int.{w64, from_be_bytes, to_be_bytes}
 use Rattle.std.specs.List.{AllByRecursion}
-use Rattle.std.proofs.Common.{refl, sym, ap, subst, ◌∙◌, length-append, get_or, arith}
+use Rattle.std.proofs.Common.{refl, sym, ap, ◌∙◌, length-append, get_or, arith}
 use Rattle.std.proofs.lemmas.List.{take_at, drop_at}
 use Rattle.std.proofs.Math.Dec.{eqb-suc-zero}
 use Rattle.std.proofs.lemmas.Nat.{from_be_bytes-to_be_bytes_8}
@@ -12,7 +12,7 @@ use Rattle.wire_bytes.proofs.Numbers.{length-number_bytes}
 use Rattle.certificates.specs.Certificate.{Id, Table, Item, HostPart, PoolFile}
 use Rattle.certificates.specs.Layout.{table_grammar, item_bytes, IsItem, host_grammar, file_bytes, IsFile}
 use Rattle.certificates.specs.SizeLaws.{all_fit}
-use Rattle.certificates.specs.PrintLaws.{AreRising, rising_ids, host_fits, length-table, length-host}
+use Rattle.certificates.specs.PrintLaws.{host_fits, length-table, length-host}
 use Rattle.certificate_judge.specs.Faults.{is_same, number_of, number_in, occurrences, ids_of_items, ids_of_files}
 use Rattle.certificate_judge.specs.Judging.{place, one_more, ids_in}
 

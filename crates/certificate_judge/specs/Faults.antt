@@ -2,7 +2,7 @@
 --     the count of an item, where it isn't how often the lists of its host name its id
 --     an id in a list, where its host has no item of it, or the pool no file
 --     a digest that was found, where it isn't the one that its file is named by
-use Rattle.std.specs.Prelude.{ℕ, zero, suc, ◌+◌, ◌*◌, ◌==◌, Bool, true, false, not, ◌||◌, List, [], ◌∷◌, ◌++◌, length, take, map, nat_eq, if◌then◌else◌}
+use Rattle.std.specs.Prelude.{ℕ, ◌+◌, ◌*◌, ◌==◌, Bool, not, ◌||◌, List, [], ◌∷◌, ◌++◌, length, take, map, nat_eq, if◌then◌else◌}
 use Rattle.std.specs.Cmp.Lexicographic.{pointwise}
 use Rattle.std.specs.Int.{w8}
 use Rattle.wire_bytes.specs.Layout.{text_bytes}

@@ -3,7 +3,7 @@
 --     AreKnown, is_unknown_in      the ids of a host's items and of the pool
 --     place      where an id stands among others
 --     AreNumbers      counters that hold a number for each id
-use Rattle.std.specs.Prelude.{◌≡◌, ℕ, zero, suc, ◌+◌, ◌-◌, ◌<◌, ◌^◌, min, slice_set, slice_index, Bool, List, [], ◌∷◌, length, take, map, Option, Some, None, if◌then◌else◌}
+use Rattle.std.specs.Prelude.{◌≡◌, ℕ, ◌+◌, ◌-◌, ◌<◌, ◌^◌, min, slice_set, slice_index, Bool, List, [], ◌∷◌, length, take, map, Option, Some, None, if◌then◌else◌}
 use Rattle.certificate_judge.specs.declared.tally.Tally.{Tally}
 use Rattle.certificate_judge.specs.declared.noting.Known.{Known}
 use Rattle.certificates.specs.PrintLaws.{AreRising}

@@ -1,5 +1,5 @@
 -- Certificates of which all goes together.
-use Rattle.std.specs.Prelude.{◌≡◌, ℕ, ◌<◌, List, [], take}
+use Rattle.std.specs.Prelude.{◌≡◌, ℕ, ◌<◌, List, take}
 use Rattle.std.specs.List.{AllByRecursion}
 use Rattle.certificates.specs.Certificate.{Id, HostPart, PoolFile, Certificate}
 use Rattle.certificates.specs.Layout.{certificate_grammar, certificate_file}

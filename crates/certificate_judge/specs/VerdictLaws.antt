@@ -1,14 +1,14 @@
 -- What a verdict says of a certificate whose bytes are known.
 --     judged_by_faults      the verdict is that of its faults
 --     sound_exactly, sound_bytes      it is Sound exactly if the certificate is right
-use Rattle.std.specs.Prelude.{◌≡◌, ◌↔◌, ℕ, List, [], ◌∷◌, length}
+use Rattle.std.specs.Prelude.{◌≡◌, ◌↔◌, ℕ, List, [], ◌∷◌}
 use Rattle.std.proofs.Common.{refl, sym, ap, subst, ◌∙◌}
 use Rattle.certificates.specs.Certificate.{Certificate}
 use Rattle.certificates.specs.Layout.{certificate_grammar, certificate_file}
 use Rattle.certificate_judge.specs.declared.verdict.Verdict.{Verdict}
 use Rattle.certificate_judge.specs.declared.verdict.Verdict.TheVariants.{Sound, Wrong, Foreign}
 use Rattle.certificate_judge.specs.Faults.{faults}
-use Rattle.certificate_judge.specs.Verdicts.{HasFaults, HasSome, IsVerdict, verdict_by}
+use Rattle.certificate_judge.specs.Verdicts.{HasFaults, IsVerdict, verdict_by}
 use Rattle.certificate_judge.specs.Right.{IsRight, TellsRight}
 use Rattle.certificate_judge.specs.RightLaws.{right_from_none, none_from_right}
 

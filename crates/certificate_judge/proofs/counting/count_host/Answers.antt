@@ -1,10 +1,10 @@
 -- From zeros, the tables and then the partial.
-use Rattle.std.proofs.Common.{◌≡◌, ℕ, ◌+◌, ◌≤◌, List, [], length, take, replicate, rules, sym, ap, subst, ◌∙◌, arith}
+use Rattle.std.proofs.Common.{ℕ, ◌+◌, ◌≤◌, List, [], length, take, rules, sym, subst, arith}
 use Rattle.std.proofs.lemmas.List.{length-map}
 use Rattle.certificates.specs.Certificate.{Id}
 use Rattle.certificates.specs.SizeLaws.{all_fit}
 use Rattle.certificates.specs.PrintLaws.{host_fits}
-use Rattle.certificate_judge.specs.Faults.{number_of, number_in, occurrences}
+use Rattle.certificate_judge.specs.Faults.{number_of, number_in}
 use Rattle.certificate_judge.specs.Judging.{AreNumbers, ids_in}
 use Rattle.certificate_judge.proofs.Numbers.{numbers_alike, zeros}
 use Rattle.certificate_judge.proofs.counting.count_host.Goals as goal

@@ -1,8 +1,6 @@
 -- One id more.
-use Rattle.std.proofs.Common.{◌≡◌, ℕ, ◌+◌, ap, sym, subst, ◌∙◌, take, get_or, length, List, Option, arith}
-use Rattle.certificates.specs.Certificate.{Id}
-use Rattle.certificate_judge.specs.Faults.{is_same, number_of}
-use Rattle.certificate_judge.specs.Judging.{AreNumbers, bumped, ids_in}
+use Rattle.std.proofs.Common.{ℕ, ap, ◌∙◌, length, Option}
+use Rattle.certificate_judge.specs.Judging.{bumped, ids_in}
 use Rattle.certificate_judge.proofs.Numbers.{length-bumped, one_more_id}
 use Rattle.certificate_judge.proofs.counting.count_ids.Goals as goal
 

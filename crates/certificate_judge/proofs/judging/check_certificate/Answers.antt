@@ -1,16 +1,5 @@
 -- The verdict by the first fault.
-use Rattle.std.proofs.Common.{◌≡◌, ℕ, ◌+◌, ◌*◌, ◌<◌, ◌≤◌, ◌^◌, ◌++◌, List, [], length, sym, ap, subst, ◌∙◌, rules, arith}
-use Rattle.wire_bytes.specs.Breaks.{items_bytes}
-use Rattle.wire_bytes.specs.SealLaws.{length-sealed}
-use Rattle.certificates.specs.Certificate.{Id, Certificate}
-use Rattle.certificates.specs.Layout.{host_grammar, IsFile, certificate_grammar, certificate_file}
-use Rattle.certificates.specs.Telling.{IsCertificate}
-use Rattle.certificates.specs.declared.bytes.CertificateBytes.{CertificateBytes}
-use Rattle.certificates.specs.SizeLaws.{all_fit}
-use Rattle.certificates.specs.PrintLaws.{AreRising, certificate_fits, length-certificate}
-use Rattle.certificate_judge.specs.declared.tally.Tally.{Tally}
-use Rattle.certificate_judge.specs.Faults.{faults}
-use Rattle.certificate_judge.specs.Judging.{IsTally, ids_in}
+use Rattle.std.proofs.Common.{rules, arith}
 use Rattle.certificate_judge.proofs.Closing.{none_found, some_found, faults_few, small_file, judged_all}
 use Rattle.certificate_judge.proofs.judging.check_certificate.Goals as goal
 

@@ -1,5 +1,5 @@
 -- One block more, and all of them.
-use Rattle.std.proofs.Common.{◌≡◌, ℕ, ◌+◌, ◌*◌, ◌<◌, ◌≤◌, ◌==◌, true, List, length, sym, subst, ◌∙◌, arith, rules}
+use Rattle.std.proofs.Common.{◌≡◌, ℕ, ◌≤◌, List, length, sym, subst, ◌∙◌, arith, rules}
 use Rattle.certificates.specs.PrintLaws.{AreRising}
 use Rattle.certificate_judge.specs.Faults.{occurrences}
 use Rattle.certificate_judge.specs.Judging.{ids_in}

@@ -1,4 +1,4 @@
-use Rattle.std.proofs.Common.{◌≡◌, ℕ, ◌+◌, ◌*◌, ◌<◌, ◌^◌, List, length}
+use Rattle.std.proofs.Common.{ℕ, ◌+◌, ◌*◌, ◌<◌, ◌^◌, List, length}
 use Rattle.certificates.specs.Certificate.{HostPart}
 use Rattle.certificates.specs.Layout.{host_grammar}
 use Rattle.certificates.specs.Telling.{IsHost}

@@ -1,15 +1,15 @@
 -- Its tables, its partial and its counts, one behind the other.
-use Rattle.std.proofs.Common.{◌≡◌, ℕ, ◌+◌, ◌*◌, ◌<◌, ◌^◌, ◌++◌, List, [], length, sym, ap, subst, ◌∙◌, append_assoc, arith}
+use Rattle.std.proofs.Common.{◌≡◌, ℕ, ◌+◌, ◌++◌, List, [], length, sym, ap, subst, ◌∙◌, append_assoc, arith}
 use Rattle.std.specs.List.{AllByRecursion}
 use Rattle.std.specs.Int.{w8}
 use Rattle.wire_bytes.specs.Layout.{text_bytes}
 use Rattle.wire_bytes.specs.Breaks.{items_bytes}
 use Rattle.wire_bytes.proofs.Texts.{length-text_bytes}
-use Rattle.certificates.specs.Certificate.{Id, Item, HostPart}
-use Rattle.certificates.specs.Layout.{table_grammar, IsItem, item_bytes}
+use Rattle.certificates.specs.Certificate.{Id, Item}
+use Rattle.certificates.specs.Layout.{table_grammar, IsItem}
 use Rattle.certificates.specs.SizeLaws.{all_fit}
 use Rattle.certificates.specs.PrintLaws.{AreRising, rising_ids, host_fits, length-host}
-use Rattle.certificate_judge.specs.Faults.{is_unknown, is_miscounted, occurrences, wrong, tables_faults, host_faults, ids_of_items, tables_at, partial_at, items_at}
+use Rattle.certificate_judge.specs.Faults.{is_unknown, is_miscounted, occurrences, wrong, tables_faults, ids_of_items, tables_at, partial_at, items_at}
 use Rattle.certificate_judge.specs.Judging.{IsTally, AreKnown, ids_in}
 use Rattle.certificate_judge.proofs.Parts.{ids_in-items}
 use Rattle.certificate_judge.proofs.judging.note_host.Goals as goal

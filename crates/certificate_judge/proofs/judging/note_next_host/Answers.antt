@@ -1,5 +1,5 @@
 -- The host that stands there.
-use Rattle.std.proofs.Common.{◌≡◌, None, ℕ, ◌+◌, ◌<◌, ◌^◌, ◌++◌, List, length, sym, ap, subst, ◌∙◌, arith}
+use Rattle.std.proofs.Common.{◌≡◌, None, ℕ, ◌+◌, ◌++◌, length, ap, subst, ◌∙◌, arith}
 use Rattle.wire_bytes.specs.declared.fault.FieldFault.{FieldFault}
 use Rattle.wire_bytes.specs.declared.fault.FieldFault.TheVariants.{Ended, Foreign}
 use Rattle.wire_bytes.specs.GrammarReading.{fault_offset}

@@ -1,4 +1,4 @@
-use Rattle.std.proofs.Common.{◌≡◌, List, ℕ, ap, ◌∙◌, drop, take}
+use Rattle.std.proofs.Common.{List, ℕ, ap, ◌∙◌, drop, take}
 use Rattle.std.specs.Int.{w64, from_be_bytes}
 use Rattle.certificate_judge.proofs.Parts.{count_of_item}
 use Rattle.certificate_judge.proofs.noting.count_of.Goals as goal

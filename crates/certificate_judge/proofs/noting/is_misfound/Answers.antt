@@ -1,4 +1,4 @@
-use Rattle.std.proofs.Common.{◌≡◌, List, ℕ, not, ap, ◌∙◌, drop, take}
+use Rattle.std.proofs.Common.{List, ℕ, not, ap, ◌∙◌, drop, take}
 use Rattle.certificates.specs.Layout.{file_bytes}
 use Rattle.certificate_judge.specs.Faults.{is_same}
 use Rattle.certificate_judge.proofs.Parts.{digest_of_file, found_in_file}

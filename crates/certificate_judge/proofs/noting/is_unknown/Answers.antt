@@ -1,7 +1,7 @@
 -- What isn't among the items, or not among the files.
-use Rattle.std.proofs.Common.{◌≡◌, Bool, Option, ℕ, is_none, ap, ◌∙◌, ◌||◌, ◌==◌}
+use Rattle.std.proofs.Common.{Bool, Option, ℕ, is_none, ap, ◌∙◌, ◌||◌, ◌==◌}
 use Rattle.certificate_judge.specs.Faults.{number_of}
-use Rattle.certificate_judge.specs.Judging.{ids_in, place}
+use Rattle.certificate_judge.specs.Judging.{ids_in}
 use Rattle.certificate_judge.proofs.Parts.{told_none, none_at}
 use Rattle.certificate_judge.proofs.noting.is_unknown.Goals as goal
 

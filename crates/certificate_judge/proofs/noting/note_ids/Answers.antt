@@ -1,5 +1,5 @@
 -- One id more.
-use Rattle.std.proofs.Common.{◌≡◌, ℕ, [], length, arith}
+use Rattle.std.proofs.Common.{[], arith}
 use Rattle.certificate_judge.specs.Judging.{is_unknown_in}
 use Rattle.certificate_judge.proofs.Wrongs.{noted_more}
 use Rattle.certificate_judge.proofs.noting.note_ids.Goals as goal

@@ -1,5 +1,5 @@
 -- The table that stands there.
-use Rattle.std.proofs.Common.{◌≡◌, ℕ, ◌+◌, ◌*◌, ◌<◌, ◌^◌, ◌++◌, List, length, sym, ap, subst, ◌∙◌, arith}
+use Rattle.std.proofs.Common.{◌≡◌, ℕ, ◌+◌, ◌*◌, ◌++◌, List, length, ap, subst, ◌∙◌, arith}
 use Rattle.certificates.specs.Certificate.{Id, Table}
 use Rattle.certificates.specs.Layout.{table_grammar}
 use Rattle.certificates.specs.PrintLaws.{length-table}

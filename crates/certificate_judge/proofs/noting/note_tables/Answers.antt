@@ -1,5 +1,5 @@
 -- One table more, and all of them.
-use Rattle.std.proofs.Common.{◌≡◌, ℕ, ◌+◌, refl, sym, ap, ◌∙◌, length, arith}
+use Rattle.std.proofs.Common.{length}
 use Rattle.certificate_judge.specs.Judging.{is_unknown_in}
 use Rattle.certificate_judge.proofs.Runs.{note_more, noted_all, noting_none}
 use Rattle.certificate_judge.proofs.noting.note_tables.Goals as goal
