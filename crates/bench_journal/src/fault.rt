@@ -6,7 +6,7 @@ use std::io;
 /// Why nothing more is measured.
 #[derive(Debug, Drop)]
 pub enum Fault {
-    /// The words are not `FILES BYTES` or `FILES BYTES time`.
+    /// The words are none of `FILES BYTES`, `judge ITEMS TABLES`, and these with `time`.
     Words,
     /// A file would be changed twice by one commit.
     Twice,

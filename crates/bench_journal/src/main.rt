@@ -1,16 +1,19 @@
 //! Measures what a commit costs over a disk in memory, beside writing the same bytes once and hashing them. The words
-//! `FILES BYTES` give the sizes, and a third word `time` asks for the times; without words it runs a small size.
+//! `FILES BYTES` give the sizes, and a third word `time` asks for the times. The words `judge ITEMS TABLES`, and `time`, measure
+//! what it costs to judge a certificate. Without words it runs a small size of both.
 #![tactic(auto)]
 
 ghost use Rattle.intent_journal.specs.Changes.{AreChanges};
 
 mod changes;
 mod fault;
+mod judging;
 mod sizes;
 
 use crate::changes::changes_of;
 use crate::fault::Fault;
-use crate::sizes::{Sizes, read_sizes};
+use crate::judging::{certificate_of, is_sound};
+use crate::sizes::{Shape, Sizes, read_tasks};
 use disk_trait::{Disk, DiskRoom, MemoryDisk};
 use intent_journal::{Changes, Journal};
 use md5::{Digest, Md5};
@@ -19,11 +22,22 @@ use std::io;
 use std::time::Instant;
 
 fn main(rt: HostRuntime) -> Result<(), Fault> {
-    let sizes = read_sizes(&rt)?;
+    let tasks = read_tasks(&rt)?;
+    if let Some(sizes) = tasks.commit {
+        measure_commit(&rt, sizes)?;
+    }
+    if let Some(shape) = tasks.judge {
+        measure_judge(&rt, shape)?;
+    }
+    Ok(())
+}
+
+/// Prints what a commit costs.
+fn measure_commit(rt: &HostRuntime, sizes: Sizes) -> Result<(), Fault> {
     let changes = changes_of(rt.alloc(), sizes)?;
-    let write = time_writes(&rt, sizes, &changes)?;
-    let hash = time_hash(&rt, &changes)?;
-    let (calls, commit) = time_commit(&rt, sizes, &changes)?;
+    let write = time_writes(rt, sizes, &changes)?;
+    let hash = time_hash(rt, &changes)?;
+    let (calls, commit) = time_commit(rt, sizes, &changes)?;
     let Sizes { files, bytes, .. } = sizes;
     println!(rt; "commit: {files} files of {bytes} bytes, {calls} changes and syncs")?;
     if sizes.with_times {
@@ -31,6 +45,24 @@ fn main(rt: HostRuntime) -> Result<(), Fault> {
         println!(rt;
             "write: {write} us; hash: {hash} us; commit: {commit} us, {times} % of the write"
         )?;
+    }
+    Ok(())
+}
+
+/// Prints what it costs to judge a certificate.
+fn measure_judge(rt: &HostRuntime, shape: Shape) -> Result<(), Fault> {
+    let Shape { items, tables, .. } = shape;
+    let file = certificate_of(rt.alloc(), items, tables)?;
+    let begin = Instant::now(rt)?;
+    let _digest = Md5::digest(file.as_slice());
+    let hash = micros_since(rt, begin)?;
+    let begin = Instant::now(rt)?;
+    let sound = is_sound(file.as_slice());
+    let judge = micros_since(rt, begin)?;
+    let bytes = file.len();
+    println!(rt; "judge: {items} items, {tables} tables, {bytes} bytes, sound: {sound}")?;
+    if shape.with_times {
+        println!(rt; "hash: {hash} us; judge: {judge} us")?;
     }
     Ok(())
 }
