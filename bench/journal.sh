@@ -1,7 +1,7 @@
 #!/bin/sh
 # Measures what a commit costs over a disk in memory, by the program bench_journal: 64 files of 16,384 bytes, and 8 files
-# of 262,144 bytes, beside writing and hashing the same bytes. bench/README.md says what the lines are. Needs rt, uptime, awk
-# and python3. The first run proves the program's crates and builds it.
+# of 262,144 bytes, beside writing and hashing the same bytes; and what it costs to judge a certificate of 100,000 items and
+# 1,000,000 occurrences. bench/README.md says what the lines are. Needs rt, uptime, awk and python3. The first run proves the program's crates and builds it.
 set -eu
 
 top=$(cd "$(dirname "$0")/.." && pwd)
@@ -21,3 +21,9 @@ for size in '64 16384' '8 262144'; do
         { print }
     '
 done
+python3 -c '
+import os, sys
+pid = os.spawnv(os.P_NOWAIT, sys.argv[1], sys.argv[1:])
+_, status, usage = os.wait4(pid, 0)
+print(f"processor: {usage.ru_utime + usage.ru_stime:.2f} s for the whole run")
+sys.exit(1 if status else 0)' out/bench_journal judge 100000 1000 time

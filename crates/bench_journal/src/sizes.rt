@@ -52,9 +52,7 @@ pub fn read_tasks(rt: &HostRuntime) -> Result<Tasks, Fault> {
         [_, files, bytes] => commit_of(files, bytes, false),
         [_, first, items, tables] if first.as_str() == "judge" => judge_of(items, tables, false),
         [_, files, bytes, last] if last.as_str() == "time" => commit_of(files, bytes, true),
-        [_, first, items, tables, last]
-            if first.as_str() == "judge" && last.as_str() == "time" =>
-        {
+        [_, first, items, tables, last] if first.as_str() == "judge" && last.as_str() == "time" => {
             judge_of(items, tables, true)
         }
         _ => Err(Fault::Words),
@@ -79,7 +77,10 @@ fn commit_of(files: &String, bytes: &String, with_times: bool) -> Result<Tasks, 
 }
 
 fn judge_of(items: &String, tables: &String, with_times: bool) -> Result<Tasks, Fault> {
-    match (items.as_str().parse::<u32>(), tables.as_str().parse::<u32>()) {
+    match (
+        items.as_str().parse::<u32>(),
+        tables.as_str().parse::<u32>(),
+    ) {
         (Ok(items), Ok(tables)) => Ok(Tasks {
             commit: None,
             judge: Some(Shape {

@@ -39,9 +39,13 @@ tables_put out host = each_put table_put (count_put (out ++ text_bytes w8 host.n
 abbrev pub host_put : List ℕ → HostPart → List ℕ
 host_put out host = each_put item_put (count_put (tables_put out host ++ ids_bytes host.partial) (length host.items)) host.items
 
--- put_head, the hosts, put_u64, the files
+-- put_head, the hosts
+abbrev pub hosts_put : List ℕ → Certificate → List ℕ
+hosts_put out c = each_put host_put (head_put out c.epoch (length c.hosts)) c.hosts
+
+-- these, put_u64, the files
 abbrev pub certificate_put : List ℕ → Certificate → List ℕ
-certificate_put out c = each_put file_put (count_put (each_put host_put (head_put out c.epoch (length c.hosts)) c.hosts) (length c.pool)) c.pool
+certificate_put out c = each_put file_put (count_put (hosts_put out c) (length c.pool)) c.pool
 
 -- all of them, and the seal
 abbrev pub written : Certificate → List ℕ
