@@ -1,20 +1,21 @@
 //! Writes the parts of a certificate at the end of a buffer. A certificate is its head; each host's name (`put_text8`), number of tables
 //! (`put_u64`), tables, the partial's ids, number of items (`put_u64`) and items; the number of the pool's files (`put_u64`) and the files; and
-//! the seal (`seal`): the calls of the crate `wire_bytes` are named in brackets. `certificate_print` and `host_print` of specs/ say so. Want of
+//! the seal (`seal`): the calls of the crate `wire_bytes` are named in brackets. `written` of specs/Written says so. Want of
 //! memory leaves a part of what was to be written.
 
 ghost use Rattle.std.specs.Prelude.{◌≡◌, ◌++◌, length, OnOk};
-ghost use Rattle.std.specs.Int.{w32, w64};
-ghost use Rattle.wire_bytes.specs.Layout.{number_bytes, IsNumber};
+ghost use Rattle.std.specs.Int.{w32};
+ghost use Rattle.wire_bytes.specs.Layout.{IsNumber};
 ghost use Rattle.wire_bytes.specs.Breaks.{items_bytes};
-ghost use Rattle.certificates.specs.Layout.{certificate_magic, one_id_bytes, ids_bytes, item_bytes, file_bytes};
+ghost use Rattle.certificates.specs.Layout.{one_id_bytes, ids_bytes};
+ghost use Rattle.certificates.specs.Written.{head_put, table_put, item_put, file_put};
 
 use std::alloc::AllocError;
 use wire_bytes::{put_bytes, put_flag, put_u32, put_u64};
 
 /// Writes `RCK1`, the epoch, and the number of hosts.
 pub fn put_head(out: &mut Vec<u8>, epoch: u64, hosts: u32) -> Result<(), AllocError>
-    ensures { OnOk result (out.new.items ≡ out.old.items ++ (certificate_magic ++ (number_bytes w64 epoch ++ number_bytes w32 hosts))) }
+    ensures { OnOk result (out.new.items ≡ head_put out.old.items epoch hosts) }
 {
     put_bytes(out, b"RCK1")?;
     put_u64(out, epoch)?;
@@ -45,7 +46,7 @@ pub fn put_ids(out: &mut Vec<u8>, ids: &[[u8; 18]]) -> Result<(), AllocError>
 /// Writes a table: its number, and its ids behind theirs.
 pub fn put_table(out: &mut Vec<u8>, number: u32, ids: &[[u8; 18]]) -> Result<(), AllocError>
     requires { IsNumber w32 (length ids.now) }
-    ensures { OnOk result (out.new.items ≡ out.old.items ++ (number_bytes w32 number ++ ids_bytes ids.now)) }
+    ensures { OnOk result (out.new.items ≡ table_put out.old.items (record { number = number; ids = ids.now })) }
 {
     put_u32(out, number)?;
     put_ids(out, ids)?;
@@ -55,7 +56,7 @@ pub fn put_table(out: &mut Vec<u8>, number: u32, ids: &[[u8; 18]]) -> Result<(),
 /// Writes an item: an id, and how often a host's lists name it.
 #[tactic(auto, unfolding(crate::specs::Layout::item_bytes))]
 pub fn put_item(out: &mut Vec<u8>, id: &[u8; 18], count: u64) -> Result<(), AllocError>
-    ensures { OnOk result (out.new.items ≡ out.old.items ++ item_bytes (record { id = id.now; count = count })) }
+    ensures { OnOk result (out.new.items ≡ item_put out.old.items (record { id = id.now; count = count })) }
 {
     put_bytes(out, id)?;
     put_u64(out, count)?;
@@ -71,7 +72,7 @@ pub fn put_file(
     found: &[u8; 16],
     mark: bool,
 ) -> Result<(), AllocError>
-    ensures { OnOk result (out.new.items ≡ out.old.items ++ file_bytes (record { id = id.now; size = size; found = found.now; mark = mark })) }
+    ensures { OnOk result (out.new.items ≡ file_put out.old.items (record { id = id.now; size = size; found = found.now; mark = mark })) }
 {
     put_bytes(out, id)?;
     put_u64(out, size)?;
