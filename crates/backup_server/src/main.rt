@@ -22,11 +22,14 @@ use crate::standard_streams::StandardStreams;
 use crate::store_folder::lock_folder;
 use crate::system_clock::SystemClock;
 use admin_cli::{Done, Note, run};
-use command_line::{CommandLine, LineFault, Parsed, Work, complaint};
+use command_line::{
+    CommandLine, LineFault, Parsed, Push, Work, complaint, push_complaint, read_push,
+};
 use pool_name::Md5Namer;
+use push_work::{PushDone, push_folder};
 use real_folder::{ProgressLine, RealFolder};
 use std::alloc::AllocError;
-use std::io::{ErrorKind, Stdin, Stdout};
+use std::io::ErrorKind;
 use std::process::ExitCode;
 use std::sync::Wait;
 use std::thread::Threads;
@@ -57,10 +60,51 @@ fn read_words(rt: &HostRuntime) -> Result<Vec<String>, LineFault> {
 
 /// Does what the words ask, and gives the status.
 fn obey<H: Threads + Wait + Sync>(rt: &HostRuntime, threads: &H, words: &[String]) -> u8 {
+    match read_push(rt.alloc(), words) {
+        Ok(Some(push)) => push_to(rt, push),
+        Ok(None) => obey_store(rt, threads, words),
+        Err(fault) => refuse(rt, fault, push_complaint(rt.alloc(), words)),
+    }
+}
+
+/// Makes a folder a backup on the server at an address, and gives the status. No store is opened.
+fn push_to(rt: &HostRuntime, push: Push) -> u8 {
+    let Push {
+        to,
+        host,
+        kind,
+        folder,
+    } = push;
+    let link = match link_to(rt, to.as_str()) {
+        Ok(link) => link,
+        Err(error) => return not_made(rt, error, format_args!("the address {to} can't be reached")),
+    };
+    let mut folder = match RealFolder::open(*rt, folder.as_str()) {
+        Ok(folder) => folder,
+        Err(error) => return not_made(rt, error, format_args!("the folder can't be opened")),
+    };
+    let mut clock = SystemClock::new(*rt);
+    let mut progress = ProgressLine::new(*rt);
+    let PushDone { end, link: _ } = push_folder(
+        rt.alloc(),
+        link,
+        &mut folder,
+        host,
+        kind,
+        &mut clock,
+        &mut progress,
+    );
+    progress.finish();
+    let _ = eprintln!(rt; "{end}");
+    end.status()
+}
+
+/// Does what words ask that name a store, and gives the status.
+fn obey_store<H: Threads + Wait + Sync>(rt: &HostRuntime, threads: &H, words: &[String]) -> u8 {
     let parsed = Parsed::read(rt.alloc(), words);
     let line = match parsed.line() {
         Ok(line) => line,
-        Err(fault) => return refuse(rt, words, fault),
+        Err(fault) => return refuse(rt, fault, complaint(rt.alloc(), words)),
     };
     let settings = match read_settings(rt, line) {
         Ok(settings) => settings,
@@ -228,7 +272,7 @@ fn over_streams<H: Threads + Wait + Sync>(
     disk: FolderDisk<&H>,
     workers: Vec<TcpWorker<'_>>,
 ) -> u8 {
-    match link_of(rt) {
+    match StandardStreams::new(rt.alloc(), rt.stdin(), rt.stdout()) {
         Ok(link) => do_asked(rt, threads, parsed, settings, line, disk, link, workers),
         Err(error) => not_made(
             rt,
@@ -283,7 +327,7 @@ fn do_asked<H: Threads + Wait + Sync, L: Link + Drop>(
         &mut folder,
         &mut progress,
     );
-    if tells_how_far(&line.work) {
+    if let Work::DumpFolder { .. } | Work::RestoreFolder { .. } | Work::Pull { .. } = &line.work {
         progress.finish();
     }
     let status = end(rt, &note);
@@ -293,19 +337,6 @@ fn do_asked<H: Threads + Wait + Sync, L: Link + Drop>(
     }
     explain_doors(rt, workers.as_slice());
     status
-}
-
-/// Whether it is the work of a command that says how far it is.
-fn tells_how_far(work: &Work) -> bool {
-    matches!(
-        work,
-        Work::DumpFolder { .. } | Work::RestoreFolder { .. } | Work::Pull { .. }
-    )
-}
-
-/// Standard input and output.
-fn link_of(rt: &HostRuntime) -> io::Result<StandardStreams<Stdin, Stdout>> {
-    StandardStreams::new(rt.alloc(), rt.stdin(), rt.stdout())
 }
 
 /// Says why what the program works with can't be had, and gives the status.
@@ -326,12 +357,12 @@ fn note_of(fault: LineFault) -> Note {
 }
 
 /// Says what is wrong in the words, and how the program is called; and gives the status.
-fn refuse(rt: &HostRuntime, words: &[String], fault: LineFault) -> u8 {
+fn refuse(rt: &HostRuntime, fault: LineFault, complaint: Result<String, AllocError>) -> u8 {
     let note = note_of(fault);
     if note != Note::Usage {
         return end(rt, &note);
     }
-    match complaint(rt.alloc(), words) {
+    match complaint {
         Ok(text) => {
             let _ = eprintln!(rt; "{text}");
             note.status()

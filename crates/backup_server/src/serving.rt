@@ -1,4 +1,4 @@
-//! What `serve` works with: a listener, and workers whose doors share it. And the link of `pull`, to another server.
+//! What `serve` works with: a listener, and workers whose doors share it. And the link of `pull` and `push-folder`, to another server.
 
 use crate::system_clock::SystemClock;
 use crate::tcp_door::TcpDoor;

@@ -2,3 +2,4 @@ mod MatchesLemmas
 mod NumberLaws
 mod OptionLemmas
 mod UsageLemmas
+mod WordLemmas

@@ -141,7 +141,8 @@ usage =
     ++ (codes "       backup_server dump-folder --host H --kind full|incr --store DIR [--settings FILE] FOLDER\n"
     ++ (codes "       backup_server restore-folder --host H --number N --store DIR [--settings FILE] FOLDER\n"
     ++ (codes "       backup_server demo --store DIR [--settings FILE] NUMBER\n"
-    ++ codes "       backup_server pull --host H --from ADDR --store DIR [--settings FILE]"))))))
+    ++ (codes "       backup_server pull --host H --from ADDR --store DIR [--settings FILE]\n"
+    ++ codes "       backup_server push-folder --to ADDR --host H --kind full|incr FOLDER")))))))
 
 -- the matches of a subcommand
 abbrev pub rows_in : ArgMatches → List Row

@@ -2,6 +2,7 @@
 ghost use Rattle.std.specs.Prelude.{◌≡◌, false, IfOk};
 ghost use Rattle.clap.specs.Walk.{rule_of};
 ghost use Rattle.command_line.specs.Commands.{IsCommandOf, option_rule, required_rule, number_rule, required_number_rule, flag_rule, word_rule, number_word_rule, common_app, pipe_app, serve_app, night_app, migrate_app, host_app, dump_folder_app, restore_folder_app, demo_app, pull_app, top_app, links_app, served_app, folders_app, program_app};
+ghost use Rattle.command_line.specs.Pushes.{push_folder_app, push_app};
 
 use clap::{Arg, ArgAction, Command, value_parser};
 use std::alloc::{AllocError, Global};
@@ -191,4 +192,22 @@ pub(crate) fn program<'a>(alloc: Global) -> Result<Command<'a>, AllocError>
     folders(alloc)?
         .subcommand(demo(alloc)?)?
         .subcommand(pull(alloc)?)
+}
+
+/// `push-folder`, which names no store.
+fn push_folder<'a>(alloc: Global) -> Result<Command<'a>, AllocError>
+    ensures { IfOk result (λ c. IsCommandOf push_folder_app c) }
+{
+    Command::new(alloc, "push-folder")
+        .arg(required_option(alloc, "to"))?
+        .arg(required_option(alloc, "host"))?
+        .arg(required_option(alloc, "kind"))?
+        .arg(required_word(alloc, "folder"))
+}
+
+/// The command of the words of a push.
+pub(crate) fn push_program<'a>(alloc: Global) -> Result<Command<'a>, AllocError>
+    ensures { IfOk result (λ c. IsCommandOf push_app c) }
+{
+    top(alloc).subcommand(push_folder(alloc)?)
 }

@@ -10,7 +10,7 @@ use clap::ArgMatches;
 use std::alloc::Global;
 
 /// The host of the option `--host`.
-fn host_in(alloc: Global, found: &ArgMatches<'_>) -> Result<HostName, LineFault>
+pub(crate) fn host_in(alloc: Global, found: &ArgMatches<'_>) -> Result<HostName, LineFault>
     ensures ok { IfOk result (λ host. host_in (rows_in found.now) ≡ Some host) }
     ensures none { IfErr result (λ fault. fault ≡ LineFault.NoParse → host_in (rows_in found.now) ≡ None) }
 {
@@ -38,7 +38,7 @@ fn kind_of(text: &str) -> Option<Kind>
 }
 
 /// The kind of the option `--kind`.
-fn kind_in(found: &ArgMatches<'_>) -> Option<Kind>
+pub(crate) fn kind_in(found: &ArgMatches<'_>) -> Option<Kind>
     ensures { result ≡ kind_in (rows_in found.now) }
 {
     match text_in(found, "kind") {

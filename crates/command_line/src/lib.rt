@@ -11,7 +11,8 @@
 //! | `LineFault` | why there is no line |
 //! | `parse` | the line of some words |
 //! | `Parsed` | words with their line, which is read once |
-//! | `USAGE`, `complaint` | how the program is called, and what is said of words that are no line |
+//! | `Push`, `read_push` | the words of `push-folder`, which names no store and is read apart (`push_of`) |
+//! | `USAGE`, `complaint`, `push_complaint` | how the program is called, and what is said of words that are no line, or no push |
 //!
 //! ```text
 //! match parse(alloc, words) {
@@ -30,8 +31,10 @@ mod hosts;
 mod line;
 mod matches;
 mod parsed;
+mod pushes;
 mod usage;
 
 pub use line::{CommandLine, LineFault, Work, parse};
 pub use parsed::Parsed;
-pub use usage::{USAGE, complaint};
+pub use pushes::{Push, read_push};
+pub use usage::{USAGE, complaint, push_complaint};

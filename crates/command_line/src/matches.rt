@@ -1,17 +1,42 @@
 //! What clap found in the words.
-ghost use Rattle.std.specs.Prelude.{◌≡◌, ◌≢◌, ◌^◌, [], IfOk, IfErr, map, option_map};
+ghost use Rattle.std.specs.Prelude.{◌≡◌, ◌≢◌, ◌^◌, true, [], IfOk, IfErr, map, option_map};
 ghost use Rattle.std.specs.String.{string_bytes};
-ghost use Rattle.clap.specs.Simple.{subcommand_of, subcommand_rows_of};
-ghost use Rattle.clap.specs.Faults.{fault_of};
+ghost use Rattle.clap.specs.Simple.{app_of, is_simple, subcommand_of, subcommand_rows_of};
+ghost use Rattle.clap.specs.Faults.{fault_of, is_simple_and_free};
 ghost use Rattle.clap.specs.Walk.{first_of};
 ghost use Rattle.command_line.specs.Commands.{program_app};
+ghost use Rattle.command_line.specs.Pushes.{push_app};
 ghost use Rattle.command_line.specs.Line.{rows_in, flag_of, number_of, number_in, needed_number_in};
 
-use crate::commands::program;
+use crate::commands::{program, push_program};
 use crate::line::LineFault;
-use clap::ArgMatches;
+use clap::{ArgMatches, Command};
 use clap::error::ErrorKind;
 use std::alloc::Global;
+
+/// The matches of the words, if a simple command takes them.
+pub(crate) fn matches_by<'a>(
+    command: Command<'a>,
+    words: &'a [String],
+) -> Result<ArgMatches<'a>, LineFault>
+    requires simple { is_simple (app_of command) ≡ true }
+    requires free { is_simple_and_free (app_of command) ≡ true }
+    ensures ok { IfOk result (λ found. (fault_of (app_of command.entry) (map string_bytes words.now) ≡ [])
+        × (subcommand_of (app_of command.entry) (map string_bytes words.now) ≡ subcommand_rows_of found)) }
+    ensures none { IfErr result (λ fault. fault ≡ LineFault.NoParse
+        → fault_of (app_of command.entry) (map string_bytes words.now) ≢ []) }
+{
+    match command.try_get_matches_from(words) {
+        Ok(found) => Ok(found),
+        Err(e) => {
+            if e.kind() == ErrorKind::OutOfMemory {
+                Err(LineFault::Memory)
+            } else {
+                Err(LineFault::NoParse)
+            }
+        }
+    }
+}
 
 /// The matches of the words, where the command takes them.
 pub(crate) fn matches_of<'a>(
@@ -26,16 +51,23 @@ pub(crate) fn matches_of<'a>(
     let Ok(command) = program(alloc) else {
         return Err(LineFault::Memory);
     };
-    match command.try_get_matches_from(words) {
-        Ok(found) => Ok(found),
-        Err(e) => {
-            if e.kind() == ErrorKind::OutOfMemory {
-                Err(LineFault::Memory)
-            } else {
-                Err(LineFault::NoParse)
-            }
-        }
-    }
+    matches_by(command, words)
+}
+
+/// The matches of the words of a push, if its command takes them.
+pub(crate) fn push_matches_of<'a>(
+    alloc: Global,
+    words: &'a [String],
+) -> Result<ArgMatches<'a>, LineFault>
+    ensures ok { IfOk result (λ found. (fault_of push_app (map string_bytes words.now) ≡ [])
+        × (subcommand_of push_app (map string_bytes words.now) ≡ subcommand_rows_of found)) }
+    ensures none { IfErr result (λ fault. fault ≡ LineFault.NoParse
+        → fault_of push_app (map string_bytes words.now) ≢ []) }
+{
+    let Ok(command) = push_program(alloc) else {
+        return Err(LineFault::Memory);
+    };
+    matches_by(command, words)
 }
 
 /// The subcommand that was met: its name and its matches.

@@ -1,24 +1,31 @@
 //! What is said of words that are no line.
-ghost use Rattle.std.specs.Prelude.{◌≡◌, ◌++◌, [], List, ℕ, IfOk, map};
+ghost use Rattle.std.specs.Prelude.{◌≡◌, ◌++◌, true, [], List, ℕ, IfOk, map};
 ghost use Rattle.std.specs.String.{string_bytes};
-ghost use Rattle.clap.specs.Faults.{fault_of};
+ghost use Rattle.clap.specs.Faults.{fault_of, is_simple_and_free};
+ghost use Rattle.clap.specs.Simple.{app_of};
 ghost use Rattle.command_line.specs.Commands.{program_app};
 ghost use Rattle.command_line.specs.Line.{usage};
+ghost use Rattle.command_line.specs.Pushes.{push_app};
 
-use crate::commands::program;
+use crate::commands::{program, push_program};
+use clap::Command;
 use clap::error::ErrorKind;
 use std::alloc::{AllocError, Global};
 
 /// How the program is called.
 pub const USAGE: &str =
-    "usage: backup_server pipe --store DIR [--settings FILE]\n       backup_server serve --listen ADDR [--connections N] --store DIR [--settings FILE]\n       backup_server night [--scheduled] --store DIR [--settings FILE]\n       backup_server migrate --store DIR [--settings FILE]\n       backup_server dump-folder --host H --kind full|incr --store DIR [--settings FILE] FOLDER\n       backup_server restore-folder --host H --number N --store DIR [--settings FILE] FOLDER\n       backup_server demo --store DIR [--settings FILE] NUMBER\n       backup_server pull --host H --from ADDR --store DIR [--settings FILE]";
+    "usage: backup_server pipe --store DIR [--settings FILE]\n       backup_server serve --listen ADDR [--connections N] --store DIR [--settings FILE]\n       backup_server night [--scheduled] --store DIR [--settings FILE]\n       backup_server migrate --store DIR [--settings FILE]\n       backup_server dump-folder --host H --kind full|incr --store DIR [--settings FILE] FOLDER\n       backup_server restore-folder --host H --number N --store DIR [--settings FILE] FOLDER\n       backup_server demo --store DIR [--settings FILE] NUMBER\n       backup_server pull --host H --from ADDR --store DIR [--settings FILE]\n       backup_server push-folder --to ADDR --host H --kind full|incr FOLDER";
 
-/// clap's own message of what is wrong in the words, and nothing of words that it takes. What it says of others is in no clause, since
-/// the `Display` of clap's error states no text.
-fn message_of(alloc: Global, words: &[String]) -> Result<String, AllocError>
-    ensures { fault_of program_app (map string_bytes words.now) ≡ [] → IfOk result (λ text. string_bytes text ≡ []) }
+/// clap's own message of what is wrong in words of a simple command, and nothing of words that it takes. What it says of others is in no
+/// clause, since the `Display` of clap's error states no text.
+fn message_by<'a>(
+    alloc: Global,
+    command: Command<'a>,
+    words: &'a [String],
+) -> Result<String, AllocError>
+    requires free { is_simple_and_free (app_of command) ≡ true }
+    ensures { fault_of (app_of command.entry) (map string_bytes words.now) ≡ [] → IfOk result (λ text. string_bytes text ≡ []) }
 {
-    let command = program(alloc)?;
     match command.try_get_matches_from(words) {
         Ok(_) => Ok(String::new(alloc)),
         Err(error) => {
@@ -45,6 +52,15 @@ pub fn complaint(alloc: Global, words: &[String]) -> Result<String, AllocError>
     ensures usage { IfOk result (λ text. (message : List ℕ) × (string_bytes text ≡ message ++ usage)) }
     ensures taken { fault_of program_app (map string_bytes words.now) ≡ [] → IfOk result (λ text. string_bytes text ≡ usage) }
 {
-    let message = message_of(alloc, words)?;
+    let message = message_by(alloc, program(alloc)?, words)?;
+    with_usage(message)
+}
+
+/// The same of words of a push that ask for none.
+pub fn push_complaint(alloc: Global, words: &[String]) -> Result<String, AllocError>
+    ensures usage { IfOk result (λ text. (message : List ℕ) × (string_bytes text ≡ message ++ usage)) }
+    ensures taken { fault_of push_app (map string_bytes words.now) ≡ [] → IfOk result (λ text. string_bytes text ≡ usage) }
+{
+    let message = message_by(alloc, push_program(alloc)?, words)?;
     with_usage(message)
 }
