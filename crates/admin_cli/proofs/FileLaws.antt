@@ -51,7 +51,7 @@ module _ {D N S : Type 0} {d : DiskGhosts D} {n : NamerGhosts N S} where
       → IsLast (R.Damaged file found) calls → IsDamagedFile (told new.parts.journal) file
   last_damaged old new calls file found served last =
       let parts = split old new last.before ((last.event, Err (R.Damaged file found)) ∷ [])
-          (subst (λ (cs : List Call). AreServed old cs new) last.parts served) in
+      (subst (λ (cs : List Call). AreServed old cs new) last.parts served) in
       subst (λ (s : Store D N S d n). IsDamagedFile (told s.parts.journal) file) (sym parts.rest.2)
       (any_damaged last.event (told parts.rest.0.parts.journal) file
       (damaged_file parts.mid parts.rest.0 last.event file found last.names parts.rest.1))
@@ -60,6 +60,6 @@ module _ {D N S : Type 0} {d : DiskGhosts D} {n : NamerGhosts N S} where
       → IsAborted (R.Damaged file found) calls → IsDamagedFile (told new.parts.journal) file
   aborted_damaged old new calls file found served aborted =
       let parts = split old new aborted.made ((E.Abort aborted.dump, aborted.reply) ∷ [])
-          (subst (λ (cs : List Call). AreServed old cs new) aborted.parts served) in
+      (subst (λ (cs : List Call). AreServed old cs new) aborted.parts served) in
       subst (λ (seen : Option _). IsDamagedFile seen file) (sym (abort_told parts.mid new aborted.dump aborted.reply parts.rest))
       (last_damaged old parts.mid aborted.made file found parts.first aborted.last)

@@ -142,7 +142,9 @@ where
         ),
         Work::Demo { number } => run_demo(alloc, *number, disk, namer, link).with_workers(workers),
         Work::Pull { host, from: _ } => {
-            run_pull(alloc, host, settings, disk, namer, clock, link, progress).with_workers(workers)
+            run_pull(alloc, host, settings, disk, namer, clock, link, progress).with_workers(
+                workers,
+            )
         }
         Work::Serve {
             listen: _,

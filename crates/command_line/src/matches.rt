@@ -10,8 +10,8 @@ ghost use Rattle.command_line.specs.Line.{rows_in, flag_of, number_of, number_in
 
 use crate::commands::{program, push_program};
 use crate::line::LineFault;
-use clap::{ArgMatches, Command};
 use clap::error::ErrorKind;
+use clap::{ArgMatches, Command};
 use std::alloc::Global;
 
 /// The matches of the words, if a simple command takes them.

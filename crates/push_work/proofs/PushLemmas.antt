@@ -93,7 +93,7 @@ pub pushes : {F : Type 0} (f : FolderGhosts F) (link link' wire : LinkSeen) (fol
 pushes f link link' wire folder folder' moments moments' kind host end p q result port first dumps port_is wire_is behind why same counted
     end_is =
     let d : Dumps Asks (open_at link) q (f.tree folder) moments moments' kind host result =
-        subst (λ (c : Connection). Dumps Asks c q (f.tree folder) moments moments' kind host result) first dumps in
+    subst (λ (c : Connection). Dumps Asks c q (f.tree folder) moments moments' kind host result) first dumps in
     let near : IsBehindWire q.seen link' = subst (λ (s : LinkSeen). IsBehindWire s link') wire_is behind in
     record {
       result = result;
