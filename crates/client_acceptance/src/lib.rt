@@ -1,4 +1,4 @@
-//! Tests of the client's end of HTTP, alone and against the server's end, and of what it asks and reads. They use only what the crates show, and stand apart from them,
+//! Tests of the client's end of HTTP, alone and against the server's end, of what it asks and reads, and of the words of a push. They use only what the crates show, and stand apart from them,
 //! so that each crate is proved once.
 #![tactic(auto)]
 
@@ -8,5 +8,7 @@ mod http_client_tests;
 mod peer_tests;
 #[cfg(test)]
 mod pull_texts_tests;
+#[cfg(test)]
+mod push_words_tests;
 #[cfg(test)]
 mod remote_port_tests;
