@@ -114,6 +114,12 @@ ln -s root/usr/local/bin/turretgage linked
 ./linked pipe "--store=$room/store" </dev/null >said 2>&1
 [ $? = "$status" ]
 expect 'by a link, and with --store=DIR'
+"$program" push-folder </dev/null >want 2>&1
+status=$?
+root/usr/local/bin/turretgage push-folder </dev/null >said 2>&1
+[ $? = "$status" ]
+expect 'turretgage push-folder ends as the program'
+alike 'and says what that says of its words'
 if command -v python3 >/dev/null; then
     root/usr/local/bin/turretgage --version >said 2>&1
     "$top/clients/turretgage" --version >want 2>&1
