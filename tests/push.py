@@ -93,7 +93,6 @@ class Folder:
                 self.write(place / f"f {other}")
             os.symlink(f"f {number}", place / "link")
             (place / "empty").mkdir()
-        os.mkdir(os.fsencode(self.root) + b"/no text \xff")
         (self.root / "d0").chmod(0o700)
 
     def write(self, path):
@@ -134,7 +133,8 @@ def worked(program, room):
 
 
 def refused(program, room):
-    """An unknown host; an incremental push without a base; a dump that is open; a file that is too large; no folder; nobody who listens."""
+    """An unknown host; an incremental push without a base; a dump that is open; names that can't be asked for; a file that is too large; no folder;
+    nobody who listens."""
     server, folder = Server(program, f"{room}/store"), f"{room}/folder"
     os.mkdir(folder)
     expect("a host that isn't there", push(program, server.port, folder), (1, "refused NoHost"))
@@ -143,6 +143,11 @@ def refused(program, room):
     dump = json.loads(server.want(201, "POST", "/hosts/pc1/dumps?kind=full"))["dump"]
     expect("an open dump", push(program, server.port, folder), (1, "refused SessionOpen"))
     server.want(200, "DELETE", f"/dumps/{dump}")
+    for name, said in ((b"no text \xff", "BadPath"), ("told as no text \ufffd".encode(), "NoPath")):
+        path = os.path.join(os.fsencode(folder), name)
+        os.mkdir(path)
+        expect(f"the name {name}", push(program, server.port, folder), (1, f"refused {said}"))
+        os.rmdir(path)
     with open(f"{folder}/large", "wb") as file:
         file.truncate(67_108_865)
     expect("a file too large", push(program, server.port, folder), (1, "refused FileTooLarge"))

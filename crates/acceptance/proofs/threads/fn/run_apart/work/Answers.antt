@@ -6,6 +6,3 @@ run-requires-send-D g c κs within = search sendable
 
 pub run-requires-send-C : goal.run-requires-send-C
 run-requires-send-C g c κs within = search sendable
-
-pub run-requires-send-L : goal.run-requires-send-L
-run-requires-send-L g c κs within = search sendable
