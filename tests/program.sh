@@ -70,7 +70,8 @@ usage='usage: backup_server pipe --store DIR [--settings FILE]
        backup_server dump-folder --host H --kind full|incr --store DIR [--settings FILE] FOLDER
        backup_server restore-folder --host H --number N --store DIR [--settings FILE] FOLDER
        backup_server demo --store DIR [--settings FILE] NUMBER
-       backup_server pull --host H --from ADDR --store DIR [--settings FILE]'
+       backup_server pull --host H --from ADDR --store DIR [--settings FILE]
+       backup_server push-folder --to ADDR --host H --kind full|incr FOLDER'
 : >in
 : >want
 
