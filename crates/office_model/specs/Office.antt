@@ -16,6 +16,7 @@ use Rattle.receipts.specs.Receipts.{receipt_limit}
 use Rattle.receipts.specs.Session.{is_same_session}
 use Rattle.office_model.specs.Places.{AtEach, Differ}
 use Rattle.office_model.specs.Pool.{Pool, byte_cmp, is_pooled, is_same_content, holds}
+use Rattle.office_model.specs.Ids.{Ids}
 
 pub record Backup : Type 0 where
   pub line : Line
@@ -70,11 +71,12 @@ pub record Reader : Type 0 where
   pub content : List ℕ
   pub position : ℕ
 
--- what the disk keeps: hosts in order of adding, and the pool
+-- what the disk keeps: hosts in order of adding, the pool, and the ids of its contents
 pub record Durable : Type 0 where
   pub epoch : ℕ
   pub hosts : List Host
   pub pool : Pool
+  pub ids : Ids
 
 -- what is open in this epoch: dumps, restores, stages and readers in order of opening, and the number of the next session
 pub record Volatile : Type 0 where
@@ -100,7 +102,7 @@ pub record Names : Type 0 where
   pub old_hosts : List ℕ
 
 abbrev pub blank : Durable
-blank = record { epoch = 0; hosts = []; pool = [] }
+blank = record { epoch = 0; hosts = []; pool = []; ids = [] }
 
 abbrev pub nothing_open : Volatile
 nothing_open = record { dumps = []; restores = []; stages = []; readers = []; sequence = 0 }
@@ -120,6 +122,9 @@ with_hosts office hosts = record office { durable = record office.durable { host
 
 abbrev pub with_pool : Office → Pool → Office
 with_pool office pool = record office { durable = record office.durable { pool = pool } }
+
+abbrev pub with_ids : Office → Ids → Office
+with_ids office ids = record office { durable = record office.durable { ids = ids } }
 
 abbrev pub with_dumps : Office → List Dump → Office
 with_dumps office dumps = record office { volatile = record office.volatile { dumps = dumps } }

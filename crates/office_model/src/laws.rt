@@ -5,6 +5,7 @@ ghost use Rattle.office_model.specs.Meaning.{Reply};
 ghost use Rattle.office_model.specs.Step.{State, meaning_of, IsStep, IsSoundState};
 ghost use Rattle.office_model.specs.Partials.{PartialsStay, ParkedIsPartial, ResumedIsPartial, ParkedReads};
 ghost use Rattle.office_model.specs.Tokens.{ReceiptsDiffer, OpeningByReceipt, OpeningByDump, CommitByReceipt, OkRepeats, PutByToken, RemoveByToken, FirstAlone};
+ghost use Rattle.office_model.specs.KeptIds.{IdsStay};
 ghost use Rattle.office_model.specs.OldTables.{NoneJoins, NoneJoinsLater, MigratedIsNone};
 ghost use Rattle.office_model.specs.laws.Lawful.{IsLawful};
 
@@ -29,6 +30,11 @@ pub fn what_is_parked_is_resumed()
     ensures parked { ParkedIsPartial }
     ensures resumed { ResumedIsPartial }
     ensures reads { ParkedReads }
+{}
+
+/// A pooled content keeps its name while it is pooled.
+pub fn a_pooled_content_keeps_its_name()
+    ensures { IdsStay }
 {}
 
 /// Among the receipts of a host no two have one token, in every legal history.

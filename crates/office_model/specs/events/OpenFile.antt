@@ -1,5 +1,5 @@
 -- A reader of the bytes of a file of a backup. Its number is that of the next reader, which rises.
-use Rattle.std.specs.Prelude.{ℕ, List, [], ◌∷◌, ◌++◌, length, Ok, nat_le}
+use Rattle.std.specs.Prelude.{ℕ, false, List, [], ◌∷◌, ◌++◌, length, Ok, nat_le}
 use Rattle.office_model.specs.declared.answer.Answer.TheVariants.{Opened}
 use Rattle.office_model.specs.declared.answer.AnswerKind.TheVariants.{Opened as OpenedKind}
 use Rattle.office_model.specs.declared.refusal.BrokenRule.TheVariants.{NumbersSpent}
@@ -34,4 +34,5 @@ meaning name number path = record {
   touches = λ office names. Reads;
   renames = NextReader;
   faulted = λ office. office;
+  pools = false;
 }

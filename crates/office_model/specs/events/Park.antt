@@ -1,6 +1,6 @@
 -- An open dump's kind, start and tree become its host's partial, in the place of an earlier one, and its contents are in the pool,
 -- unmarked. The dump stays open.
-use Rattle.std.specs.Prelude.{List, Option, Some, Ok, slice_get, slice_set}
+use Rattle.std.specs.Prelude.{true, List, Option, Some, Ok, slice_get, slice_set}
 use Rattle.receipts.specs.declared.session.SessionName.{SessionName}
 use Rattle.office_model.specs.declared.answer.Answer.TheVariants.{Done}
 use Rattle.office_model.specs.declared.answer.AnswerKind.TheVariants.{Done as DoneKind}
@@ -36,4 +36,4 @@ carried session office = do
   Ok (record { answer = Done; after = with_pool (with_hosts office parts.hosts) parts.pool })
 
 abbrev pub meaning : SessionName → Meaning
-meaning session = means (carried session) DoneKind ReadsAndCommits
+meaning session = record (means (carried session) DoneKind ReadsAndCommits) { pools = true }

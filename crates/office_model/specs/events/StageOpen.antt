@@ -1,5 +1,5 @@
 -- A stage of an open dump, with no bytes. Its number is that of the next stage, which rises.
-use Rattle.std.specs.Prelude.{ℕ, List, [], ◌∷◌, ◌++◌, Ok, nat_le}
+use Rattle.std.specs.Prelude.{ℕ, false, List, [], ◌∷◌, ◌++◌, Ok, nat_le}
 use Rattle.receipts.specs.declared.session.SessionName.{SessionName}
 use Rattle.office_model.specs.declared.answer.Answer.TheVariants.{Stage as Opened}
 use Rattle.office_model.specs.declared.answer.AnswerKind.TheVariants.{Stage as OpenedKind}
@@ -30,4 +30,5 @@ meaning session = record {
   touches = λ office names. Nothing;
   renames = NextStage;
   faulted = λ office. office;
+  pools = false;
 }

@@ -45,6 +45,8 @@ lawful session office names c sound e =
     does _ office names sound _ c a.2 (record {
       in_kind = refl;
       sound = IsSound-without_dump office session a.0 sound.office a.1;
+      ids = refl;
+      contents = λ stays. refl;
       numbers = record {
         stages = AtEach-filter (λ (s : Stage). s.number < names.next_stage) (λ (s : Stage). not (is_same_session s.dump session)) office.stages sound.names.given.stages;
         readers = sound.names.given.readers;

@@ -155,6 +155,8 @@ lawful bucket office names c sound e =
     does _ office names sound _ c a.1 (record {
       in_kind = refl;
       sound = IsSound-cleaned office (in_bucket names.digest_of bucket) sound.office;
+      ids = refl;
+      contents = λ stays. absurd (cc);
       numbers = sound.names.given;
       held = λ content h. held_by content office Same _ office.dumps
           (λ g. was_pooled content office Same (pooled-cleaned content (in_bucket names.digest_of bucket) (is_protected office.hosts office.dumps office.restores office.readers) office.pool g))

@@ -196,6 +196,8 @@ ended_does session ending office names c well sound e =
     does _ office names sound _ c a.2 (record {
       in_kind = refl;
       sound = IsSound-committed office session ending a.0 well sound.office a.1;
+      ids = refl;
+      contents = λ stays. absurd (cc);
       numbers = record {
         stages = AtEach-filter (λ (s : Stage). s.number < names.next_stage) (λ (s : Stage). not (is_same_session s.dump session)) office.stages sound.names.given.stages;
         readers = sound.names.given.readers;

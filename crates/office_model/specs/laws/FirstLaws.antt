@@ -15,7 +15,7 @@ use Rattle.office_model.specs.declared.event.PutItem.{PutItem}
 use Rattle.office_model.specs.declared.event.PutItem.TheVariants.{Whole, Staged}
 use Rattle.office_model.specs.declared.refusal.BrokenRule.TheVariants.{TokensFull}
 use Rattle.office_model.specs.Places.{Differ}
-use Rattle.office_model.specs.Office.{Office, Dump, Names, IsSound, IsGiven, stage_content, token_limit}
+use Rattle.office_model.specs.Office.{Office, Dump, Names, IsSound, IsGiven, with_ids, stage_content, token_limit}
 use Rattle.office_model.specs.Meaning.{Carried, Judged, Reply}
 use Rattle.office_model.specs.Parts.{At, dump_at}
 use Rattle.office_model.specs.UsedNames.{Among}
@@ -29,6 +29,7 @@ use Rattle.office_model.specs.laws.Lawful.{judged}
 use Rattle.office_model.specs.laws.HeldLaws.{any_found}
 use Rattle.office_model.specs.laws.PutLaws.{may_put, may_put_stage}
 use Rattle.office_model.specs.laws.RepeatLaws.{given_as, again_is, same_token}
+use Rattle.office_model.specs.laws.IdLaws.{made_as, IsSound-ids}
 use Rattle.office_model.specs.laws.KeptLaws.{Follows, follows, IsSpent, SpentIn, put_left, not_renewing, edit_renames, stay_fails, alone}
 
 -- ---- places after a write
@@ -203,7 +204,8 @@ module _ (session : SessionName) (token : Token) where
   first_spent : (state : State) (event : Event) (reply : Reply) (new : State) (answer : Answer) → IsSoundState state → IsSoundState new
       → IsEdit event session token → reply ≡ Ok answer → IsStep state event reply new → SpentIn new session token
   first_spent (Running old names) event (Ok given) (Running new n) answer sound after edit ok step =
-      edit_spent event old names (given_as given new) edit sound.office after.office step.0
+      let w = made_as (meaning_of event).pools names old ((meaning_of event).carried old names) given new step.0 in
+      edit_spent event old names (given_as given (with_ids new w.0)) edit sound.office (IsSound-ids (with_ids new w.0) new.ids after.office) w.1
   first_spent (Running old names) event (Ok given) (Halted before next n) answer sound after edit ok step = absurd step.0
   first_spent (Running old names) event (Err refusal) new answer sound after edit ok step = absurd (cc)
   first_spent (Halted before next names) event reply new answer sound after edit ok step =

@@ -9,15 +9,16 @@ use Rattle.receipts.specs.declared.session.Token.{Token}
 use Rattle.office_model.specs.declared.answer.Answer.{Answer}
 use Rattle.office_model.specs.declared.answer.Answer.TheVariants.{Done, Reopened}
 use Rattle.office_model.specs.declared.event.Event.{Event}
-use Rattle.office_model.specs.declared.event.Event.TheVariants.{AddHost, SetRules, OpenDump, Put, Remove, StageOpen, StagePiece, StageDrop, Commit, Adopt, Abort, Park, Resume, DropPartial, PartialInfo, List as ListEvent, Lookup, ReadFile, OpenFile, ReadPart, CloseFile, OpenRead, ReadNext, CloseRead, Keep, Delete, Expire, Migrate, Contact, Due, Clean, Sweep, Stats, Hosts, Backups, Reopen}
+use Rattle.office_model.specs.declared.event.Event.TheVariants.{AddHost, SetRules, OpenDump, Put, Remove, StageOpen, StagePiece, StageDrop, Commit, Adopt, Abort, Park, Resume, DropPartial, PartialInfo, List as ListEvent, Lookup, ReadFile, OpenFile, ReadPart, CloseFile, OpenRead, ReadNext, CloseRead, Keep, Delete, Expire, Migrate, Contact, Due, Clean, Sweep, Stats, Hosts, Backups, PoolList, PoolPiece, Reopen}
 use Rattle.office_model.specs.declared.event.PutItem.{PutItem}
 use Rattle.office_model.specs.declared.event.PutItem.TheVariants.{Whole, Staged}
-use Rattle.office_model.specs.declared.refusal.BrokenRule.TheVariants.{BadBucket, NumbersSpent, NoSession, TokensFull}
+use Rattle.office_model.specs.declared.refusal.BrokenRule.TheVariants.{BadBucket, NumbersSpent, NoSession, NoContent, TokensFull}
 use Rattle.office_model.specs.declared.refusal.Refusal.TheVariants.{Broken, Halted as HaltedReply, DiskFault, Damaged, Memory}
 use Rattle.attr_records.specs.Trees.{node_at}
 use Rattle.backup_rules.specs.declared.lines.Kind.{Kind}
 use Rattle.office_model.specs.Places.{in_longer, in_set, slice_get-remove, place_before, slice_get-longer}
-use Rattle.office_model.specs.Office.{Office, Dump, Names, Durable, raised, reopened, stage_content, last_sequence, piece_limit, token_limit}
+use Rattle.office_model.specs.Ids.{content_at}
+use Rattle.office_model.specs.Office.{Office, Dump, Names, Durable, raised, reopened, with_ids, stage_content, last_sequence, piece_limit, token_limit}
 use Rattle.office_model.specs.Meaning.{Meaning, Carried, Judged, Reply, Touch, Nothing, Reads, Stages, Removes, Commits, ReadsAndCommits, Reopens, NameChange, Renews, found}
 use Rattle.office_model.specs.Parts.{At, dump_at, host_at}
 use Rattle.office_model.specs.UsedNames.{Among}
@@ -26,12 +27,13 @@ use Rattle.office_model.specs.events
 use Rattle.office_model.specs.events.PartialInfo.{partial_at}
 use Rattle.office_model.specs.events.OpenDump.{next_session, new_dump, bearing}
 use Rattle.office_model.specs.events.Put.{is_chain_full, name_change}
-use Rattle.office_model.specs.Step.{State, Running, Halted, MayHalt, IsReply, meaning_of, IsPicked, IsLeft, IsHaltedReopen, IsHaltedReply, IsStay, IsStep}
+use Rattle.office_model.specs.Step.{State, Running, Halted, IsNext, MayHalt, IsReply, meaning_of, IsPicked, IsLeft, IsHaltedReopen, IsHaltedReply, IsStay, IsStep}
 use Rattle.office_model.specs.History.{Entry, IsHistory, last_state}
 use Rattle.office_model.specs.Tokens.{IsEdit, SameDumps}
 use Rattle.office_model.specs.laws.Judging.{bound, passed, at_is}
 use Rattle.office_model.specs.laws.Lookups.{named}
 use Rattle.office_model.specs.laws.StepLaws.{faulted_is}
+use Rattle.office_model.specs.laws.IdLaws.{made_as, next_as}
 use Rattle.office_model.specs.laws.TokenLaws.{once_repeats}
 use Rattle.office_model.specs.laws.Lawful.{judged}
 use Rattle.office_model.specs.laws.OpenDumpLaws.{may_open}
@@ -356,6 +358,9 @@ follows Stats office names c reopen e = alike office _ c e refl (no_less office.
 follows Hosts office names c reopen e = alike office _ c e refl (no_less office.sequence) refl
 follows (Backups name) office names c reopen e =
     let a = bound (events.Backups.overview name office.hosts office.dumps) _ c e in alike office _ c a.2 refl (no_less office.sequence) refl
+follows (PoolList part) office names c reopen e = alike office _ c e refl (no_less office.sequence) refl
+follows (PoolPiece id from) office names c reopen e =
+    let a = bound (found NoContent (content_at office.ids id)) _ c e in alike office _ c a.2 refl (no_less office.sequence) refl
 follows Reopen office names c reopen e = absurd (cc)
 
 -- ---- states
@@ -432,17 +437,23 @@ module _ (session : SessionName) (token : Token) where
   moved_kept : (before after : Durable) → after ≡ before → OfKept before → OfKept after
   moved_kept before after same has = subst OfKept (sym same) has
 
-  between : (old : Office) (before next : Durable) (touch : Touch) (carried : Judged Carried) → OfKept old.durable
-      → ((c : Carried) → carried ≡ Ok c → OfKept c.after.durable) → MayHalt touch old carried before next → OfKept before × OfKept next
-  between old before next Nothing carried has carries may = absurd may
-  between old before next Reads carried has carries may = absurd may
-  between old before next Stages carried has carries may = absurd may
-  between old before next Removes carried has carries may = absurd may
-  between old before next Commits (Ok c) has carries may = (moved_kept old.durable before may.0 has, moved_kept c.after.durable next may.1 (carries c refl))
-  between old before next Commits (Err rule) has carries may = absurd may
-  between old before next ReadsAndCommits (Ok c) has carries may = (moved_kept old.durable before may.0 has, moved_kept c.after.durable next may.1 (carries c refl))
-  between old before next ReadsAndCommits (Err rule) has carries may = absurd may
-  between old before next Reopens carried has carries may = (moved_kept old.durable before may.0 has, step may.1)
+  -- what the disk would have is what was made, but for the ids
+  next_kept : (pools : Bool) (names : Names) (old made next : Durable) → IsNext pools names old made next → OfKept made → OfKept next
+  next_kept pools names old made next is has = let w = next_as pools names old made next is in moved_kept made (record next { ids = w.0 }) w.1 has
+
+  between : (pools : Bool) (names : Names) (old : Office) (before next : Durable) (touch : Touch) (carried : Judged Carried) → OfKept old.durable
+      → ((c : Carried) → carried ≡ Ok c → OfKept c.after.durable) → MayHalt touch pools names old carried before next → OfKept before × OfKept next
+  between pools names old before next Nothing carried has carries may = absurd may
+  between pools names old before next Reads carried has carries may = absurd may
+  between pools names old before next Stages carried has carries may = absurd may
+  between pools names old before next Removes carried has carries may = absurd may
+  between pools names old before next Commits (Ok c) has carries may =
+      (moved_kept old.durable before may.0 has, next_kept pools names old.durable c.after.durable next may.1 (carries c refl))
+  between pools names old before next Commits (Err rule) has carries may = absurd may
+  between pools names old before next ReadsAndCommits (Ok c) has carries may =
+      (moved_kept old.durable before may.0 has, next_kept pools names old.durable c.after.durable next may.1 (carries c refl))
+  between pools names old before next ReadsAndCommits (Err rule) has carries may = absurd may
+  between pools names old before next Reopens carried has carries may = (moved_kept old.durable before may.0 has, step may.1)
     where
       step : (next ≡ old.durable) ⊎ (next ≡ raised old.durable) → OfKept next
       step (inl e) = moved_kept old.durable next e has
@@ -450,17 +461,18 @@ module _ (session : SessionName) (token : Token) where
 
   spent_reply : (old : Office) (names : Names) (meaning : Meaning) (reply : Reply) (new : State) → OfOffice old → OfOffice (meaning.faulted old)
       → ((c : Carried) → meaning.carried old names ≡ Ok c → OfOffice c.after) → IsReply old names meaning reply new → SpentIn new session token
-  spent_reply old names meaning (Ok answer) (Running new n) has fault carries is = carries (given_as answer new) is
+  spent_reply old names meaning (Ok answer) (Running new n) has fault carries is =
+      let w = made_as meaning.pools names old (meaning.carried old names) answer new is in carries (given_as answer (with_ids new w.0)) w.1
   spent_reply old names meaning (Ok answer) (Halted before next n) has fault carries is = absurd is
   spent_reply old names meaning (Err (Broken rule)) (Running new n) has fault carries is = moved old new is.1 has
   spent_reply old names meaning (Err (Broken rule)) (Halted before next n) has fault carries is = absurd is
   spent_reply old names meaning (Err HaltedReply) new has fault carries is = absurd is
   spent_reply old names meaning (Err DiskFault) (Running new n) has fault carries is = moved (meaning.faulted old) new is.2 fault
   spent_reply old names meaning (Err DiskFault) (Halted before next n) has fault carries is =
-      between old before next (meaning.touches old names) (meaning.carried old names) has.past (λ c e. (carries c e).past) is
+      between meaning.pools names old before next (meaning.touches old names) (meaning.carried old names) has.past (λ c e. (carries c e).past) is
   spent_reply old names meaning (Err (Damaged file bytes)) (Running new n) has fault carries is = moved old new is.2 has
   spent_reply old names meaning (Err (Damaged file bytes)) (Halted before next n) has fault carries is =
-      between old before next Reopens (meaning.carried old names) has.past (λ c e. (carries c e).past) is.1
+      between meaning.pools names old before next Reopens (meaning.carried old names) has.past (λ c e. (carries c e).past) is.1
   spent_reply old names meaning (Err Memory) (Running new n) has fault carries is = moved old new is has
   spent_reply old names meaning (Err Memory) (Halted before next n) has fault carries is = absurd is
 
@@ -541,7 +553,9 @@ module _ (session : SessionName) (token : Token) where
 
   second_same : (state : State) (event : Event) (reply : Reply) (new : State) (answer : Answer) → IsEdit event session token → reply ≡ Ok answer
       → IsStep state event reply new → SpentIn state session token → SameDumps state new
-  second_same (Running old names) event (Ok given) (Running new n) answer edit ok step has = edit_same event old names (given_as given new) edit step.0 has
+  second_same (Running old names) event (Ok given) (Running new n) answer edit ok step has =
+      let w = made_as (meaning_of event).pools names old ((meaning_of event).carried old names) given new step.0 in
+      edit_same event old names (given_as given (with_ids new w.0)) edit w.1 has
   second_same (Running old names) event (Ok given) (Halted before next n) answer edit ok step has = absurd step.0
   second_same (Running old names) event (Err refusal) new answer edit ok step has = absurd (cc)
   second_same (Halted before next names) event reply new answer edit ok step has =

@@ -112,6 +112,8 @@ park session office names c sound e =
     does _ office names sound _ c a.2 (record {
       in_kind = refl;
       sound = IsSound-parked office session a.0 sound.office a.1;
+      ids = refl;
+      contents = λ stays. absurd (cc);
       numbers = record { stages = sound.names.given.stages; readers = sound.names.given.readers };
       held = λ content h. held-parked content office session a.0 a.1 h;
     })

@@ -9,20 +9,21 @@ use Rattle.office_model.specs.declared.answer.Answer.{Answer}
 use Rattle.office_model.specs.declared.answer.Answer.TheVariants.{Done, Reopened, Dump as Opened}
 use Rattle.backup_rules.specs.declared.lines.Kind.{Kind}
 use Rattle.office_model.specs.declared.event.Event.{Event}
-use Rattle.office_model.specs.declared.event.Event.TheVariants.{AddHost, SetRules, OpenDump, Put, Remove, StageOpen, StagePiece, StageDrop, Commit, Adopt, Abort, Park, Resume, DropPartial, PartialInfo, List as ListEvent, Lookup, ReadFile, OpenFile, ReadPart, CloseFile, OpenRead, ReadNext, CloseRead, Keep, Delete, Expire, Migrate, Contact, Due, Clean, Sweep, Stats, Hosts, Backups, Reopen}
+use Rattle.office_model.specs.declared.event.Event.TheVariants.{AddHost, SetRules, OpenDump, Put, Remove, StageOpen, StagePiece, StageDrop, Commit, Adopt, Abort, Park, Resume, DropPartial, PartialInfo, List as ListEvent, Lookup, ReadFile, OpenFile, ReadPart, CloseFile, OpenRead, ReadNext, CloseRead, Keep, Delete, Expire, Migrate, Contact, Due, Clean, Sweep, Stats, Hosts, Backups, PoolList, PoolPiece, Reopen}
 use Rattle.office_model.specs.declared.event.PutItem.TheVariants.{Whole, Staged}
-use Rattle.office_model.specs.declared.refusal.BrokenRule.TheVariants.{NoHost, NoBackup, NoSession, NoPartial, NumbersSpent, BadBucket, TokensFull}
+use Rattle.office_model.specs.declared.refusal.BrokenRule.TheVariants.{NoHost, NoBackup, NoSession, NoPartial, NumbersSpent, BadBucket, NoContent, TokensFull}
 use Rattle.office_model.specs.declared.refusal.Refusal.TheVariants.{Broken, Halted as HaltedReply, DiskFault, Damaged, Memory}
 use Rattle.attr_records.specs.Items.{content_of, is_large}
 use Rattle.backup_rules.specs.Values.{RuleSet, RuleChanges}
 use Rattle.office_model.specs.declared.event.PutItem.{PutItem}
 use Rattle.office_model.specs.Places.{Differ, slice_get-longer}
-use Rattle.office_model.specs.Office.{Office, Host, Backup, Partial, Dump, Durable, Names, host_index, backup_index, host_limit, last_sequence, piece_limit, token_limit, stage_content, raised, reopened, with_dumps, numbered}
+use Rattle.office_model.specs.Ids.{content_at}
+use Rattle.office_model.specs.Office.{Office, Host, Backup, Partial, Dump, Durable, Names, host_index, backup_index, host_limit, with_ids, last_sequence, piece_limit, token_limit, stage_content, raised, reopened, with_dumps, numbered}
 use Rattle.office_model.specs.Meaning.{Meaning, Carried, Judged, Reply, Touch, Nothing, Reads, Stages, Removes, Commits, ReadsAndCommits, Reopens, NameChange, Renews, ◌>>=◌, found}
 use Rattle.office_model.specs.Repeats.{again, keeps as keeps_token, keeping, once}
 use Rattle.office_model.specs.laws.RepeatLaws.{given_as, again_is}
 use Rattle.office_model.specs.Parts.{At, at as looked_up, host_at, dump_at, backup_at, backup_of}
-use Rattle.office_model.specs.Step.{State, Running, Halted, IsSoundState, MayHalt, IsReply, meaning_of, IsPicked, IsLeft, IsHaltedReopen, IsHaltedReply, IsStay, IsStep}
+use Rattle.office_model.specs.Step.{State, Running, Halted, IsSoundState, IsNext, MayHalt, IsReply, meaning_of, IsPicked, IsLeft, IsHaltedReopen, IsHaltedReply, IsStay, IsStep}
 use Rattle.office_model.specs.Partials.{IsDumpOf, MayPart, MayPartIn, HasPartial, PartialsStay, ParkedIsPartial, ResumedIsPartial, ParkedReads}
 use Rattle.office_model.specs.events
 use Rattle.office_model.specs.events.PartialInfo.{partial_at}
@@ -35,6 +36,7 @@ use Rattle.office_model.specs.laws.DurableLaws.{set_finds}
 use Rattle.office_model.specs.laws.Lawful.{judged}
 use Rattle.office_model.specs.laws.PartialLaws.{parking_of, is_parked, IsSound-parked, may_resume}
 use Rattle.office_model.specs.laws.StepLaws.{faulted_is, IsSound-carried}
+use Rattle.office_model.specs.laws.IdLaws.{made_as, next_as}
 
 -- ---- hosts at their places
 
@@ -329,6 +331,9 @@ keeps Stats office names c e i host at other = stays _ c e i host at
 keeps Hosts office names c e i host at other = stays _ c e i host at
 keeps (Backups name) office names c e i host at other =
     let a = bound (events.Backups.overview name office.hosts office.dumps) _ c e in stays _ c a.2 i host at
+keeps (PoolList part) office names c e i host at other = stays _ c e i host at
+keeps (PoolPiece id from) office names c e i host at other =
+    let a = bound (found NoContent (content_at office.ids id)) _ c e in stays _ c a.2 i host at
 keeps Reopen office names c e i host at other =
     let a = passed NumbersSpent (nat_le last_sequence office.epoch) _ c e in stays _ c a.1 i host at
 
@@ -383,20 +388,26 @@ moved before after name partial same has = subst (λ (o : Office). partial_at na
 moved_kept : (before after : Durable) (name : List ℕ) (partial : Partial) → after ≡ before → partial_at name before.hosts ≡ Ok partial → partial_at name after.hosts ≡ Ok partial
 moved_kept before after name partial same has = subst (λ (o : Durable). partial_at name o.hosts ≡ Ok partial) (sym same) has
 
-between : (old : Office) (before next : Durable) (touch : Touch) (judged : Judged Carried) (name : List ℕ) (partial : Partial)
+-- what the disk would have is what was made, but for the ids
+next_kept : (pools : Bool) (names : Names) (old made next : Durable) (name : List ℕ) (partial : Partial) → IsNext pools names old made next
+    → partial_at name made.hosts ≡ Ok partial → partial_at name next.hosts ≡ Ok partial
+next_kept pools names old made next name partial is has =
+    let w = next_as pools names old made next is in moved_kept made (record next { ids = w.0 }) name partial w.1 has
+
+between : (pools : Bool) (names : Names) (old : Office) (before next : Durable) (touch : Touch) (judged : Judged Carried) (name : List ℕ) (partial : Partial)
     → partial_at name old.hosts ≡ Ok partial → ((c : Carried) → judged ≡ Ok c → partial_at name c.after.hosts ≡ Ok partial)
-    → MayHalt touch old judged before next → (partial_at name before.hosts ≡ Ok partial) × (partial_at name next.hosts ≡ Ok partial)
-between old before next Nothing judged name partial has carries may = absurd may
-between old before next Reads judged name partial has carries may = absurd may
-between old before next Stages judged name partial has carries may = absurd may
-between old before next Removes judged name partial has carries may = absurd may
-between old before next Commits (Ok c) name partial has carries may =
-    (moved_kept old.durable before name partial may.0 has, moved_kept c.after.durable next name partial may.1 (carries c refl))
-between old before next Commits (Err rule) name partial has carries may = absurd may
-between old before next ReadsAndCommits (Ok c) name partial has carries may =
-    (moved_kept old.durable before name partial may.0 has, moved_kept c.after.durable next name partial may.1 (carries c refl))
-between old before next ReadsAndCommits (Err rule) name partial has carries may = absurd may
-between old before next Reopens judged name partial has carries may = (moved_kept old.durable before name partial may.0 has, step may.1)
+    → MayHalt touch pools names old judged before next → (partial_at name before.hosts ≡ Ok partial) × (partial_at name next.hosts ≡ Ok partial)
+between pools names old before next Nothing judged name partial has carries may = absurd may
+between pools names old before next Reads judged name partial has carries may = absurd may
+between pools names old before next Stages judged name partial has carries may = absurd may
+between pools names old before next Removes judged name partial has carries may = absurd may
+between pools names old before next Commits (Ok c) name partial has carries may =
+    (moved_kept old.durable before name partial may.0 has, next_kept pools names old.durable c.after.durable next name partial may.1 (carries c refl))
+between pools names old before next Commits (Err rule) name partial has carries may = absurd may
+between pools names old before next ReadsAndCommits (Ok c) name partial has carries may =
+    (moved_kept old.durable before name partial may.0 has, next_kept pools names old.durable c.after.durable next name partial may.1 (carries c refl))
+between pools names old before next ReadsAndCommits (Err rule) name partial has carries may = absurd may
+between pools names old before next Reopens judged name partial has carries may = (moved_kept old.durable before name partial may.0 has, step may.1)
   where
     step : (next ≡ old.durable) ⊎ (next ≡ raised old.durable) → partial_at name next.hosts ≡ Ok partial
     step (inl e) = moved_kept old.durable next name partial e has
@@ -405,17 +416,18 @@ between old before next Reopens judged name partial has carries may = (moved_kep
 kept_reply : (old : Office) (names : Names) (meaning : Meaning) (reply : Reply) (new : State) (name : List ℕ) (partial : Partial)
     → partial_at name old.hosts ≡ Ok partial → partial_at name (meaning.faulted old).hosts ≡ Ok partial → Carries old names meaning name partial
     → IsReply old names meaning reply new → HasPartial new name partial
-kept_reply old names meaning (Ok answer) (Running new n) name partial has fault carries is = carries (record { answer = answer; after = new }) is
+kept_reply old names meaning (Ok answer) (Running new n) name partial has fault carries is =
+    let w = made_as meaning.pools names old (meaning.carried old names) answer new is in carries (record { answer = answer; after = with_ids new w.0 }) w.1
 kept_reply old names meaning (Ok answer) (Halted before next n) name partial has fault carries is = absurd is
 kept_reply old names meaning (Err (Broken rule)) (Running new n) name partial has fault carries is = moved old new name partial is.1 has
 kept_reply old names meaning (Err (Broken rule)) (Halted before next n) name partial has fault carries is = absurd is
 kept_reply old names meaning (Err HaltedReply) new name partial has fault carries is = absurd is
 kept_reply old names meaning (Err DiskFault) (Running new n) name partial has fault carries is = moved (meaning.faulted old) new name partial is.2 fault
 kept_reply old names meaning (Err DiskFault) (Halted before next n) name partial has fault carries is =
-    between old before next (meaning.touches old names) (meaning.carried old names) name partial has carries is
+    between meaning.pools names old before next (meaning.touches old names) (meaning.carried old names) name partial has carries is
 kept_reply old names meaning (Err (Damaged file bytes)) (Running new n) name partial has fault carries is = moved old new name partial is.2 has
 kept_reply old names meaning (Err (Damaged file bytes)) (Halted before next n) name partial has fault carries is =
-    between old before next Reopens (meaning.carried old names) name partial has carries is.1
+    between meaning.pools names old before next Reopens (meaning.carried old names) name partial has carries is.1
 kept_reply old names meaning (Err Memory) (Running new n) name partial has fault carries is = moved old new name partial is has
 kept_reply old names meaning (Err Memory) (Halted before next n) name partial has fault carries is = absurd is
 

@@ -192,6 +192,8 @@ put_staged session path file token office names c sound e =
     does _ office names sound _ c a.2 (record {
       in_kind = refl;
       sound = IsSound-with_staged office session path file full a.0 sound.office a.1;
+      ids = refl;
+      contents = λ stays. refl;
       numbers = record {
         stages = subst (AtEach (λ (s : Stage). s.number < names.next_stage)) may.stages_are
             (AtEach-remove (λ (s : Stage). s.number < names.next_stage) office.stages may.index sound.names.given.stages);

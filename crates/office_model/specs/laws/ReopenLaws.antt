@@ -45,6 +45,13 @@ IsSound-carried kept c sound e =
     let same : record { answer = Reopened (kept.epoch + 1); after = reopened kept } ≡ c = let f = a.1 in cc in
     subst (λ (x : Carried). IsSound x.after) same (IsSound-reopened kept sound)
 
+-- its pool and ids are those that the disk kept
+pub same_ids : (kept : Durable) (c : Carried) → carried kept ≡ Ok c → (c.after.pool ≡ kept.pool) × (c.after.ids ≡ kept.ids)
+same_ids kept c e =
+    let a = passed NumbersSpent (nat_le last_sequence kept.epoch) _ c e in
+    let same : record { answer = Reopened (kept.epoch + 1); after = reopened kept } ≡ c = let f = a.1 in cc in
+    (ap (λ (x : Carried). x.after.pool) (sym same), ap (λ (x : Carried). x.after.ids) (sym same))
+
 -- and nothing is open in it
 pub nothing_left : (kept : Durable) (c : Carried) → carried kept ≡ Ok c → c.after.volatile ≡ nothing_open
 nothing_left kept c e =
@@ -58,6 +65,8 @@ lawful office names c sound e =
     does _ office names sound _ c a.1 (record {
       in_kind = refl;
       sound = IsSound-reopened office.durable sound.office.kept;
+      ids = refl;
+      contents = λ stays. refl;
       numbers = record { stages = λ i s at. absurd (cc); readers = λ i r at. absurd (cc) };
       held = λ content h. held_by content office Renews office.pool [] (was_pooled content office Renews) (λ (g : false ≡ true). absurd (cc)) h;
     })

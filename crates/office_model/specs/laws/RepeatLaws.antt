@@ -167,6 +167,8 @@ module _ (meaning : Meaning) (office : Office) (names : Names) (sound : AreSound
       let d : Does meaning office names b.0 = rest_does b.0 b.1 in
       does meaning office names sound _ c b.2 (record {
         in_kind = d.in_kind;
+        ids = d.ids;
+        contents = d.contents;
         sound = IsSound-kept b.0.after dump.index token d.sound (may_keep token dump is fresh a.0 b.0 b.1);
         numbers = record { stages = d.numbers.stages; readers = d.numbers.readers };
         held = λ content h. held_by content office meaning.renames b.0.after.pool (kept_at dump.index token b.0.after.dumps)

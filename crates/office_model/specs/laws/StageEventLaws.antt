@@ -136,6 +136,7 @@ dropped number office names c sound e =
 AreSound-removed : (office : Office) (names : Names) (p : ℕ) → AreSound office names → AreSound (with_stages office (remove office.stages p)) names
 AreSound-removed office names p sound = record {
   office = IsSound-stage_removed office p sound.office;
+  ids = sound.ids;
   names = record {
     distinct = sound.names.distinct;
     given = record {

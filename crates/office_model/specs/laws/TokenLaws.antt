@@ -35,7 +35,7 @@ tokens_differ kept sound i host at = (sound.hosts.each i host at).receipts.token
 
 differ_in : (state : State) → IsSoundState state → DifferIn state
 differ_in (Running office names) sound = tokens_differ office.durable sound.office.kept
-differ_in (Halted before next names) sound = (tokens_differ before sound.0, tokens_differ next sound.1)
+differ_in (Halted before next names) sound = (tokens_differ before sound.0.sound, tokens_differ next sound.1.sound)
 
 pub receipts_differ : ReceiptsDiffer
 receipts_differ state faults entries sound legal = differ_in (last_state state entries) (IsSoundState-last state faults entries sound legal)
