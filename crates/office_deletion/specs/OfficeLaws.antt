@@ -15,7 +15,7 @@ use Rattle.office_files.specs.Hosts.{StandsHost}
 use Rattle.office_files.specs.Owners.{has_backup}
 use Rattle.office_files.specs.Pooled.{contents_of, IsListed}
 use Rattle.office_files.specs.Stands.{Stands}
-use Rattle.office_files.specs.KeptLaws.{tells_kept, one_kept, pool_kept}
+use Rattle.office_files.specs.KeptLaws.{tells_kept, one_kept, pool_kept, ids_kept}
 use Rattle.office_changes.specs.ChangeLaws.{is_of_host, host_changed}
 use Rattle.office_deletion.specs.DeletionLaws.{shortened, IsDeletion, host_shortened, beyond_deletion}
 
@@ -33,7 +33,7 @@ module _ (digest_of : List ℕ → List ℕ) (index : Index) (backups : List Sto
       image (record office { hosts = slice_set office.hosts p new })
   deletion_stands here name there stays pooled deletion sound stands =
       host_changed digest_of index index backups files image office p host new
-      (shortened numbers (lines_of host.backups) shown) office.pool here name
+      (shortened numbers (lines_of host.backups) shown) office.pool office.ids here name
       (λ file metadata other not_index. stays file metadata other) still
       (beyond_deletion (IsListed index) (IsListed index) (contents_of files) (contents_of image) still numbers files image p host new shown
       stands_host none deletion)
@@ -42,6 +42,7 @@ module _ (digest_of : List ℕ → List ℕ) (index : Index) (backups : List Sto
       (tells_kept files image (stays F.PoolIndex refl refl) (λ byte. stays (F.PoolBucket byte) refl refl) index stands.index_told)
       (one_kept index (contents_of files) (contents_of image) same stands.one)
       (pool_kept index (contents_of files) (contents_of image) same digest_of office.pool stands.pool)
+      (ids_kept index (contents_of files) (contents_of image) same office.ids stands.ids)
       sound stands
     where
       same : (id : PoolId) → IsListed index id → contents_of files id ≡ contents_of image id
