@@ -1,7 +1,7 @@
 -- In each legal history a dump that was opened, filled and adopted is its host's newest backup.
-use Rattle.std.specs.Prelude.{◌≡◌, ℕ, List, [], ◌∷◌, ◌++◌, Some, None, Ok, Err}
+use Rattle.std.specs.Prelude.{◌≡◌, ℕ, List, [], ◌∷◌, ◌++◌, Some, None, Ok, Err, true}
 use Rattle.std.specs.Option.{option_map}
-use Rattle.std.proofs.Common.{refl, sym, ap, ◌∙◌, subst}
+use Rattle.std.proofs.Common.{refl, sym, ap, ◌∙◌, subst, inl, inr}
 use Rattle.attr_records.specs.Items.{Tree, is_dir}
 use Rattle.attr_records.specs.Trees.{IsTree}
 use Rattle.backup_rules.specs.declared.lines.Kind.{Kind}
@@ -13,7 +13,10 @@ use Rattle.office_model.specs.declared.event.Event.TheVariants as E
 use Rattle.office_model.specs.declared.answer.Answer.TheVariants as A
 use Rattle.office_model.specs.declared.refusal.BrokenRule.TheVariants.{NoBackup}
 use Rattle.office_model.specs.declared.refusal.Refusal.TheVariants.{DiskFault, Halted as HaltedReply}
-use Rattle.office_model.specs.Office.{Office, Durable, Host, Backup, Names, IsSound}
+use Rattle.office_model.specs.Pool.{is_pooled}
+use Rattle.office_model.specs.Ids.{Ids}
+use Rattle.office_model.specs.UsedNames.{AreIdsAfter}
+use Rattle.office_model.specs.Office.{Office, Durable, Host, Backup, Names, IsSound, with_ids}
 use Rattle.office_model.specs.Meaning.{Carried, Judged, Reply, ReadsAndCommits}
 use Rattle.office_model.specs.Parts.{At, host_at, newest}
 use Rattle.office_model.specs.Step.{Call, State, Running, Halted, IsSoundState, MayHalt, IsReply, IsStep, meaning_of}
@@ -86,7 +89,7 @@ dump_is_adopted office names faults name kind dump line tree calls more state' f
     let f = opened_filled office names faults name kind dump tree calls (adopt_call dump line ∷ more) state' faults' is_tree o leads in
     let a = answered f.office f.names f.faults (adopt_event dump line) (A.Committed line.number) more state' faults' f.rest in
     let gains : Gains f.office.hosts a.after.hosts name (shown_as line tree) =
-    adopt_gains f.office dump name tree line (record { answer = A.Committed line.number; after = a.after }) f.sound f.has a.carried in
+    adopt_gains f.office dump name tree line (record { answer = A.Committed line.number; after = with_ids a.after f.office.ids }) f.sound f.has a.carried.0 in
     record {
       office = a.after;
       names = a.after_names;
@@ -105,10 +108,10 @@ fault_leaves office names dump name tree line (Running new n) sound has is = ap 
 fault_leaves office names dump name tree line (Halted before next n) sound has is = step ((meaning_of (adopt_event dump line)).carried office names) refl is
   where
     step : (judged : Judged Carried) → (meaning_of (adopt_event dump line)).carried office names ≡ judged
-        → MayHalt ReadsAndCommits office judged before next → (before ≡ office.durable) × Gains office.hosts next.hosts name (shown_as line tree)
+        → MayHalt ReadsAndCommits true names office judged before next → (before ≡ office.durable) × Gains office.hosts next.hosts name (shown_as line tree)
     step (Ok c) e may = (
       may.0,
-      subst (λ (kept : Durable). Gains office.hosts kept.hosts name (shown_as line tree)) (sym may.1)
+      subst (λ (kept : Durable). Gains office.hosts kept.hosts name (shown_as line tree)) (sym may.1.0)
           (adopt_gains office dump name tree line c sound has e),
     )
     step (Err rule) e may = absurd may
@@ -143,14 +146,21 @@ base_gained old new name shown gains = newest_shown gains.after.backups (shows_o
 
 -- ---- any adoption at which the disk failed
 
+-- what a disk may have but for its ids: where nothing was gained, the ids are the same, too
+but_ids : (names : Names) (old next : Durable) → AreIdsAfter names old next → MayGainAny old (record next { ids = old.ids }) → MayGainAny old next
+but_ids names old next after (inl e) =
+    inl (ap (λ (ids : Ids). record next { ids = ids }) (after.same (λ content. ap (λ (kept : Durable). is_pooled kept.pool content) e)) ∙ e)
+but_ids names old next after (inr gains) = inr gains
+
 any_fault : (office : Office) (names : Names) (dump : SessionName) (line : Line) (new : State) → IsSound office
     → IsReply office names (meaning_of (adopt_event dump line)) (Err DiskFault) new → IsLeftBy (Running office names) new
 any_fault office names dump line (Running new n) sound is = ap (λ (o : Office). o.durable) is.2
 any_fault office names dump line (Halted before next n) sound is = step ((meaning_of (adopt_event dump line)).carried office names) refl is
   where
     step : (judged : Judged Carried) → (meaning_of (adopt_event dump line)).carried office names ≡ judged
-        → MayHalt ReadsAndCommits office judged before next → (before ≡ office.durable) × MayGainAny office.durable next
-    step (Ok c) e may = (may.0, subst (MayGainAny office.durable) (sym may.1) (adopts_some office dump line c sound e))
+        → MayHalt ReadsAndCommits true names office judged before next → (before ≡ office.durable) × MayGainAny office.durable next
+    step (Ok c) e may =
+        (may.0, but_ids names office.durable next may.1.1 (subst (MayGainAny office.durable) (sym may.1.0) (adopts_some office dump line c sound e)))
     step (Err rule) e may = absurd may
 
 fault_step : (state : State) (dump : SessionName) (line : Line) (new : State) → IsSoundState state

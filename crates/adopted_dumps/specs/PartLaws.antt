@@ -1,5 +1,5 @@
 -- Calls of a pull that adopt no dump change nothing that the disk keeps.
-use Rattle.std.specs.Prelude.{◌≡◌, ℕ, Bool, List, [], ◌∷◌, ◌++◌, length, Option, Some, None, Ok, Err, nat_le, if◌then◌else◌, ◌⊎◌}
+use Rattle.std.specs.Prelude.{◌≡◌, ℕ, Bool, List, [], ◌∷◌, ◌++◌, length, Option, Some, None, Ok, Err, nat_le, if◌then◌else◌, ◌⊎◌, false}
 use Rattle.std.proofs.Common.{refl, sym, ap, ◌∙◌, subst, inl, inr}
 use Rattle.attr_records.specs.Items.{is_large, content_of}
 use Rattle.backup_rules.specs.declared.lines.Kind.{Kind}
@@ -17,7 +17,7 @@ use Rattle.office_model.specs.Office.{Office, Dump, Names, Durable, token_limit,
 use Rattle.office_model.specs.Meaning.{Carried, Judged, Reply}
 use Rattle.office_model.specs.Parts.{At, dump_at, host_at}
 use Rattle.office_model.specs.Repeats.{again, keeps, keeping, once}
-use Rattle.office_model.specs.Step.{Call, State, Running, Halted, MayHalt, IsReply, IsHaltedReply, IsStay, IsStep, meaning_of}
+use Rattle.office_model.specs.Step.{Call, State, Running, Halted, IsMade, MayHalt, IsReply, IsHaltedReply, IsStay, IsStep, meaning_of}
 use Rattle.office_model.specs.History.{Entry, IsUndamaged, IsHistory, last_state, calls_of}
 use Rattle.office_model.specs.events.OpenDump as OpenDumpEvent
 use Rattle.office_model.specs.events.Put as PutEvent
@@ -121,11 +121,22 @@ part_keeps (E.Backups name) part office names c e =
     let a = bound (BackupsEvent.overview name office.hosts office.dumps) _ c e in made_keeps office _ c a.2 refl
 part_keeps event part office names c e = absurd part
 
+-- no content joins or leaves the pool by it
+part_plain : (event : Event) → IsPart event → (meaning_of event).pools ≡ false
+part_plain (E.OpenDump name kind now token) part = refl
+part_plain (E.Put session path item token) part = refl
+part_plain (E.Remove session path token) part = refl
+part_plain (E.StageOpen session) part = refl
+part_plain (E.StagePiece number bytes) part = refl
+part_plain (E.Abort session) part = refl
+part_plain (E.Backups name) part = refl
+part_plain event part = absurd part
+
 -- ---- replies of an office at work
 
 -- no fault of the disk halts it
 never_halts : (event : Event) → IsPart event → (old : Office) (names : Names) (judged : Judged Carried) (before next : Durable)
-    → MayHalt ((meaning_of event).touches old names) old judged before next → ⊥
+    → MayHalt ((meaning_of event).touches old names) (meaning_of event).pools names old judged before next → ⊥
 never_halts (E.OpenDump name kind now token) part old names judged before next may = may
 never_halts (E.Put session path item token) part old names judged before next may = may
 never_halts (E.Remove session path token) part old names judged before next may = may
@@ -141,7 +152,9 @@ faulted_keeps event office = let w = faulted_is event office in ap (λ (o : Offi
 
 part_replied : (event : Event) → IsPart event → (old : Office) (names : Names) (reply : Reply) (new : State) → IsUndamaged reply
     → IsReply old names (meaning_of event) reply new → IsUnchanged (Running old names) new
-part_replied event part old names (Ok answer) (Running new n) fine is = part_keeps event part old names (record { answer = answer; after = new }) is
+part_replied event part old names (Ok answer) (Running new n) fine is =
+    part_keeps event part old names (record { answer = answer; after = new })
+    (subst (λ (pools : Bool). IsMade pools names old ((meaning_of event).carried old names) answer new) (part_plain event part) is)
 part_replied event part old names (Ok answer) (Halted before next n) fine is = is
 part_replied event part old names (Err (Broken rule)) (Running new n) fine is = ap (λ (o : Office). o.durable) is.1
 part_replied event part old names (Err (Broken rule)) (Halted before next n) fine is = is

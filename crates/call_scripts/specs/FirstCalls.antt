@@ -6,7 +6,7 @@ use Rattle.std.proofs.Common.{sym, ap, subst}
 use Rattle.office_model.specs.declared.event.Event.{Event}
 use Rattle.office_model.specs.declared.answer.Answer.{Answer}
 use Rattle.office_model.specs.Office.{Office, Names, IsSound}
-use Rattle.office_model.specs.Step.{Call, State, Running, Halted, IsSoundState, IsStep, meaning_of}
+use Rattle.office_model.specs.Step.{Call, State, Running, Halted, IsSoundState, IsMade, IsStep, meaning_of}
 use Rattle.office_model.specs.History.{Entry, GoesOn, IsHistory, last_state, last_faults, calls_of, Leads}
 use Rattle.office_model.specs.Meaning.{Reply}
 
@@ -38,13 +38,13 @@ first_of state faults event answer calls state' faults' leads =
           rest = record { entries = entries; legal = legal.1; calls_are = (cc); state_is = state_is; faults_is = faults_is };
         }
 
--- an event that a running office answered
+-- an event that a running office answered; of one that leaves the pool's contents `carried` is an equation of what was judged
 pub record Answered (office : Office) (names : Names) (event : Event) (answer : Answer) (calls : List Call) (state' : State) (faults' : ℕ)
     : Type 0 where
   pub after : Office
   pub after_names : Names
   pub faults : ℕ
-  pub carried : (meaning_of event).carried office names ≡ Ok (record { answer = answer; after = after })
+  pub carried : IsMade (meaning_of event).pools names office ((meaning_of event).carried office names) answer after
   pub sound : IsSound after
   pub rest : Leads (Running after after_names) faults calls state' faults'
 
@@ -66,8 +66,8 @@ answered office names faults event answer calls state' faults' leads =
           after = after;
           after_names = names';
           faults = count;
-          carried = subst (λ a. (meaning_of event).carried office names ≡ Ok (record { answer = a; after = after })) given_is
-              (subst (λ q. (meaning_of q).carried office names ≡ Ok (record { answer = given; after = after })) same h.0);
+          carried = subst (λ a. IsMade (meaning_of event).pools names office ((meaning_of event).carried office names) a after) given_is
+              (subst (λ q. IsMade (meaning_of q).pools names office ((meaning_of q).carried office names) given after) same h.0);
           sound = sound.office;
           rest = rest;
         }

@@ -7,12 +7,13 @@ use Rattle.backup_rules.specs.declared.lines.Kind.TheVariants.{Full}
 use Rattle.receipts.specs.declared.session.SessionName.{SessionName}
 use Rattle.office_model.specs.declared.event.Event.TheVariants as E
 use Rattle.office_model.specs.declared.answer.Answer.TheVariants as A
-use Rattle.office_model.specs.Office.{Office, Dump, Names, IsSound, with_dumps, numbered}
+use Rattle.office_model.specs.Office.{Office, Dump, Names, IsSound, with_dumps, numbered, with_ids}
 use Rattle.office_model.specs.Step.{Call, State, Running}
 use Rattle.office_model.specs.History.{Leads}
 use Rattle.office_model.specs.Meaning.{Judged}
 use Rattle.office_model.specs.events.OpenDump.{with_dump, next_session}
 use Rattle.office_model.specs.laws.Judging.{bound}
+use Rattle.office_model.specs.laws.IdLaws.{IsSound-ids}
 use Rattle.call_scripts.specs.FirstCalls.{answered, none_left}
 use Rattle.folder_laws.specs.Calls.{open_call, already_call, item_calls, ArePuts, commit_call}
 use Rattle.folder_laws.specs.Replays.{with_all}
@@ -55,11 +56,13 @@ pub committed : (office : Office) (names : Names) (faults : ℕ) (dump : Session
     → Leads (Running office names) faults (commit_call dump now number ∷ []) state' faults' → Committed name number tree state'
 committed office names faults dump name tree now number state' faults' sound has leads =
     let a = answered office names faults (E.Commit dump now) (A.Committed number) [] state' faults' leads in
+    let shown = commit_step office dump name tree now number (with_ids a.after office.ids) sound
+    (IsSound-ids (with_ids a.after office.ids) a.after.ids a.sound) has a.carried.0 in
     record {
       office = a.after;
       names = a.after_names;
       is = none_left (Running a.after a.after_names) a.faults state' faults' a.rest;
-      shows = commit_step office dump name tree now number a.after sound a.sound has a.carried;
+      shows = record { backup = shown.backup; found = shown.found; tree_is = shown.tree_is };
     }
 
 empty_base : (base : Tree) → (let none : Judged Tree = Ok [] in none ≡ Ok base) → [] ≡ base

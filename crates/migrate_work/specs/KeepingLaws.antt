@@ -3,7 +3,7 @@
 --     office_kept      in a legal history the office is as it was
 --     none_left      after one that was done no host is left
 use Rattle.std.specs.Prelude.{slice_get}
-use Rattle.std.proofs.Common.{◌≡◌, ℕ, zero, suc, false, List, [], ◌∷◌, ◌++◌, map, Option, Some, None, Ok, Err, refl, sym, ap, ◌∙◌, subst, append_assoc}
+use Rattle.std.proofs.Common.{◌≡◌, ℕ, zero, suc, Bool, false, List, [], ◌∷◌, ◌++◌, map, Option, Some, None, Ok, Err, refl, sym, ap, ◌∙◌, subst, append_assoc}
 use Rattle.std.specs.List.{All}
 use Rattle.std.proofs.lemmas.List.Elements.{All-nil, All-cons, All-head, All-tail, All-map}
 use Rattle.office_model.specs.declared.answer.Answer.{Answer}
@@ -18,7 +18,7 @@ use Rattle.office_model.specs.Meaning.{Meaning, Carried, Judged, Reply, Touch, N
 use Rattle.office_model.specs.events.Hosts as HostsEvent
 use Rattle.office_model.specs.events.Migrate as MigrateEvent
 use Rattle.office_model.specs.Parts.{host_at}
-use Rattle.office_model.specs.Step.{Call, State, Running, Halted, IsStep, IsReply, MayHalt, meaning_of}
+use Rattle.office_model.specs.Step.{Call, State, Running, Halted, IsMade, IsStep, IsReply, MayHalt, meaning_of}
 use Rattle.office_model.specs.History.{Entry, IsHistory, last_state, calls_of}
 use Rattle.office_model.specs.OldTables.{is_old}
 use Rattle.office_model.specs.laws.Judging.{bound}
@@ -65,34 +65,36 @@ of_migration Memory calls ends = subst AreOfMigration (sym ends.1) (tt, tt)
 -- ---- the office
 
 -- a halt leaves both offices as the one before, if the event changes none
-halts : (touch : Touch) (office : Office) (judged : Judged Carried) (before next : Durable) → (touch ≡ Reopens → ⊥)
-    → ((c : Carried) → judged ≡ Ok c → c.after ≡ office) → MayHalt touch office judged before next
+halts : (touch : Touch) (names : Names) (office : Office) (judged : Judged Carried) (before next : Durable) → (touch ≡ Reopens → ⊥)
+    → ((c : Carried) → judged ≡ Ok c → c.after ≡ office) → MayHalt touch false names office judged before next
     → (before ≡ office.durable) × (next ≡ office.durable)
-halts Nothing office judged before next never stays may = absurd may
-halts Reads office judged before next never stays may = absurd may
-halts Stages office judged before next never stays may = absurd may
-halts Removes office judged before next never stays may = absurd may
-halts Commits office (Ok c) before next never stays may = (may.0, may.1 ∙ ap (λ (o : Office). o.durable) (stays c refl))
-halts Commits office (Err rule) before next never stays may = absurd may
-halts ReadsAndCommits office (Ok c) before next never stays may = (may.0, may.1 ∙ ap (λ (o : Office). o.durable) (stays c refl))
-halts ReadsAndCommits office (Err rule) before next never stays may = absurd may
-halts Reopens office judged before next never stays may = absurd (never refl)
+halts Nothing names office judged before next never stays may = absurd may
+halts Reads names office judged before next never stays may = absurd may
+halts Stages names office judged before next never stays may = absurd may
+halts Removes names office judged before next never stays may = absurd may
+halts Commits names office (Ok c) before next never stays may = (may.0, may.1 ∙ ap (λ (o : Office). o.durable) (stays c refl))
+halts Commits names office (Err rule) before next never stays may = absurd may
+halts ReadsAndCommits names office (Ok c) before next never stays may = (may.0, may.1 ∙ ap (λ (o : Office). o.durable) (stays c refl))
+halts ReadsAndCommits names office (Err rule) before next never stays may = absurd may
+halts Reopens names office judged before next never stays may = absurd (never refl)
 
 kept_by : (meaning : Meaning) (office : Office) (names : Names) (reply : Reply) (next : State) → (meaning.touches office names ≡ Reopens → ⊥)
-    → meaning.faulted office ≡ office → ((c : Carried) → meaning.carried office names ≡ Ok c → c.after ≡ office)
+    → meaning.pools ≡ false → meaning.faulted office ≡ office → ((c : Carried) → meaning.carried office names ≡ Ok c → c.after ≡ office)
     → IsReply office names meaning reply next → KeepsOffice office next
-kept_by meaning office names (Ok answer) (Running new names') never faulted stays is = stays (record { answer = answer; after = new }) is
-kept_by meaning office names (Ok answer) (Halted before next names') never faulted stays is = absurd is
-kept_by meaning office names (Err (R.Broken rule)) (Running new names') never faulted stays is = is.1
-kept_by meaning office names (Err (R.Broken rule)) (Halted before next names') never faulted stays is = absurd is
-kept_by meaning office names (Err R.Halted) next never faulted stays is = absurd is
-kept_by meaning office names (Err R.DiskFault) (Running new names') never faulted stays is = is.2 ∙ faulted
-kept_by meaning office names (Err R.DiskFault) (Halted before next names') never faulted stays is =
-    halts (meaning.touches office names) office (meaning.carried office names) before next never stays is
-kept_by meaning office names (Err (R.Damaged file found)) (Running new names') never faulted stays is = is.2
-kept_by meaning office names (Err (R.Damaged file found)) (Halted before next names') never faulted stays is = absurd (never is.0)
-kept_by meaning office names (Err R.Memory) (Running new names') never faulted stays is = is
-kept_by meaning office names (Err R.Memory) (Halted before next names') never faulted stays is = absurd is
+kept_by meaning office names (Ok answer) (Running new names') never plain faulted stays is =
+    stays (record { answer = answer; after = new }) (subst (λ (pools : Bool). IsMade pools names office (meaning.carried office names) answer new) plain is)
+kept_by meaning office names (Ok answer) (Halted before next names') never plain faulted stays is = absurd is
+kept_by meaning office names (Err (R.Broken rule)) (Running new names') never plain faulted stays is = is.1
+kept_by meaning office names (Err (R.Broken rule)) (Halted before next names') never plain faulted stays is = absurd is
+kept_by meaning office names (Err R.Halted) next never plain faulted stays is = absurd is
+kept_by meaning office names (Err R.DiskFault) (Running new names') never plain faulted stays is = is.2 ∙ faulted
+kept_by meaning office names (Err R.DiskFault) (Halted before next names') never plain faulted stays is =
+    halts (meaning.touches office names) names office (meaning.carried office names) before next never stays
+    (subst (λ (pools : Bool). MayHalt (meaning.touches office names) pools names office (meaning.carried office names) before next) plain is)
+kept_by meaning office names (Err (R.Damaged file found)) (Running new names') never plain faulted stays is = is.2
+kept_by meaning office names (Err (R.Damaged file found)) (Halted before next names') never plain faulted stays is = absurd (never is.0)
+kept_by meaning office names (Err R.Memory) (Running new names') never plain faulted stays is = is
+kept_by meaning office names (Err R.Memory) (Halted before next names') never plain faulted stays is = absurd is
 
 -- what a listing of the hosts carried out
 hosts_carried : (office after : Office) (answer : Answer) → HostsEvent.carried office ≡ Ok (record { answer = answer; after = after })
@@ -110,9 +112,9 @@ migrate_stays name office c e = let a = bound (host_at office.hosts name) _ c e 
 kept_running : (event : Event) (office : Office) (names : Names) (reply : Reply) (next : State) → IsOfMigration event
     → IsStep (Running office names) event reply next → KeepsOffice office next
 kept_running E.Hosts office names reply next of step =
-    kept_by (meaning_of E.Hosts) office names reply next (λ e. let no : ⊥ = cc (e) in no) refl (λ c e. hosts_stays office c e) step.0
+    kept_by (meaning_of E.Hosts) office names reply next (λ e. let no : ⊥ = cc (e) in no) refl refl (λ c e. hosts_stays office c e) step.0
 kept_running (E.Migrate name) office names reply next of step =
-    kept_by (meaning_of (E.Migrate name)) office names reply next (λ e. let no : ⊥ = cc (e) in no) refl (λ c e. migrate_stays name office c e) step.0
+    kept_by (meaning_of (E.Migrate name)) office names reply next (λ e. let no : ⊥ = cc (e) in no) refl refl (λ c e. migrate_stays name office c e) step.0
 kept_running event office names reply next of step = absurd of
 
 stays_halted : (event : Event) (a b : Durable) (names : Names) (reply : Reply) (next : State) → IsOfMigration event

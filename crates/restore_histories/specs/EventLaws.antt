@@ -13,12 +13,13 @@ use Rattle.receipts.specs.declared.session.Token.{Token}
 use Rattle.office_model.specs.declared.answer.Answer.{Answer}
 use Rattle.office_model.specs.declared.answer.Answer.TheVariants.{Done}
 use Rattle.office_model.specs.declared.event.Event.{Event}
-use Rattle.office_model.specs.declared.event.Event.TheVariants.{AddHost, SetRules, OpenDump, Put, Remove, StageOpen, StagePiece, StageDrop, Commit, Adopt, Abort, Park, Resume, DropPartial, PartialInfo, List as ListEvent, Lookup, ReadFile, OpenFile, ReadPart, CloseFile, OpenRead, ReadNext, CloseRead, Keep, Delete, Expire, Migrate, Contact, Due, Clean, Sweep, Stats, Hosts, Backups, Reopen}
+use Rattle.office_model.specs.declared.event.Event.TheVariants.{AddHost, SetRules, OpenDump, Put, Remove, StageOpen, StagePiece, StageDrop, Commit, Adopt, Abort, Park, Resume, DropPartial, PartialInfo, List as ListEvent, Lookup, ReadFile, OpenFile, ReadPart, CloseFile, OpenRead, ReadNext, CloseRead, Keep, Delete, Expire, Migrate, Contact, Due, Clean, Sweep, Stats, Hosts, Backups, PoolList, PoolPiece, Reopen}
 use Rattle.office_model.specs.declared.event.PutItem.{PutItem}
 use Rattle.office_model.specs.declared.event.PutItem.TheVariants.{Whole, Staged}
-use Rattle.office_model.specs.declared.refusal.BrokenRule.TheVariants.{BadBucket, NumbersSpent, NoSession, NumberBehind, TokensFull}
+use Rattle.office_model.specs.declared.refusal.BrokenRule.TheVariants.{BadBucket, NumbersSpent, NoSession, NoContent, NumberBehind, TokensFull}
 use Rattle.office_model.specs.Places.{in_longer, slice_get-remove, place_before, slice_get-longer}
 use Rattle.office_model.specs.Pool.{with_tree}
+use Rattle.office_model.specs.Ids.{content_at}
 use Rattle.office_model.specs.Office.{Office, Host, Backup, Dump, Restore, Names, host_index, host_limit, number_limit, stage_content, last_sequence, piece_limit, token_limit}
 use Rattle.office_model.specs.Meaning.{Carried, Judged, found}
 use Rattle.office_model.specs.Parts.{At, host_at, backup_at, backup_of, dump_at, restore_at, with_last, filled_as}
@@ -494,6 +495,9 @@ leaves Stats office names c apart e = alike office _ c e refl refl
 leaves Hosts office names c apart e = alike office _ c e refl refl
 leaves (Backups name) office names c apart e =
     let a = bound (events.Backups.overview name office.hosts office.dumps) _ c e in alike office _ c a.2 refl refl
+leaves (PoolList part) office names c apart e = alike office _ c e refl refl
+leaves (PoolPiece id from) office names c apart e =
+    let a = bound (found NoContent (content_at office.ids id)) _ c e in alike office _ c a.2 refl refl
 leaves Reopen office names c apart e = absurd (cc)
 
 -- ---- hosts, whatever the event

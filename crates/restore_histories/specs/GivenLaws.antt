@@ -15,10 +15,11 @@ use Rattle.office_model.specs.declared.event.Event.TheVariants.{OpenRead, ReadNe
 use Rattle.office_model.specs.declared.answer.Answer.{Answer}
 use Rattle.office_model.specs.declared.answer.Answer.TheVariants.{Next, Restore as Opened}
 use Rattle.office_model.specs.Places.{AtEach, in_set, in_longer, position-found}
-use Rattle.office_model.specs.Office.{Office, Restore, Durable, Names, raised, reopened, with_restores, numbered, IsSound}
+use Rattle.office_model.specs.Ids.{Ids}
+use Rattle.office_model.specs.Office.{Office, Restore, Durable, Names, raised, reopened, with_restores, numbered, IsSound, with_ids}
 use Rattle.office_model.specs.Meaning.{Carried, Reply}
 use Rattle.office_model.specs.Parts.{At, restore_at}
-use Rattle.office_model.specs.Step.{State, Running, Halted, IsSoundState, IsStep, meaning_of}
+use Rattle.office_model.specs.Step.{State, Running, Halted, IsSoundState, IsMade, IsStep, meaning_of}
 use Rattle.office_model.specs.History.{Entry, IsHistory, calls_of}
 use Rattle.office_model.specs.events
 use Rattle.office_model.specs.events.OpenDump.{next_session}
@@ -90,6 +91,9 @@ module _ (session : SessionName) (base : Option Tree) (tree : Tree) where
   abbrev IsPast : Durable → Type 0
   IsPast kept = session.epoch ≤ kept.epoch
 
+  any_ids : (count : ℕ) (office : Office) (ids : Ids) → IsOpenAt count (with_ids office ids) → IsOpenAt count office
+  any_ids count office ids has = record { past = has.past; given = has.given; at = has.at }
+
   abbrev OpenIn : ℕ → State → Type 0
   OpenIn count state = HoldsIn (IsOpenAt count) IsPast state
 
@@ -128,7 +132,7 @@ module _ (session : SessionName) (base : Option Tree) (tree : Tree) where
   carried_open : (count : ℕ) (event : Event) (office : Office) (names : Names) (c : Carried) → is_read event ≡ false → IsOpenAt count office
       → (meaning_of event).carried office names ≡ Ok c → IsOpenAt count c.after
   carried_open count Reopen office names c other has e =
-      holds_reopened (IsOpenAt count) IsPast raises (opens count) office.durable c has.past e
+      holds_reopened (IsOpenAt count) IsPast raises (any_ids count) (λ kept ids h. h) (opens count) office.durable c has.past e
   carried_open count (ReadNext read) office names c other has e = absurd (cc)
   carried_open count event office names c other has e =
       later count office c.after (follows event office names c refl e) (leaves event office names c refl e).restores has
@@ -136,13 +140,13 @@ module _ (session : SessionName) (base : Option Tree) (tree : Tree) where
   halted_step : (count : ℕ) (before next : Durable) (names : Names) (event : Event) (reply : Reply) (new : State)
       → IsStep (Halted before next names) event reply new → IsPast before × IsPast next → OpenIn count new
   halted_step count before next names event reply new step has =
-      holds_halted (IsOpenAt count) IsPast raises (opens count) before next (meaning_of event).renames reply new has.0 has.1 step.0
+      holds_halted (IsOpenAt count) IsPast raises (any_ids count) (λ kept ids h. h) (opens count) before next (meaning_of event).renames reply new has.0 has.1 step.0
 
   other_step : (count : ℕ) (state : State) (event : Event) (reply : Reply) (new : State) → is_read event ≡ false → IsStep state event reply new
       → OpenIn count state → OpenIn count new
   other_step count (Running old names) event reply new other step has =
       let w = faulted_is event old in
-      holds_reply (IsOpenAt count) IsPast raises old names (meaning_of event) reply new has.past
+      holds_reply (IsOpenAt count) IsPast raises (any_ids count) (λ kept ids h. h) old names (meaning_of event) reply new has.past
       (λ refusal is. (has, subst (IsOpenAt count) (sym w.1) (record { past = has.past; given = has.given; at = has.at })))
       (λ c e is. carried_open count event old names c other has e)
       (λ c e. (carried_open count event old names c other has e).past) step.0
@@ -266,7 +270,7 @@ module _ (session : SessionName) (base : Option Tree) (tree : Tree) where
       answered_read count old n read (given_as answer new) sound.office has step.0
   read_step count (Running old names) read (Ok answer) (Halted before next n) sound step has = absurd step.0
   read_step count (Running old names) read (Err refusal) new sound step has =
-      silent count new (holds_reply (IsOpenAt count) IsPast raises old names (meaning_of (ReadNext read)) (Err refusal) new has.past
+      silent count new (holds_reply (IsOpenAt count) IsPast raises (any_ids count) (λ kept ids h. h) old names (meaning_of (ReadNext read)) (Err refusal) new has.past
       (λ other is. (has, has)) (λ c e is. absurd (cc))
       (λ c e. subst (λ (n : ℕ). session.epoch ≤ n) (sym (follows (ReadNext read) old names c refl e).epoch) has.past) step.0)
   read_step count (Halted before next names) read reply (Running new n) sound step has = absurd step.0
@@ -302,7 +306,7 @@ pub record CarriedOut (office : Office) (names : Names) (event : Event) (answer 
   pub after : Office
   pub after_names : Names
   pub new_is : new ≡ Running after after_names
-  pub carried : (meaning_of event).carried office names ≡ Ok (given_as answer after)
+  pub carried : IsMade (meaning_of event).pools names office ((meaning_of event).carried office names) answer after
 
 pub carried_out : (office : Office) (names : Names) (asked event : Event) (reply : Reply) (answer : Answer) (new : State) → asked ≡ event
     → reply ≡ Ok answer → IsStep (Running office names) asked reply new → CarriedOut office names event answer new
@@ -314,8 +318,8 @@ carried_out office names asked event (Ok given) answer (Running after n) same is
       after = after;
       after_names = n;
       new_is = refl;
-      carried = subst (λ a. (meaning_of event).carried office names ≡ Ok (given_as a after)) given_is
-          (subst (λ q. (meaning_of q).carried office names ≡ Ok (given_as given after)) same step.0);
+      carried = subst (λ a. IsMade (meaning_of event).pools names office ((meaning_of event).carried office names) a after) given_is
+          (subst (λ q. IsMade (meaning_of q).pools names office ((meaning_of q).carried office names) given after) same step.0);
     }
 
 restore_is : (a b : SessionName) → Opened a ≡ Opened b → a ≡ b

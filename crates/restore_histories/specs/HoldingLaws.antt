@@ -1,23 +1,28 @@
 -- What a step keeps of an office at work, and of each of the two that the disk of a halted one may have.
-use Rattle.std.specs.Prelude.{◌≡◌, ◌+◌, Ok, Err, nat_le, ◌⊎◌}
+use Rattle.std.specs.Prelude.{◌≡◌, ◌+◌, Bool, Ok, Err, nat_le, ◌⊎◌}
 use Rattle.std.proofs.Common.{refl, sym, subst, inl, inr}
 use Rattle.office_model.specs.declared.refusal.Refusal.{Refusal}
 use Rattle.office_model.specs.declared.refusal.Refusal.TheVariants.{Broken, Halted as HaltedReply, DiskFault, Damaged, Memory}
 use Rattle.office_model.specs.declared.refusal.BrokenRule.TheVariants.{NumbersSpent}
 use Rattle.office_model.specs.declared.answer.Answer.TheVariants.{Reopened}
-use Rattle.office_model.specs.Office.{Office, Durable, Names, raised, reopened, last_sequence}
+use Rattle.office_model.specs.Ids.{Ids}
+use Rattle.office_model.specs.Office.{Office, Durable, Names, with_ids, raised, reopened, last_sequence}
 use Rattle.office_model.specs.Meaning.{Meaning, Carried, Judged, Reply, Touch, Nothing, Reads, Stages, Removes, Commits, ReadsAndCommits, Reopens, NameChange, Renews}
-use Rattle.office_model.specs.Step.{State, Running, Halted, MayHalt, IsReply, IsPicked, IsLeft, IsHaltedReopen, IsHaltedReply, IsStay}
+use Rattle.office_model.specs.Step.{State, Running, Halted, IsNext, MayHalt, IsReply, IsPicked, IsLeft, IsHaltedReopen, IsHaltedReply, IsStay}
 use Rattle.office_model.specs.events
 use Rattle.office_model.specs.laws.Judging.{passed}
 use Rattle.office_model.specs.laws.RepeatLaws.{given_as}
+use Rattle.office_model.specs.laws.IdLaws.{made_as, next_as}
 
 -- of an office at work, or of both that a disk may have
 abbrev pub HoldsIn : (Office → Type 0) → (Durable → Type 0) → State → Type 0
 HoldsIn OfOffice OfKept (Running office names) = OfOffice office
 HoldsIn OfOffice OfKept (Halted before next names) = OfKept before × OfKept next
 
-module _ (OfOffice : Office → Type 0) (OfKept : Durable → Type 0) (raises : (kept : Durable) → OfKept kept → OfKept (raised kept)) where
+-- what holds of an office asks for no ids
+module _ (OfOffice : Office → Type 0) (OfKept : Durable → Type 0) (raises : (kept : Durable) → OfKept kept → OfKept (raised kept))
+    (any_ids : (office : Office) (ids : Ids) → OfOffice (with_ids office ids) → OfOffice office)
+    (any_kept : (kept : Durable) (ids : Ids) → OfKept (record kept { ids = ids }) → OfKept kept) where
   moved : (before after : Office) → after ≡ before → OfOffice before → OfOffice after
   moved before after same has = subst OfOffice (sym same) has
 
@@ -26,19 +31,23 @@ module _ (OfOffice : Office → Type 0) (OfKept : Durable → Type 0) (raises : 
 
   -- ---- an office at work
 
-  between : (old : Office) (before next : Durable) (touch : Touch) (carried : Judged Carried) → OfKept old.durable
-      → ((c : Carried) → carried ≡ Ok c → OfKept c.after.durable) → MayHalt touch old carried before next → OfKept before × OfKept next
-  between old before next Nothing carried has commits may = absurd may
-  between old before next Reads carried has commits may = absurd may
-  between old before next Stages carried has commits may = absurd may
-  between old before next Removes carried has commits may = absurd may
-  between old before next Commits (Ok c) has commits may =
-      (moved_kept old.durable before may.0 has, moved_kept c.after.durable next may.1 (commits c refl))
-  between old before next Commits (Err rule) has commits may = absurd may
-  between old before next ReadsAndCommits (Ok c) has commits may =
-      (moved_kept old.durable before may.0 has, moved_kept c.after.durable next may.1 (commits c refl))
-  between old before next ReadsAndCommits (Err rule) has commits may = absurd may
-  between old before next Reopens carried has commits may = (moved_kept old.durable before may.0 has, step may.1)
+  next_kept : (pools : Bool) (names : Names) (old made next : Durable) → IsNext pools names old made next → OfKept made → OfKept next
+  next_kept pools names old made next is has =
+      let w = next_as pools names old made next is in any_kept next w.0 (moved_kept made (record next { ids = w.0 }) w.1 has)
+
+  between : (pools : Bool) (names : Names) (old : Office) (before next : Durable) (touch : Touch) (carried : Judged Carried) → OfKept old.durable
+      → ((c : Carried) → carried ≡ Ok c → OfKept c.after.durable) → MayHalt touch pools names old carried before next → OfKept before × OfKept next
+  between pools names old before next Nothing carried has commits may = absurd may
+  between pools names old before next Reads carried has commits may = absurd may
+  between pools names old before next Stages carried has commits may = absurd may
+  between pools names old before next Removes carried has commits may = absurd may
+  between pools names old before next Commits (Ok c) has commits may =
+      (moved_kept old.durable before may.0 has, next_kept pools names old.durable c.after.durable next may.1 (commits c refl))
+  between pools names old before next Commits (Err rule) has commits may = absurd may
+  between pools names old before next ReadsAndCommits (Ok c) has commits may =
+      (moved_kept old.durable before may.0 has, next_kept pools names old.durable c.after.durable next may.1 (commits c refl))
+  between pools names old before next ReadsAndCommits (Err rule) has commits may = absurd may
+  between pools names old before next Reopens carried has commits may = (moved_kept old.durable before may.0 has, step may.1)
     where
       step : (next ≡ old.durable) ⊎ (next ≡ raised old.durable) → OfKept next
       step (inl e) = moved_kept old.durable next e has
@@ -50,7 +59,9 @@ module _ (OfOffice : Office → Type 0) (OfKept : Durable → Type 0) (raises : 
       → ((c : Carried) → meaning.carried old names ≡ Ok c → reply ≡ Ok c.answer → OfOffice c.after)
       → ((c : Carried) → meaning.carried old names ≡ Ok c → OfKept c.after.durable)
       → IsReply old names meaning reply new → HoldsIn OfOffice OfKept new
-  holds_reply old names meaning (Ok answer) (Running new n) has stays answers commits is = answers (given_as answer new) is refl
+  holds_reply old names meaning (Ok answer) (Running new n) has stays answers commits is =
+      let w = made_as meaning.pools names old (meaning.carried old names) answer new is in
+      any_ids new w.0 (answers (given_as answer (with_ids new w.0)) w.1 refl)
   holds_reply old names meaning (Ok answer) (Halted before next n) has stays answers commits is = absurd is
   holds_reply old names meaning (Err (Broken rule)) (Running new n) has stays answers commits is =
       moved old new is.1 (stays (Broken rule) refl).0
@@ -59,11 +70,11 @@ module _ (OfOffice : Office → Type 0) (OfKept : Durable → Type 0) (raises : 
   holds_reply old names meaning (Err DiskFault) (Running new n) has stays answers commits is =
       moved (meaning.faulted old) new is.2 (stays DiskFault refl).1
   holds_reply old names meaning (Err DiskFault) (Halted before next n) has stays answers commits is =
-      between old before next (meaning.touches old names) (meaning.carried old names) has commits is
+      between meaning.pools names old before next (meaning.touches old names) (meaning.carried old names) has commits is
   holds_reply old names meaning (Err (Damaged file bytes)) (Running new n) has stays answers commits is =
       moved old new is.2 (stays (Damaged file bytes) refl).0
   holds_reply old names meaning (Err (Damaged file bytes)) (Halted before next n) has stays answers commits is =
-      between old before next Reopens (meaning.carried old names) has commits is.1
+      between meaning.pools names old before next Reopens (meaning.carried old names) has commits is.1
   holds_reply old names meaning (Err Memory) (Running new n) has stays answers commits is = moved old new is (stays Memory refl).0
   holds_reply old names meaning (Err Memory) (Halted before next n) has stays answers commits is = absurd is
 

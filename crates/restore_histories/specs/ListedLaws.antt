@@ -137,12 +137,12 @@ module _ (name : List ℕ) (number : ℕ) (was : Backup) where
   listed_step : (state : State) (event : Event) (reply : Reply) (new : State) → IsStep state event reply new → GivenOutIn state → GivenOutIn new
   listed_step (Running old names) event reply new step has =
       let w = faulted_is event old in
-      holds_reply OfOffice OfKept raises old names (meaning_of event) reply new has
+      holds_reply OfOffice OfKept raises (λ office ids h. h) (λ kept ids h. h) old names (meaning_of event) reply new has
       (λ refusal is. (has, subst OfOffice (sym w.1) has))
       (λ c e is. given_later name number was old.hosts c.after.hosts (hosts_follow event old names c e) has)
       (λ c e. given_later name number was old.hosts c.after.hosts (hosts_follow event old names c e) has) step.0
   listed_step (Halted before next names) event reply new step has =
-      holds_halted OfOffice OfKept raises (λ kept h. h) before next (meaning_of event).renames reply new has.0 has.1 step.0
+      holds_halted OfOffice OfKept raises (λ office ids h. h) (λ kept ids h. h) (λ kept h. h) before next (meaning_of event).renames reply new has.0 has.1 step.0
 
   pub listed_last : (state : State) (faults : ℕ) (entries : List Entry) → GivenOutIn state → IsHistory state faults entries
       → GivenOutIn (last_state state entries)
@@ -154,7 +154,7 @@ module _ (name : List ℕ) (number : ℕ) (was : Backup) where
   pub stays_in : (state : State) → IsSoundState state → GivenOutIn state → StaysIn state name number was
   stays_in (Running office names) sound has = is_still name number was office.hosts sound.office.hosts has
   stays_in (Halted before next names) sound has =
-      (is_still name number was before.hosts sound.0.hosts has.0, is_still name number was next.hosts sound.1.hosts has.1)
+      (is_still name number was before.hosts sound.0.sound.hosts has.0, is_still name number was next.hosts sound.1.sound.hosts has.1)
 
 pub listed_stays : ListedStays
 listed_stays office names faults entries name number backup sound legal has =
