@@ -100,6 +100,7 @@ rule_status B.BadBucket = 422
 rule_status B.BadPiece = 400
 rule_status B.TokensFull = 422
 rule_status B.NumberBehind = 409
+rule_status B.NoContent = 404
 
 abbrev pub refusal_status : Refusal → ℕ
 refusal_status (R.Broken rule) = rule_status rule

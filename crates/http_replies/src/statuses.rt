@@ -78,6 +78,7 @@ fn rule_status(rule: BrokenRule) -> StatusCode
         BrokenRule::BadPiece => StatusCode::BAD_REQUEST,
         BrokenRule::TokensFull => StatusCode::UNPROCESSABLE_ENTITY,
         BrokenRule::NumberBehind => StatusCode::CONFLICT,
+        BrokenRule::NoContent => StatusCode::NOT_FOUND,
     }
 }
 

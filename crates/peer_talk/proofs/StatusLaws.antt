@@ -55,6 +55,7 @@ rule-plain B.BadBucket = refl
 rule-plain B.BadPiece = refl
 rule-plain B.TokensFull = refl
 rule-plain B.NumberBehind = refl
+rule-plain B.NoContent = refl
 
 pub refusal-plain : (refusal : Refusal) → is_plain_status (refusal_status refusal) ≡ true
 unfolding phrase
