@@ -153,10 +153,10 @@ ids_moved names index next us vs files image old new was is same stays used =
     (are_ids names.digest_of index (contents_of files) old.pool old.ids was.one was.pool was.ids)
     (are_ids names.digest_of next (contents_of image) new.pool new.ids is.one is.pool is.ids)
     (λ id content at pooled.
-        let w = listed_at names.digest_of index (contents_of files) old.pool old.ids was.one was.pool was.ids id content at in
-        let listed : IsListed index id = ap is_some w.1 in
-        let there : IsListed next id = stays id listed (ap (is_pooled new.pool) w.2 ∙ pooled) in
-        content_there next (contents_of image) new.ids is.ids id there ∙ ap Some (sym (same id listed there) ∙ w.2))
+    let w = listed_at names.digest_of index (contents_of files) old.pool old.ids was.one was.pool was.ids id content at in
+    let listed : IsListed index id = ap is_some w.1 in
+    let there : IsListed next id = stays id listed (ap (is_pooled new.pool) w.2 ∙ pooled) in
+    content_there next (contents_of image) new.ids is.ids id there ∙ ap Some (sym (same id listed there) ∙ w.2))
     (λ id content at fresh.
-        let w = listed_at names.digest_of next (contents_of image) new.pool new.ids is.one is.pool is.ids id content at in
-        used id (ap is_some w.1))
+    let w = listed_at names.digest_of next (contents_of image) new.pool new.ids is.one is.pool is.ids id content at in
+    used id (ap is_some w.1))

@@ -95,13 +95,7 @@ impl MemoryOffice {
     }
 
     /// A piece of at most so many bytes.
-    fn piece_in(
-        &self,
-        alloc: Global,
-        id: PoolId,
-        from: u64,
-        room: usize,
-    ) -> Result<Answer, Refusal>
+    fn piece_in(&self, alloc: Global, id: PoolId, from: u64, room: usize) -> Result<Answer, Refusal>
         ensures { IsMemoryStep (piece_carried room id from self.now) self.now result self.now }
     {
         let content = content_of(&self.ids, id)?;
@@ -109,12 +103,7 @@ impl MemoryOffice {
     }
 
     #[tactic(auto, unfolding(office_model::specs::Office::piece_limit))]
-    pub(crate) fn pool_piece(
-        &self,
-        alloc: Global,
-        id: PoolId,
-        from: u64,
-    ) -> Result<Answer, Refusal>
+    pub(crate) fn pool_piece(&self, alloc: Global, id: PoolId, from: u64) -> Result<Answer, Refusal>
         ensures { IsMemoryStep (pool_piece id from self.now) self.now result self.now }
     {
         self.piece_in(alloc, id, from, PIECE_LIMIT)
