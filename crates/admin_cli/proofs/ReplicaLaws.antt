@@ -8,7 +8,7 @@ use native.Mathlib.Numerals.{unary_clauses}
 use Rattle.stream_traits.specs.Seen.{LinkSeen}
 use Rattle.disk_trait.specs.declared.disk.Disk.{Ghosts as DiskGhosts}
 use Rattle.disk_trait.specs.Files.{Files}
-use Rattle.disk_trait.specs.Images.{only_wider}
+use Rattle.disk_trait.specs.ImagesLaws.{only_wider}
 use Rattle.journal_view.specs.FoundLaws.{finds_wider}
 use Rattle.office_files.specs.Stands.{StandsFor}
 use Rattle.office_model.specs.declared.event.Event.{Event}

@@ -19,7 +19,7 @@ use Rattle.office_model.specs.declared.refusal.BrokenRule.TheVariants.{BadBucket
 use Rattle.office_model.specs.Meaning.{Carried, Reply, Judged, breaks, ◌>>◌}
 use Rattle.office_model.specs.Office.{Office, Host, Names, with_hosts}
 use Rattle.office_model.specs.Parts.{host_at}
-use Rattle.office_model.specs.Places.{position-found, position-some}
+use Rattle.office_model.specs.PlacesLaws.{position-found, position-some}
 use Rattle.office_model.specs.Step.{Call, State, Running, Halted, IsStep, meaning_of}
 use Rattle.office_model.specs.History.{Entry, IsUndamaged, IsHistory, calls_of, last_faults}
 use Rattle.office_model.specs.events.Hosts.{names as names_in}

@@ -13,7 +13,8 @@ use Rattle.receipts.specs.declared.receipt.Receipt.{Receipt}
 use Rattle.office_model.specs.declared.answer.Answer.{Answer}
 use Rattle.office_model.specs.declared.answer.Answer.TheVariants as A
 use Rattle.office_model.specs.declared.refusal.BrokenRule.TheVariants.{NoSession, NumberBehind}
-use Rattle.office_model.specs.Places.{Differ, slice_get-set_same, slice_get-set_other}
+use Rattle.office_model.specs.Places.{Differ}
+use Rattle.office_model.specs.PlacesLaws.{slice_get-set_same, slice_get-set_other}
 use Rattle.office_model.specs.Pool.{with_tree}
 use Rattle.office_model.specs.Office.{Office, Host, Backup, Dump, IsSound, host_index, dump_index}
 use Rattle.office_model.specs.Meaning.{Carried, found}

@@ -27,7 +27,7 @@ use Rattle.stored_trees.specs.Occurrences.{names, occurrences}
 use Rattle.ref_counts.specs.Numbers.{total}
 use Rattle.backup_delete.specs.Trees.{tree_of, is_gone, needs_fold}
 use Rattle.backup_delete.specs.Folds.{next_tree, replaced, change_of, changes, added_tables, taken_tables}
-use Rattle.backup_delete.specs.Counted.{added_total}
+use Rattle.backup_delete.specs.CountedLaws.{added_total}
 
 -- ---- rows by paths
 

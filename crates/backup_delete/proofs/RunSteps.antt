@@ -13,7 +13,8 @@ use Rattle.merge_view.specs.ViewLaws.{IsInOrder-trimmed, trimmed-view}
 use Rattle.merge_view.specs.Tables.{AllInOrder}
 use Rattle.merge_view.specs.TableLaws.{view-stack, none-stacked}
 use Rattle.backup_delete.specs.Trees.{tree_of, is_first_filled}
-use Rattle.backup_delete.specs.RunFolds.{resolved, remaining, goes_on, trimmed-further, trimmed-none}
+use Rattle.backup_delete.specs.RunFolds.{resolved, remaining, goes_on}
+use Rattle.backup_delete.specs.RunFoldsLaws.{trimmed-further, trimmed-none}
 use Rattle.backup_delete.proofs.AddedLaws.{tree_order}
 use Rattle.backup_delete.proofs.Steps.{one_at, line_at, line_is}
 

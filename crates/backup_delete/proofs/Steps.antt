@@ -15,7 +15,7 @@ use Rattle.ref_counts.specs.Numbers.{total, capped}
 use Rattle.backup_delete.specs.Trees.{tree_of, is_gone, needs_fold}
 use Rattle.backup_delete.specs.Folds.{filled, last_filled, next_tree, new_table, Change, replaced, change_of, changes, added_tables, taken_tables}
 use Rattle.backup_delete.specs.Walks.{IsNext}
-use Rattle.backup_delete.specs.Counted.{added_total}
+use Rattle.backup_delete.specs.CountedLaws.{added_total}
 
 pub one_at : {A : Type 0} (xs : List A) (i : ℕ) (x : A) → i < length xs → x ≡ get_or xs i x → drop i xs ≡ x ∷ drop (i + 1) xs
 one_at xs i x within is = drop-cons xs i x within ∙ (λ k. sym is k ∷ drop (sym (add-one i) k) xs)

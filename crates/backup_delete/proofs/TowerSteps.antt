@@ -13,7 +13,8 @@ use Rattle.merge_view.specs.TableLaws.{stacked-none}
 use Rattle.backup_delete.specs.declared.tower.Block.{Block}
 use Rattle.backup_delete.specs.declared.tower.Tower.{Tower}
 use Rattle.backup_delete.specs.Trees.{tree_of, is_first_filled}
-use Rattle.backup_delete.specs.RunFolds.{resolved, remaining, resolved_in_order, goes_on, trimmed-view_through, trimmed-none}
+use Rattle.backup_delete.specs.RunFolds.{resolved, remaining, goes_on}
+use Rattle.backup_delete.specs.RunFoldsLaws.{resolved_in_order, trimmed-view_through, trimmed-none}
 use Rattle.backup_delete.specs.Towers.{IsBlock, IsStack, IsBase, IsTower}
 use Rattle.backup_delete.proofs.RunSteps.{from_order, run_halves}
 

@@ -1,9 +1,10 @@
-pub mod Counted
+pub mod CountedLaws
 pub mod FoldLaws
 pub mod Folds
 pub mod LineLaws
 pub mod Lookups
 pub mod RunFolds
+pub mod RunFoldsLaws
 pub mod TableLaws
 pub mod Towers
 pub mod Trees

@@ -155,7 +155,7 @@ fn remaining_rows(alloc: Global, entries: &[Row], table: &[Row]) -> Result<Vec<R
 
 /// The entries at a table's paths that differ from it, or want of memory: one pass over both, or over the entries alone
 /// if they are few.
-#[tactic(auto, using(crate::specs::RunFolds::resolved_in_order))]
+#[tactic(auto, using(crate::specs::RunFoldsLaws::resolved_in_order))]
 pub(crate) fn resolved(alloc: Global, entries: &Table, table: &Table) -> Result<Table, AllocError>
     ensures { IfOk result (λ here. here ≡ resolved entries.now table.now) }
 {
@@ -165,7 +165,7 @@ pub(crate) fn resolved(alloc: Global, entries: &Table, table: &Table) -> Result<
 
 /// The entries at other paths than a table's, or want of memory: one pass over both, or over the entries alone if they
 /// are few.
-#[tactic(auto, using(crate::specs::RunFolds::remaining_in_order))]
+#[tactic(auto, using(crate::specs::RunFoldsLaws::remaining_in_order))]
 pub(crate) fn remaining(alloc: Global, entries: &Table, table: &Table) -> Result<Table, AllocError>
     ensures { IfOk result (λ rest. rest ≡ remaining entries.now table.now) }
 {

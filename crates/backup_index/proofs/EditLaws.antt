@@ -3,7 +3,8 @@ use Rattle.std.proofs.Common.{◌≡◌, ℕ, zero, suc, ◌+◌, ◌<◌, ◌�
 use Rattle.std.specs.Prelude.{slice_set}
 use Rattle.std.proofs.lemmas.Bool.{false≢true}
 use Rattle.backup_rules.specs.declared.lines.Line.{Line}
-use Rattle.backup_index.specs.Lines.{Follows, is_none, LinesFrom, IsSound, broken_line, follows_from_none}
+use Rattle.backup_index.specs.Lines.{Follows, is_none, LinesFrom, IsSound, broken_line}
+use Rattle.backup_index.specs.LinesLaws.{follows_from_none}
 
 some_behind : (lines : List Line) (line : Line) → is_none (lines ++ line ∷ []) ≡ false
 some_behind [] line = refl

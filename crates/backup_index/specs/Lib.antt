@@ -1,4 +1,5 @@
 pub mod Faults
+pub mod LinesLaws
 pub mod Names
 pub mod FreshLaws
 pub mod NameLaws

@@ -7,7 +7,8 @@ use Rattle.std.proofs.lemmas.Map.Keys.{IsDistinct-from_sorted, IsDistinct-head, 
 use Rattle.disk_trait.specs.declared.ids.FileId.{FileId}
 use Rattle.disk_trait.specs.declared.map.FileMap.{FileMap}
 use Rattle.disk_trait.specs.Names.{is_same_file}
-use Rattle.disk_trait.specs.Order.{file_cmp, file_eq, file_eq_equiv, file_eq_same}
+use Rattle.disk_trait.specs.Order.{file_cmp, file_eq}
+use Rattle.disk_trait.specs.OrderLaws.{file_eq_equiv, file_eq_same}
 use Rattle.disk_trait.specs.Files.{Files, with_bytes, lists, IsListedOnce, IsListing}
 use Rattle.disk_trait.specs.Maps.{files_of}
 

@@ -1,9 +1,13 @@
+pub mod ImagesLaws
+pub mod LogLaws
 pub mod Names
 pub mod Files
 pub mod Images
 pub mod Log
 pub mod Memory
 pub mod Image
+pub mod NamesLaws
 pub mod Order
 pub mod Maps
+pub mod OrderLaws
 pub mod ScriptImages

@@ -5,10 +5,6 @@
 --     WasLeft      what a crash at one of the moments from one on might have left
 --     IsWhole      a record with room for the changes that it still takes
 use Rattle.std.specs.Prelude.{◌≡◌, ℕ, ◌+◌, ◌≤◌, ⊤, List, [], ◌∷◌, ◌++◌, length, take, drop, map, Option, Some, None, vec_len, vec_capacity}
-use Rattle.std.proofs.Common.{refl, ap, ◌∙◌, arith}
-use Rattle.std.specs.Coded.{×_prop, Unit-prop, le_prop, Coded-set, coded_option, coded_list, coded_ℕ}
-use Rattle.std.proofs.Math.Seq.{take-length}
-use Rattle.std.proofs.lemmas.List.{take_all}
 use Rattle.disk_trait.specs.declared.ids.FileId.{FileId}
 use Rattle.disk_trait.specs.declared.log.Span.{Span}
 use Rattle.disk_trait.specs.declared.log.Entry.{Entry}
@@ -84,8 +80,6 @@ pub record WasLeft (start : Files) (calls : List Call) (since : ℕ) (image : Fi
   pub within : at ≤ length calls
   pub image_of : IsImage (files_after start (take at calls)) (uncertain_after nothing (take at calls)) image
 
--- ---- of a record
-
 -- the files that it began with
 abbrev pub log_start : Log → Files
 log_start log = files_after no_files (calls_of log.bytes.items log.start.items)
@@ -140,37 +134,3 @@ pub record Follows (call : Call) (index : Option FileMap) (new : FileMap) : Type
   pub old : FileMap
   pub was : index ≡ Some old
   pub are : files_of new ≡ files_with (files_of old) call
-
--- ---- laws that the disk in memory cites
-
-IsKept-prop : (count : ℕ) (entry : Entry) → IsProp (IsKept count entry)
-IsKept-prop count (E.Written file span) = le_prop
-IsKept-prop count (E.Extended file span) = le_prop
-IsKept-prop count (E.Removed file) = Unit-prop
-IsKept-prop count (E.Missed file) = Unit-prop
-IsKept-prop count E.Synced = Unit-prop
-
-AreKept-prop : (count : ℕ) (entries : List Entry) → IsProp (AreKept count entries)
-AreKept-prop count [] = Unit-prop
-AreKept-prop count (entry ∷ later) = ×_prop (IsKept-prop count entry) (AreKept-prop count later)
-
-pub IsWhole-prop : (log : Log) → IsProp (IsWhole log)
-IsWhole-prop log = hlevel (AreKept-prop, le_prop, Coded-set (coded_option (coded_list coded_ℕ)))
-
-image_is : (files : Files) (uncertain : FileSet) (image : Files) → MayLeave (Some files) uncertain image → IsImage files uncertain image
-image_is files uncertain image may =
-    let one : may.all ≡ files = cc (may.is) in
-    record { each = λ asked out. may.image_of.each asked out ∙ ap (λ (x : Files). x asked) one }
-
-pub log_counts : (log : Log) (t : ℕ) (image : Files) → t ≤ log_moment log → MayLeave (Some (log_files log)) (log_uncertain log) image → log_left log t image
-log_counts log t image le may = record {
-  at = log_moment log;
-  from = le;
-  within = omega arith;
-  image_of = rw (take-length (log_calls log)) (image_is (log_files log) (log_uncertain log) image may);
-}
-
-pub log_only : (log : Log) (image : Files) → log_left log (log_moment log) image → MayLeave (Some (log_files log)) (log_uncertain log) image
-log_only log image left =
-    let last : take left.at (log_calls log) ≡ log_calls log = take_all left.at (log_calls log) left.from in
-    record { all = log_files log; is = refl; image_of = rw last at left.image_of }

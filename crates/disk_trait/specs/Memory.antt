@@ -6,7 +6,8 @@ use Rattle.disk_trait.specs.Files.{Files}
 use Rattle.disk_trait.specs.Images.{FileSet, MayLeave}
 use Rattle.disk_trait.specs.declared.image.Choice.{Choice}
 use Rattle.disk_trait.specs.Image.{image_after}
-use Rattle.disk_trait.specs.Log.{log_start, log_calls, log_files, log_uncertain, log_moment, log_left, log_counts, log_only}
+use Rattle.disk_trait.specs.Log.{log_start, log_calls, log_files, log_uncertain, log_moment, log_left}
+use Rattle.disk_trait.specs.LogLaws.{log_counts, log_only}
 
 -- the files, which the disk tells
 abbrev pub told_files : MemoryDisk → Option Files

@@ -1,9 +1,7 @@
 -- Names of files: which are one, which kind each is of, and what each is called.
-use Rattle.std.specs.Prelude.{◌≡◌, ℕ, Bool, true, false, List, [], ◌∷◌, ◌++◌, if◌then◌else◌, ◌==◌, bytes_eq, slice_index, drop, codes, refl}
+use Rattle.std.specs.Prelude.{ℕ, Bool, true, false, List, [], ◌∷◌, ◌++◌, if◌then◌else◌, ◌==◌, bytes_eq, slice_index, drop, codes}
 use Rattle.std.specs.Fmt.{decimal}
 use Rattle.hex.specs.Hex.{encode_lower}
-use Rattle.std.proofs.Common.{sym, ap, ◌∙◌}
-use Rattle.std.specs.Cmp.Lexicographic.{bytes_decides}
 use Rattle.disk_trait.specs.declared.ids.PoolId.{PoolId}
 use Rattle.disk_trait.specs.declared.ids.FileId.{FileId}
 use Rattle.disk_trait.specs.declared.ids.FileId.TheVariants.{Head, Intent, Gate, Host, Table, Counts, PoolIndex, PoolBucket, Partial, Pool, Stage}
@@ -39,31 +37,6 @@ file_at key =
     else if slice_index key 0 == 10 then Pool (pool_id (slice_index key 1) (drop 2 key))
     else if slice_index key 0 == 11 then Stage (slice_index key 1)
     else Head
-
-pub file_at-file_key : (file : FileId) → file_at (file_key file) ≡ file
-file_at-file_key Head = refl
-file_at-file_key Intent = refl
-file_at-file_key Gate = refl
-file_at-file_key (Host host) = refl
-file_at-file_key (Table host number) = refl
-file_at-file_key (Counts host) = refl
-file_at-file_key PoolIndex = refl
-file_at-file_key (PoolBucket byte) = refl
-file_at-file_key (Partial host) = refl
-file_at-file_key (Pool id) = refl
-file_at-file_key (Stage number) = refl
-
--- whether two names are one
-unfoldable pub is_same_file : FileId → FileId → Bool
-is_same_file a b = bytes_eq (file_key a) (file_key b)
-
-pub same_file : (a b : FileId) → is_same_file a b ≡ true → a ≡ b
-unfolding is_same_file
-same_file a b e = sym (file_at-file_key a) ∙ ap file_at ((bytes_decides (file_key a) (file_key b)).0 e) ∙ file_at-file_key b
-
-pub is_same_file-itself : (file : FileId) → is_same_file file file ≡ true
-unfolding is_same_file
-is_same_file-itself file = (bytes_decides (file_key file) (file_key file)).1 refl
 
 -- contents of the pool and stages, which are not part of what a commit writes
 abbrev pub is_data : FileId → Bool
@@ -110,3 +83,7 @@ real_name (PoolBucket byte) = codes "pool-index-" ++ decimal byte
 real_name (Partial host) = codes "partial-" ++ decimal host
 real_name (Pool id) = codes "pool-" ++ content_name id
 real_name (Stage number) = codes "stage-" ++ decimal number
+
+-- whether two names are one
+unfoldable pub is_same_file : FileId → FileId → Bool
+is_same_file a b = bytes_eq (file_key a) (file_key b)

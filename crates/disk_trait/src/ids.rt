@@ -110,7 +110,8 @@ impl FileId {
 
 impl PartialEq for FileId {
     ghost use Rattle.std.specs.Cmp.{partial_equiv_from_equiv};
-    ghost use Rattle.disk_trait.specs.Order.{file_eq, file_eq_equiv};
+    ghost use Rattle.disk_trait.specs.Order.{file_eq};
+    ghost use Rattle.disk_trait.specs.OrderLaws.{file_eq_equiv};
 
     ghost eq = { file_eq };
 
@@ -122,7 +123,7 @@ impl PartialEq for FileId {
 }
 
 impl Eq for FileId {
-    ghost use Rattle.disk_trait.specs.Order.{file_eq_equiv};
+    ghost use Rattle.disk_trait.specs.OrderLaws.{file_eq_equiv};
 
     ghost laws = { file_eq_equiv };
 }
@@ -130,7 +131,8 @@ impl Eq for FileId {
 impl PartialOrd for FileId {
     ghost use Rattle.std.specs.Cmp.{partial_order_from_total};
     ghost use Rattle.std.specs.Ordering.{as_partial_cmp};
-    ghost use Rattle.disk_trait.specs.Order.{file_cmp, file_cmp_total};
+    ghost use Rattle.disk_trait.specs.Order.{file_cmp};
+    ghost use Rattle.disk_trait.specs.OrderLaws.{file_cmp_total};
 
     ghost partial_cmp = { as_partial_cmp file_cmp };
 
@@ -143,7 +145,8 @@ impl PartialOrd for FileId {
 
 impl Ord for FileId {
     ghost use Rattle.std.specs.Prelude.{refl};
-    ghost use Rattle.disk_trait.specs.Order.{file_cmp, file_cmp_total};
+    ghost use Rattle.disk_trait.specs.Order.{file_cmp};
+    ghost use Rattle.disk_trait.specs.OrderLaws.{file_cmp_total};
 
     ghost cmp = { file_cmp };
 

@@ -2,7 +2,8 @@ ghost use Rattle.std.specs.Prelude.{ℕ, ◌≡◌, ◌⊎◌, ◌↔◌, ◌+�
 ghost use Rattle.std.specs.Option.{ForSome};
 ghost use Rattle.fault_counts.specs.Counts.{Counted};
 ghost use Rattle.disk_trait.specs.Files.{no_files, changed, appended, piece, SameButOne, IsListing};
-ghost use Rattle.disk_trait.specs.Log.{IsWhole, IsWhole-prop};
+ghost use Rattle.disk_trait.specs.Log.{IsWhole};
+ghost use Rattle.disk_trait.specs.LogLaws.{IsWhole-prop};
 ghost use Rattle.disk_trait.specs.Images.{nothing, also, IsWithin, MayLeave, Elapses};
 
 use crate::disk::{Disk, DiskError, Failed};

@@ -1,20 +1,10 @@
 -- Removed paths: each takes away itself and all below it.
 --     is_gone removed path      one of them takes the path away
 --     IsApart removed      none of them lies within another
-use Rattle.std.specs.Prelude.{◌≡◌, ℕ, ◌==◌, Bool, true, false, ◌||◌, ◌&&◌, not, cond, List, [], ◌∷◌, ◌++◌, Option, Some, None, is_some, ◌⊎◌}
+use Rattle.std.specs.Prelude.{◌≡◌, ℕ, Bool, true, List, is_some}
 use Rattle.std.specs.List.{list_any}
-use Rattle.std.specs.declared.cmp.Ordering.{Ordering}
-use Rattle.std.specs.declared.cmp.Ordering.TheVariants.{Less, Equal, Greater}
-use Rattle.std.specs.Ordering.{is_lt, is_gt, is_eq, eq_by_cmp, ordering_reverse}
-use Rattle.std.specs.Cmp.{first_so, second_so, both_ways, tied_itself, Equal-is}
-use Rattle.std.proofs.Common.{refl, sym, ap, ◌∙◌, inl, inr}
-use borrow.Author.Tests.{eqb-true, eq-eqb}
-use Rattle.std.proofs.lemmas.Bool.{true≢false}
-use Rattle.attr_records.specs.Paths.{path_cmp, is_within}
-use Rattle.attr_records.specs.PathLaws.{path_cmp_total, path_cmp_exact, between}
+use Rattle.attr_records.specs.Paths.{is_within}
 use Rattle.attr_records.specs.Trees.{node_at, with_node, without}
-use Rattle.attr_records.specs.TreeLaws.{node_at-with_node, node_at-without}
-use Rattle.merge_view.specs.RunLaws.{within_after, within_through}
 
 module _ {X : Type 0} where
   -- the path is one of the removed ones

@@ -19,7 +19,7 @@ use Rattle.office_model.specs.declared.event.PutItem.TheVariants.{Whole}
 use Rattle.office_model.specs.declared.answer.Answer.{Answer}
 use Rattle.office_model.specs.declared.answer.Answer.TheVariants as A
 use Rattle.office_model.specs.declared.refusal.BrokenRule.TheVariants.{Put as PutRule, NoSession}
-use Rattle.office_model.specs.Places.{slice_get-set_same, position-found, position-some}
+use Rattle.office_model.specs.PlacesLaws.{slice_get-set_same, position-found, position-some}
 use Rattle.office_model.specs.Pool.{with_tree}
 use Rattle.office_model.specs.Office.{Office, Host, Backup, Dump, Names, IsSound, IsSoundHost, AreNumbered, dump_index, dump_index_of_host, backup_index, number_limit, last_sequence, with_dumps, numbered}
 use Rattle.office_model.specs.Meaning.{Carried, Judged, found, ◌>>=◌}

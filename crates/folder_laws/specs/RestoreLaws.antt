@@ -11,7 +11,7 @@ use Rattle.tree_frames.specs.declared.nodes.Frame.TheVariants.{Deleted, Entry, P
 use Rattle.office_model.specs.declared.event.Event.TheVariants as E
 use Rattle.office_model.specs.declared.answer.Answer.TheVariants as A
 use Rattle.receipts.specs.Session.{is_same_session}
-use Rattle.office_model.specs.Places.{slice_get-set_same, position-found}
+use Rattle.office_model.specs.PlacesLaws.{slice_get-set_same, position-found}
 use Rattle.office_model.specs.Office.{Office, Backup, Restore, Names, IsSound, last_sequence, with_restores, numbered}
 use Rattle.tree_frames.specs.Frames.{frames, entries_of, frames_since, node_of, bytes_of, pieces}
 use Rattle.office_model.specs.Parts.{At, restore_at, backup_of}

@@ -23,7 +23,7 @@ use Rattle.office_model.specs.declared.answer.Answer.{Answer}
 use Rattle.office_model.specs.declared.answer.Answer.TheVariants as A
 use Rattle.office_model.specs.declared.refusal.BrokenRule.TheVariants.{NumbersSpent, BadPiece, NoSession, Put as PutRule}
 use Rattle.receipts.specs.Session.{is_same_session}
-use Rattle.office_model.specs.Places.{position-found, slice_get-set_same}
+use Rattle.office_model.specs.PlacesLaws.{position-found, slice_get-set_same}
 use Rattle.office_model.specs.Office.{Office, Dump, Stage, Names, IsSound, last_sequence, content_limit, stage_content, stage_index, with_dumps, with_stages}
 use Rattle.office_model.specs.Meaning.{Judged, ◌>>=◌, breaks}
 use Rattle.office_model.specs.Parts.{At, dump_at, stage_at}

@@ -7,7 +7,7 @@ ghost use Rattle.disk_trait.specs.Files.{piece};
 ghost use Rattle.attr_records.specs.Items.{is_dir, is_large};
 ghost use Rattle.attr_records.specs.Paths.{parent};
 ghost use Rattle.attr_records.specs.Trees.{IsTree, node_at, with_node};
-ghost use Rattle.folder_trait.specs.TreeProps.{IsTree-prop};
+ghost use Rattle.folder_trait.specs.TreePropsLaws.{IsTree-prop};
 ghost use Rattle.folder_trait.specs.Folders.{IsFree, is_child, name_in, entry_of, listed, unfinished, begun, longer, touched, made, file_bytes};
 
 use crate::folder::{Folder, FolderFault};
@@ -301,7 +301,7 @@ impl MemoryFolder {
 
 impl Folder for MemoryFolder {
     ghost use Rattle.std.specs.Prelude.{Some};
-    ghost use Rattle.folder_trait.specs.TreeProps.{told_tree};
+    ghost use Rattle.folder_trait.specs.TreePropsLaws.{told_tree};
 
     ghost tree = { λ folder. Some folder.tree.entries };
 

@@ -6,9 +6,11 @@ use Rattle.disk_trait.specs.declared.ids.FileId.{FileId}
 use Rattle.disk_trait.specs.declared.ids.FileId.TheVariants.{Gate}
 use Rattle.disk_trait.specs.declared.disk.Disk.{Ghosts}
 use Rattle.disk_trait.specs.declared.disk.Failed.{Failed}
-use Rattle.disk_trait.specs.Names.{is_same_file, same_file, is_data}
+use Rattle.disk_trait.specs.Names.{is_same_file, is_data}
+use Rattle.disk_trait.specs.NamesLaws.{same_file}
 use Rattle.disk_trait.specs.Files.{Files, with_bytes, with_more, changed, appended, SameButOne}
-use Rattle.disk_trait.specs.Images.{FileSet, also, IsWithin, IsImage, MayLeave, Elapses, leaves_by, leaves_only}
+use Rattle.disk_trait.specs.Images.{FileSet, also, IsWithin, IsImage, MayLeave, Elapses}
+use Rattle.disk_trait.specs.ImagesLaws.{leaves_by, leaves_only}
 use Rattle.intent_journal.specs.declared.fault.JournalFault.{JournalFault}
 use Rattle.intent_journal.specs.declared.fault.JournalFault.TheVariants.{Disk, Halted, Memory}
 use Rattle.intent_journal.specs.declared.journal.Journal.{Journal}

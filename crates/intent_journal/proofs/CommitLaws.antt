@@ -3,9 +3,11 @@ use Rattle.std.proofs.Common.{◌≡◌, ℕ, true, false, List, [], ◌∷◌, 
 use Rattle.std.proofs.lemmas.Bool.{false≢true}
 use Rattle.disk_trait.specs.declared.ids.FileId.{FileId}
 use Rattle.disk_trait.specs.declared.ids.FileId.TheVariants.{Intent, Gate}
-use Rattle.disk_trait.specs.Names.{is_same_file, is_same_file-itself}
+use Rattle.disk_trait.specs.Names.{is_same_file}
+use Rattle.disk_trait.specs.NamesLaws.{is_same_file-itself}
 use Rattle.disk_trait.specs.Files.{Files, with_bytes, changed, SameButOne}
-use Rattle.disk_trait.specs.Images.{FileSet, nothing, also, IsWithin, IsImage, MayLeave, Leaves, LeavesOnly, leaves_then, leaves_wider}
+use Rattle.disk_trait.specs.Images.{FileSet, nothing, also, IsWithin, IsImage, MayLeave, Leaves, LeavesOnly}
+use Rattle.disk_trait.specs.ImagesLaws.{leaves_then, leaves_wider}
 use Rattle.intent_journal.specs.declared.changes.Change.{Change}
 use Rattle.intent_journal.specs.Changes.{applied, names, IsIntent}
 use Rattle.intent_journal.specs.Layout.{intent_file, is_open}

@@ -3,7 +3,8 @@ use Rattle.std.proofs.Common.{◌≡◌, Bool, true, false, List, [], ◌∷◌,
 use Rattle.std.proofs.lemmas.Bool.{false≢true}
 use Rattle.disk_trait.specs.declared.ids.FileId.{FileId}
 use Rattle.disk_trait.specs.declared.ids.FileId.TheVariants.{Intent, Gate, Pool, Stage}
-use Rattle.disk_trait.specs.Names.{is_same_file, same_file, is_same_file-itself, is_metadata, is_data}
+use Rattle.disk_trait.specs.Names.{is_same_file, is_metadata, is_data}
+use Rattle.disk_trait.specs.NamesLaws.{same_file, is_same_file-itself}
 use Rattle.disk_trait.specs.Files.{Files, with_bytes}
 use Rattle.intent_journal.specs.declared.changes.Change.{Change}
 use Rattle.intent_journal.specs.Changes.{applied, names, AreChanges}

@@ -5,7 +5,8 @@ use Rattle.std.proofs.Common.{inl, inr, ⊎_elim, refl, sym, ap, ◌∙◌, arit
 use Rattle.disk_trait.specs.declared.ids.FileId.{FileId}
 use Rattle.disk_trait.specs.declared.disk.Disk.{Ghosts}
 use Rattle.disk_trait.specs.Files.{Files}
-use Rattle.disk_trait.specs.Images.{FileSet, nothing, MayLeave, Leaves, leaves_then, leaves_wider}
+use Rattle.disk_trait.specs.Images.{FileSet, nothing, MayLeave, Leaves}
+use Rattle.disk_trait.specs.ImagesLaws.{leaves_then, leaves_wider}
 use Rattle.intent_journal.specs.declared.fault.OpenJournalFault.{OpenJournalFault}
 use Rattle.intent_journal.specs.declared.fault.OpenJournalFault.TheVariants.{Foreign, Memory as NoMemory}
 use Rattle.intent_journal.specs.declared.journal.Journal.{Journal}

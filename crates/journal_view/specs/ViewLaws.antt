@@ -5,9 +5,11 @@ use Rattle.std.proofs.Common.{inl, inr, ⊎_elim, refl, sym, ap, ◌∙◌, subs
 use Rattle.std.specs.Option.{ForSome}
 use Rattle.disk_trait.specs.declared.ids.FileId.{FileId}
 use Rattle.disk_trait.specs.declared.disk.Disk.{Ghosts}
-use Rattle.disk_trait.specs.Names.{is_same_file, same_file}
+use Rattle.disk_trait.specs.Names.{is_same_file}
+use Rattle.disk_trait.specs.NamesLaws.{same_file}
 use Rattle.disk_trait.specs.Files.{piece, IsListing, Files, SameButOne, changed, appended, with_bytes, with_more, bytes_of}
-use Rattle.disk_trait.specs.Images.{FileSet, nothing, also, IsWithin, Leaves, leaves_none, leaves_then, leaves_wider}
+use Rattle.disk_trait.specs.Images.{FileSet, nothing, also, IsWithin, Leaves}
+use Rattle.disk_trait.specs.ImagesLaws.{leaves_none, leaves_then, leaves_wider}
 use Rattle.intent_journal.specs.declared.changes.Change.{Change}
 use Rattle.intent_journal.specs.declared.fault.JournalFault.{JournalFault}
 use Rattle.intent_journal.specs.declared.journal.Journal.{Journal}

@@ -27,7 +27,7 @@ use Rattle.pool_fate.specs.declared.fate.Fate.TheVariants.{Gains, Loses, Leaves}
 use Rattle.ref_counts.specs.Cleaning.{next_mark}
 use Rattle.nightly_clean.specs.Cleanings.{is_named, is_protected, is_wanted, wanted_ids, live_as, cleaned_slot, cleaned}
 use Rattle.disk_trait.specs.declared.ids.FileId.TheVariants.{Pool}
-use Rattle.disk_trait.specs.Names.{is_same_file-itself}
+use Rattle.disk_trait.specs.NamesLaws.{is_same_file-itself}
 
 -- ---- names of a list
 

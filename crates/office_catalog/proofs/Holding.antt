@@ -3,7 +3,8 @@ use Rattle.std.proofs.Common.{◌≡◌, inl, inr, ℕ, true, false, List, Optio
 use Rattle.std.specs.Prelude.{slice_get}
 use Rattle.disk_trait.specs.declared.ids.FileId.{FileId}
 use Rattle.disk_trait.specs.declared.ids.FileId.TheVariants.{Head, Host, Intent, Gate, Table, Counts, PoolIndex, PoolBucket, Partial, Pool, Stage}
-use Rattle.disk_trait.specs.Names.{is_same_file, same_file, is_same_file-itself}
+use Rattle.disk_trait.specs.Names.{is_same_file}
+use Rattle.disk_trait.specs.NamesLaws.{same_file, is_same_file-itself}
 use Rattle.disk_trait.specs.Files.{Files, with_bytes}
 use Rattle.intent_journal.specs.ChangesLaws.{either, with_bytes_there, with_bytes_other}
 use Rattle.wire_bytes.specs.Seal.{sealed}

@@ -7,7 +7,8 @@ use Rattle.std.specs.Prelude.{IfSome}
 use Rattle.std.proofs.lemmas.Option.{none-some, same_Some}
 use Rattle.std.proofs.lemmas.Bool.{false≢true}
 use Rattle.backup_index.specs.Index.{Index}
-use Rattle.backup_index.specs.Lines.{IsSound, broken_index, none_from_sound}
+use Rattle.backup_index.specs.Lines.{IsSound, broken_index}
+use Rattle.backup_index.specs.LinesLaws.{none_from_sound}
 use Rattle.backup_index.specs.declared.lines.IndexRule.{IndexRule}
 use Rattle.office_catalog.specs.declared.named.NamedHost.{NamedHost}
 use Rattle.office_catalog.specs.Known.{Known, known_of, names_of, changed_at, with_change, host_named, IsHost, IsCatalog}

@@ -19,7 +19,8 @@ use Rattle.ref_counts.specs.Numbers.{total}
 use Rattle.ref_counts.specs.Stored.{Backup as StoredBackup, StoredHost, stored_before, stored, of_partial, counted}
 use Rattle.ref_counts.specs.StoredLaws.{total-counted}
 use Rattle.office_model.specs.Office.{Backup, Partial, Host, IsTree, AreNumbered, number_limit}
-use Rattle.office_model.specs.Pairs.{AtEachPair, other_at}
+use Rattle.office_model.specs.Pairs.{AtEachPair}
+use Rattle.office_model.specs.PairsLaws.{other_at}
 use Rattle.office_files.specs.Hosts.{IsShown, StandsPartial}
 
 -- ---- a merge has no more entries than both lists

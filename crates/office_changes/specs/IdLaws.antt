@@ -16,12 +16,12 @@ use Rattle.attr_tables.specs.Records.{is_same_id}
 use Rattle.attr_tables.specs.RecordLaws.{same_id}
 use Rattle.pool_index.specs.declared.item.IndexItem.{IndexItem}
 use Rattle.pool_index.specs.Items.{id_cmp}
-use Rattle.pool_index.specs.ItemLaws.{id_total}
+use Rattle.pool_index.specs.ItemLaws.{id_total, id_exact}
 use Rattle.pool_index.specs.Index.{Index}
 use Rattle.merge_view.specs.Views.{Rows}
 use Rattle.stored_trees.specs.Resolved.{content_in}
 use Rattle.stored_trees.specs.Occurrences.{is_content, names as names_id}
-use Rattle.ref_counts.specs.Ids.{same_key, id_exact}
+use Rattle.ref_counts.specs.IdsLaws.{same_key}
 use Rattle.ref_counts.specs.Stored.{StoredHost}
 use Rattle.office_model.specs.Pool.{is_pooled}
 use Rattle.office_model.specs.Ids.{Ids, content_at}

@@ -5,7 +5,8 @@ use Rattle.std.proofs.Common.{refl}
 use Rattle.std.proofs.lemmas.Bool.{false≢true}
 use Rattle.disk_trait.specs.declared.ids.FileId.{FileId}
 use Rattle.disk_trait.specs.declared.ids.FileId.TheVariants as F
-use Rattle.disk_trait.specs.Names.{is_same_file, is_same_file-itself}
+use Rattle.disk_trait.specs.Names.{is_same_file}
+use Rattle.disk_trait.specs.NamesLaws.{is_same_file-itself}
 use Rattle.intent_journal.specs.declared.changes.Change.{Change}
 use Rattle.intent_journal.specs.Changes.{names}
 use Rattle.office_files.specs.TableLayouts.{is_first_table, WriteNoFirst}

@@ -25,7 +25,8 @@ use Rattle.backup_delete.specs.FoldLaws.{folded-stored}
 use Rattle.backup_delete.specs.TableLaws.{changed-left}
 use Rattle.office_model.specs.Office.{Host, Backup, Partial, AreNumbered, backup_index}
 use Rattle.office_model.specs.Parts.{lines_of, with_last, filled_as}
-use Rattle.office_model.specs.Pairs.{AtEachPair, no_pairs}
+use Rattle.office_model.specs.Pairs.{AtEachPair}
+use Rattle.office_model.specs.PairsLaws.{no_pairs}
 use Rattle.office_files.specs.Layouts.{IsHostFile, IsTableFile, IsCountsFile}
 use Rattle.office_files.specs.Hosts.{index_of_host, IsShown, StandsPartial, StandsHost}
 use Rattle.office_files.specs.KeptLaws.{IsTableFile-same, partial_given}

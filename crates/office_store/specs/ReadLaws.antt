@@ -26,7 +26,7 @@ use Rattle.office_model.specs.declared.answer.Answer.{Answer}
 use Rattle.office_model.specs.declared.answer.Answer.TheVariants as A
 use Rattle.office_model.specs.declared.event.Event.TheVariants as E
 use Rattle.office_model.specs.declared.refusal.Refusal.TheVariants as R
-use Rattle.office_model.specs.Places.{slice_get-set_same, position-found}
+use Rattle.office_model.specs.PlacesLaws.{slice_get-set_same, position-found}
 use Rattle.office_model.specs.laws.Lookups.{same_session}
 use Rattle.receipts.specs.declared.session.SessionName.{SessionName}
 use Rattle.receipts.specs.Session.{is_same_session}

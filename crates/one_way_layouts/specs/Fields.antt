@@ -12,7 +12,8 @@ use Rattle.wire_bytes.proofs.Signed.{signed_field}
 use Rattle.wire_bytes.proofs.Texts.{text_field}
 use Rattle.wire_bytes.proofs.Flags.{flag_field, magic_field}
 use Rattle.disk_trait.specs.declared.ids.PoolId.{PoolId}
-use Rattle.one_way_layouts.specs.OneWay.{IsOneWay, narrow_once, field_once, peel}
+use Rattle.one_way_layouts.specs.OneWay.{IsOneWay}
+use Rattle.one_way_layouts.specs.OneWayLaws.{narrow_once, field_once, peel}
 
 pub number_once : (w : Width) → IsFieldWidth w → IsReadOneWay (IsNumber w) (number_bytes w)
 number_once w is = read_one_way (number_field w is).reads

@@ -16,7 +16,7 @@ use Rattle.partial_files.specs.Partials.{partial_grammar, partial_file}
 use Rattle.pool_index.specs.declared.item.IndexItem.{IndexItem}
 use Rattle.pool_index.specs.Layout.{IsIndex, index_file, index_grammar as pool_grammar}
 use Rattle.pool_index.specs.LayoutLaws.{fits_index}
-use Rattle.one_way_layouts.specs.OneWay.{sealed_once}
+use Rattle.one_way_layouts.specs.OneWayLaws.{sealed_once}
 use Rattle.one_way_layouts.specs.HostLaws.{head_once, index_once}
 use Rattle.one_way_layouts.specs.TableLaws.{table_once}
 use Rattle.one_way_layouts.specs.PartialLaws.{partial_once}

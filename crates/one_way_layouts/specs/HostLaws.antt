@@ -15,7 +15,8 @@ use Rattle.backup_index.specs.Lines.{LineFits}
 use Rattle.backup_index.specs.Index.{IsStored, IsReceipt, IsFreshReceipt, IsReceiptCount, receipt_bytes, receipts_grammar, IsNext, index_magic, rules_layout, layout_grammar, u32_grammar, name_grammar, numbers_grammar, lines_grammar, index_parts, parts_of_index, index_from}
 use Rattle.backup_index.specs.IndexLaws.{sees_index}
 use Rattle.backup_index.specs.Stored.{index_grammar}
-use Rattle.one_way_layouts.specs.OneWay.{IsOneWay, peel, narrow_once, field_once, then_once, seen_once, items_once, counted_once}
+use Rattle.one_way_layouts.specs.OneWay.{IsOneWay}
+use Rattle.one_way_layouts.specs.OneWayLaws.{peel, narrow_once, field_once, then_once, seen_once, items_once, counted_once}
 use Rattle.one_way_layouts.specs.Fields.{number_once, number_in_once, text_once, bytes_once, magic_once}
 use Rattle.one_way_layouts.specs.RuleLaws.{rules_once, line_once}
 

@@ -1,5 +1,6 @@
 pub mod OneWay
 pub mod Fields
+pub mod OneWayLaws
 pub mod RuleLaws
 pub mod HostLaws
 pub mod TableLaws

@@ -8,7 +8,8 @@ use Rattle.backup_rules.specs.Layout.{kind_bytes}
 use Rattle.partial_files.specs.Layout.{partial_magic, IsNext, IsPartial}
 use Rattle.partial_files.specs.LayoutLaws.{rows_grammar, dump_grammar, parts_grammar, parts_of, made_of, partial_sees}
 use Rattle.partial_files.specs.Partials.{partial_grammar}
-use Rattle.one_way_layouts.specs.OneWay.{IsOneWay, narrow_once, field_once, then_once, seen_once, counted_once}
+use Rattle.one_way_layouts.specs.OneWay.{IsOneWay}
+use Rattle.one_way_layouts.specs.OneWayLaws.{narrow_once, field_once, then_once, seen_once, counted_once}
 use Rattle.one_way_layouts.specs.Fields.{number_in_once, magic_once}
 use Rattle.one_way_layouts.specs.RuleLaws.{kind_once}
 use Rattle.one_way_layouts.specs.TableLaws.{row_once}

@@ -4,7 +4,8 @@ use Rattle.std.specs.Int.{w16, w64}
 use Rattle.wire_bytes.specs.Kind.{IsReadOneWay}
 use Rattle.pool_index.specs.Items.{IsItem, IsNextItem}
 use Rattle.pool_index.specs.Layout.{item_bytes, index_magic, byte_bytes, IsCount, IsIndex, items_grammar, parts_grammar, index_sees, index_grammar}
-use Rattle.one_way_layouts.specs.OneWay.{IsOneWay, narrow_once, then_once, seen_once, counted_once, peel}
+use Rattle.one_way_layouts.specs.OneWay.{IsOneWay}
+use Rattle.one_way_layouts.specs.OneWayLaws.{narrow_once, then_once, seen_once, counted_once, peel}
 use Rattle.one_way_layouts.specs.Fields.{number_once, number_in_once, flag_once, bytes_once, magic_once}
 
 item_once : IsReadOneWay IsItem item_bytes

@@ -18,7 +18,8 @@ use Rattle.backup_rules.specs.ListLaws.{counts_are, periods_are, sees_list}
 use Rattle.backup_rules.specs.Parts.{run_grammar, counts_grammar, period_bytes, periods_grammar, early_grammar, old_grammar, none_old, early_of, old_of, rules_of}
 use Rattle.backup_rules.specs.PartLaws.{IsWithoutOld, sees_first, sees_second}
 use Rattle.backup_rules.specs.Layout.{rules_grammar, kind_number, kind_bytes, line_bytes, IsLine}
-use Rattle.one_way_layouts.specs.OneWay.{IsOneWay, narrow_once, then_once, seen_once, items_once, peel}
+use Rattle.one_way_layouts.specs.OneWay.{IsOneWay}
+use Rattle.one_way_layouts.specs.OneWayLaws.{narrow_once, then_once, seen_once, items_once, peel}
 use Rattle.one_way_layouts.specs.Fields.{number_once, number_in_once, flag_once}
 
 -- ---- rules

@@ -19,7 +19,8 @@ use Rattle.attr_tables.specs.declared.file.TableFile.{TableFile}
 use Rattle.attr_tables.specs.Layout.{nanos_bytes, group_bytes, attr_bytes, content_bytes, kind_of, node_bytes, row_bytes, IsNanos, IsGroup, IsAttr, IsContent, IsPath, IsTarget, IsNode, IsRow, IsNext, IsTable, magic_of}
 use Rattle.attr_tables.specs.Tables.{rows_grammar, table_grammar}
 use Rattle.attr_tables.specs.TableLaws.{sees_table}
-use Rattle.one_way_layouts.specs.OneWay.{IsOneWay, narrow_once, field_once, then_once, seen_once, counted_once, peel}
+use Rattle.one_way_layouts.specs.OneWay.{IsOneWay}
+use Rattle.one_way_layouts.specs.OneWayLaws.{narrow_once, field_once, then_once, seen_once, counted_once, peel}
 use Rattle.one_way_layouts.specs.Fields.{number_once, number_in_once, signed_once, text_once, bytes_once, id_once}
 
 -- ---- attributes

@@ -8,7 +8,7 @@ use Rattle.merge_view.specs.Views.{Rows}
 use Rattle.dump_session.specs.declared.session.PutFault.{PutFault}
 use Rattle.dump_session.specs.declared.session.PutFault.TheVariants.{Broken}
 use Rattle.receipts.specs.declared.session.Token.{Token}
-use Rattle.office_model.specs.Places.{in_set}
+use Rattle.office_model.specs.PlacesLaws.{in_set}
 use Rattle.open_sessions.specs.declared.sessions.OpenDump.{OpenDump}
 use Rattle.open_sessions.specs.InTurn.{AreInTurn}
 use Rattle.open_sessions.specs.Opened.{edited}

@@ -15,7 +15,8 @@ use Rattle.stored_trees.specs.Occurrences.{is_content}
 use Rattle.office_model.specs.Office.{Volatile, Reader}
 use Rattle.office_model.specs.events.OpenFile.{new_reader}
 use Rattle.office_model.specs.events.ReadPart.{part_of, moved_on}
-use Rattle.office_model.specs.Pairs.{AtEachPair, pairs_push, no_pairs}
+use Rattle.office_model.specs.Pairs.{AtEachPair}
+use Rattle.office_model.specs.PairsLaws.{pairs_push, no_pairs}
 use Rattle.open_sessions.specs.declared.sessions.Sessions.{Sessions}
 use Rattle.open_sessions.specs.declared.readers.OpenReader.{OpenReader}
 use Rattle.open_sessions.specs.Giving.{IsWrong, Passes, IsFurther, IsStopped, IsPassed}

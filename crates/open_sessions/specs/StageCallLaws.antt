@@ -12,7 +12,8 @@ use Rattle.receipts.specs.Session.{is_same_session}
 use Rattle.office_model.specs.Office.{Volatile, Stage, stages_left}
 use Rattle.office_model.specs.events.StageOpen.{new_stage}
 use Rattle.office_model.specs.events.StagePiece.{with_bytes}
-use Rattle.office_model.specs.Pairs.{AtEachPair, pair_at, pairs_push, no_pairs}
+use Rattle.office_model.specs.Pairs.{AtEachPair}
+use Rattle.office_model.specs.PairsLaws.{pair_at, pairs_push, no_pairs}
 use Rattle.open_sessions.specs.declared.sessions.Sessions.{Sessions}
 use Rattle.open_sessions.specs.declared.stages.OpenStage.{OpenStage}
 use Rattle.open_sessions.specs.Staging.{without_those_of, IsExtended}

@@ -8,7 +8,8 @@ use Rattle.wire_bytes.specs.Layout.{IsNumber}
 use Rattle.disk_trait.specs.declared.ids.PoolId.{PoolId}
 use Rattle.disk_trait.specs.declared.ids.FileId.{FileId}
 use Rattle.disk_trait.specs.declared.ids.FileId.TheVariants.{PoolIndex, PoolBucket, Pool}
-use Rattle.disk_trait.specs.Names.{is_same_file, same_file, is_same_file-itself, is_metadata}
+use Rattle.disk_trait.specs.Names.{is_same_file, is_metadata}
+use Rattle.disk_trait.specs.NamesLaws.{same_file, is_same_file-itself}
 use Rattle.disk_trait.specs.Files.{Files, with_bytes}
 use Rattle.intent_journal.specs.declared.changes.Change.{Change}
 use Rattle.intent_journal.specs.Changes.{applied, names}

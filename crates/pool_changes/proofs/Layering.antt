@@ -22,10 +22,12 @@ use Rattle.pool_index.specs.ItemLaws.{id_total}
 use Rattle.pool_changes.specs.declared.slot.Slot.{Slot}
 use Rattle.pool_changes.specs.declared.slot.Slot.TheVariants.{Live, Staged, Doomed}
 use Rattle.pool_changes.specs.declared.slot.Turn.{Turn}
-use Rattle.pool_changes.specs.Slots.{Slots, slots_in, with_slot, is_given, size_of, one_id, least_of, greatest_of, same_id, equal_of}
+use Rattle.pool_changes.specs.Slots.{Slots, slots_in, with_slot, is_given, size_of, one_id, least_of, greatest_of}
+use Rattle.pool_changes.specs.SlotsLaws.{same_id, equal_of}
 use Rattle.pool_changes.specs.Kept.{IsSame, IsSet}
 use Rattle.pool_changes.specs.Named.{IsName, AreNames, AreSized}
-use Rattle.pool_changes.specs.Relisted.{turned, turn_none, turned_given}
+use Rattle.pool_changes.specs.Relisted.{turned}
+use Rattle.pool_changes.specs.RelistedLaws.{turn_none, turned_given}
 use Rattle.pool_changes.specs.Listed.{item_of, index_of}
 use Rattle.pool_changes.specs.Written.{IsCalled}
 use Rattle.pool_changes.specs.Writing.{slot_or, layered, IsOver, AreUnder, AreAlikeUnder}

@@ -14,7 +14,8 @@ use Rattle.disk_trait.specs.declared.ids.PoolId.{PoolId}
 use Rattle.pool_index.specs.Items.{id_cmp}
 use Rattle.pool_index.specs.ItemLaws.{id_total}
 use Rattle.pool_changes.specs.declared.slot.Slot.{Slot}
-use Rattle.pool_changes.specs.Slots.{Slots, slots_in, id_of, is_given, size_of, least_of, same_id, equal_of}
+use Rattle.pool_changes.specs.Slots.{Slots, slots_in, id_of, is_given, size_of, least_of}
+use Rattle.pool_changes.specs.SlotsLaws.{same_id, equal_of}
 use Rattle.pool_changes.specs.NameLaws.{le_not_gt}
 use Rattle.pool_changes.specs.Named.{IsName, AreNames, AreSized}
 

@@ -8,13 +8,14 @@ use Rattle.std.specs.Map.{lookup, keys_of}
 use Rattle.std.proofs.lemmas.Bool.{false≢true}
 use Rattle.disk_trait.specs.declared.ids.PoolId.{PoolId}
 use Rattle.disk_trait.specs.declared.ids.FileId.TheVariants.{Pool}
-use Rattle.disk_trait.specs.Names.{is_same_file-itself}
+use Rattle.disk_trait.specs.NamesLaws.{is_same_file-itself}
 use Rattle.intent_journal.specs.ChangesLaws.{either}
 use Rattle.pool_index.specs.declared.item.IndexItem.{IndexItem}
 use Rattle.pool_index.specs.Items.{id_cmp, is_same_id, item_at}
 use Rattle.pool_changes.specs.declared.slot.Slot.{Slot}
 use Rattle.pool_changes.specs.declared.listing.BucketItem.{BucketItem}
-use Rattle.pool_changes.specs.Slots.{same_id, equal_of, id_itself, one_id}
+use Rattle.pool_changes.specs.Slots.{one_id}
+use Rattle.pool_changes.specs.SlotsLaws.{same_id, equal_of, id_itself}
 use Rattle.pool_changes.specs.Listed.{bucket_item_at}
 use Rattle.pool_changes.specs.Writing.{option_list}
 

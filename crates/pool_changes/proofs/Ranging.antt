@@ -20,7 +20,8 @@ use Rattle.pool_index.specs.Items.{id_cmp, byte_of}
 use Rattle.pool_index.specs.ItemLaws.{id_total}
 use Rattle.pool_changes.specs.declared.slot.Slot.{Slot}
 use Rattle.pool_changes.specs.declared.slot.Slot.TheVariants.{Doomed}
-use Rattle.pool_changes.specs.Slots.{Slots, slots_in, least_of, greatest_of, same_id, equal_of}
+use Rattle.pool_changes.specs.Slots.{Slots, slots_in, least_of, greatest_of}
+use Rattle.pool_changes.specs.SlotsLaws.{same_id, equal_of}
 use Rattle.pool_changes.specs.Named.{IsName, AreNames, NoneDoomed, NoneDoomedBelow}
 
 -- ---- the first entry from a name on

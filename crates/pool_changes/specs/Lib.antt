@@ -1,4 +1,8 @@
+pub mod IndexedLaws
+pub mod NumbersLaws
+pub mod RelistedLaws
 pub mod Slots
+pub mod SlotsLaws
 pub mod Small
 pub mod Numbers
 pub mod Kept

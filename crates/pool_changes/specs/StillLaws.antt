@@ -7,7 +7,8 @@ use Rattle.pool_changes.specs.declared.slot.Turn.{Turn}
 use Rattle.pool_changes.specs.declared.slot.Turn.TheVariants.{Add, Mark, Unmark, Remove}
 use Rattle.pool_changes.specs.Slots.{Slots, is_given, size_of, with_slot, one_id}
 use Rattle.pool_changes.specs.Kept.{IsSame}
-use Rattle.pool_changes.specs.Relisted.{turned, relisted, turned_given}
+use Rattle.pool_changes.specs.Relisted.{turned, relisted}
+use Rattle.pool_changes.specs.RelistedLaws.{turned_given}
 use Rattle.pool_changes.specs.Indexed.{relisted_by}
 
 -- what is given now was, with the same size

@@ -1,5 +1,6 @@
 -- Laws of the order of items.
 --     id_total      the order of names is total
+--     id_exact      names that compare equal are one
 --     rising_from_items, items_from_rising      items that each come behind the one before them strictly rise, and back
 --     pool_id, one_id      a file is of one content;  names that are the same are one
 --     item_at-below, item_at-id, item_at-has      the item of a name
@@ -9,6 +10,7 @@ use Rattle.std.specs.declared.cmp.Ordering.TheVariants.{Less, Equal, Greater}
 use Rattle.std.specs.Ordering.{nat_cmp, is_lt, ordering_then}
 use Rattle.std.specs.Cmp.{IsTotalOrder, nat_cmp_total}
 use Rattle.std.specs.Cmp.Lexicographic.{slice_cmp, nat_list_cmp_total}
+use Rattle.std.specs.FinMap.{IsAntisymmetric, nat_cmp-IsAntisymmetric, slice_cmp-IsAntisymmetric}
 use Rattle.std.specs.List.{AllByRecursion}
 use Rattle.std.specs.List.Sorted.{IsStrictlySortedBy}
 use Rattle.std.proofs.Common.{refl, sym, ap, subst, ◌∙◌, inl, inr, ◌⊎◌}
@@ -17,7 +19,7 @@ use Rattle.std.proofs.lemmas.Bool.{false≢true}
 use Rattle.wire_bytes.specs.Breaks.{AreItems}
 use Rattle.disk_trait.specs.declared.ids.PoolId.{PoolId}
 use Rattle.disk_trait.specs.declared.ids.FileId.TheVariants.{Pool}
-use Rattle.disk_trait.specs.Names.{same_file}
+use Rattle.disk_trait.specs.NamesLaws.{same_file}
 use Rattle.pool_index.specs.declared.item.IndexItem.{IndexItem}
 use Rattle.pool_index.specs.Items.{id_cmp, is_same_id, item_at, ids_of, AreRising, is_behind, is_under, is_next, IsItem, IsNextItem}
 
@@ -37,6 +39,22 @@ extension_total = record {
 
 pub id_total : IsTotalOrder id_cmp
 id_total = then_total digest_total extension_total
+
+first_equal : (a b : Ordering) → ordering_then a b ≡ Equal → a ≡ Equal
+first_equal Less b e = e
+first_equal Equal b e = refl
+first_equal Greater b e = e
+
+second_equal : (a b : Ordering) → ordering_then a b ≡ Equal → b ≡ Equal
+second_equal Less b e = cc
+second_equal Equal b e = e
+second_equal Greater b e = cc
+
+pub id_exact : IsAntisymmetric id_cmp
+id_exact a b e =
+    let digest = slice_cmp-IsAntisymmetric nat_cmp-IsAntisymmetric a.digest b.digest (first_equal _ _ e) in
+    let extension = nat_cmp-IsAntisymmetric a.extension b.extension (second_equal (slice_cmp nat_cmp a.digest b.digest) _ e) in
+    λ i. record { digest = digest i; extension = extension i }
 
 is_less : (r : Ordering) → is_lt r ≡ true → r ≡ Less
 is_less Less e = refl

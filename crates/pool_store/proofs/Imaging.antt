@@ -2,7 +2,8 @@
 use Rattle.std.proofs.Common.{◌≡◌, true, false, Option, Some, inl, inr, refl, sym, ap, ◌∙◌}
 use Rattle.disk_trait.specs.declared.disk.Disk.{Ghosts}
 use Rattle.disk_trait.specs.Files.{Files}
-use Rattle.disk_trait.specs.Images.{FileSet, IsWithin, MayLeave, LeavesOnly, leaves_none, leaves_then, leaves_wider, leaves_only}
+use Rattle.disk_trait.specs.Images.{FileSet, IsWithin, MayLeave, LeavesOnly}
+use Rattle.disk_trait.specs.ImagesLaws.{leaves_none, leaves_then, leaves_wider, leaves_only}
 use Rattle.intent_journal.specs.declared.journal.Journal.{Journal}
 use Rattle.intent_journal.specs.Overlay.{ComesTo}
 use Rattle.disk_trait.specs.declared.ids.PoolId.{PoolId}

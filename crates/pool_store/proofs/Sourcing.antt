@@ -7,7 +7,8 @@ use Rattle.std.proofs.lemmas.Bool.{false≢true}
 use Rattle.disk_trait.specs.declared.ids.FileId.{FileId}
 use Rattle.disk_trait.specs.declared.ids.FileId.TheVariants.{Pool as PoolFile, Stage as StageFile}
 use Rattle.disk_trait.specs.declared.ids.PoolId.{PoolId}
-use Rattle.disk_trait.specs.Names.{is_same_file, is_same_file-itself}
+use Rattle.disk_trait.specs.Names.{is_same_file}
+use Rattle.disk_trait.specs.NamesLaws.{is_same_file-itself}
 use Rattle.disk_trait.specs.Files.{Files, piece, bytes_of, with_bytes, changed, SameButOne}
 use Rattle.intent_journal.specs.ChangesLaws.{with_bytes_there, with_bytes_other}
 use Rattle.pool_changes.specs.StepLaws.{lt_or_le}

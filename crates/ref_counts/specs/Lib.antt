@@ -1,7 +1,7 @@
 pub mod Cleaning
 pub mod CountsFile
 pub mod Faults
-pub mod Ids
+pub mod IdsLaws
 pub mod Layout
 pub mod LayoutLaws
 pub mod NumberLaws

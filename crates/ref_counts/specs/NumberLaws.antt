@@ -15,10 +15,10 @@ use Rattle.ordered_lists.specs.Merge.{entry_then, right_only, merge_at, merge}
 use Rattle.ordered_lists.specs.MergeLaws.{find-merge, IsInOrder-merge}
 use Rattle.attr_tables.specs.Records.{is_same_id}
 use Rattle.pool_index.specs.Items.{id_cmp}
-use Rattle.pool_index.specs.ItemLaws.{id_total}
+use Rattle.pool_index.specs.ItemLaws.{id_total, id_exact}
 use Rattle.merge_view.specs.Views.{Rows}
 use Rattle.stored_trees.specs.Occurrences.{names, occurrences}
-use Rattle.ref_counts.specs.Ids.{id_exact, same_key}
+use Rattle.ref_counts.specs.IdsLaws.{same_key}
 use Rattle.ref_counts.specs.Numbers.{Items, AreSome, AreCounts, number, total, capped, item_of, summed, less}
 
 -- ---- items

@@ -14,7 +14,7 @@ use Rattle.office_model.specs.declared.answer.Answer.{Answer}
 use Rattle.office_model.specs.declared.refusal.Refusal.{Refusal}
 use Rattle.office_model.specs.declared.refusal.Refusal.TheVariants.{DiskFault}
 use Rattle.office_model.specs.Office.{Durable, Host, Backup}
-use Rattle.office_model.specs.Places.{in_longer}
+use Rattle.office_model.specs.PlacesLaws.{in_longer}
 use Rattle.office_model.specs.Step.{Call, State, Running, Halted}
 use Rattle.office_model.specs.History.{Leads}
 use Rattle.frame_puts.specs.declared.laying.Laying.{Laying}

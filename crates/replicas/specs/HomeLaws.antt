@@ -18,7 +18,7 @@ use Rattle.office_model.specs.declared.answer.Answer.TheVariants as A
 use Rattle.office_model.specs.declared.refusal.Refusal.{Refusal}
 use Rattle.office_model.specs.declared.refusal.Refusal.TheVariants.{Broken, Halted as HaltedReply, DiskFault, Damaged, Memory}
 use Rattle.office_model.specs.declared.refusal.BrokenRule.TheVariants.{HostExists, HostsFull, NoHost}
-use Rattle.office_model.specs.Places.{slice_get-longer}
+use Rattle.office_model.specs.PlacesLaws.{slice_get-longer}
 use Rattle.office_model.specs.UsedNames.{Among}
 use Rattle.office_model.specs.Office.{Office, Durable, Host, Backup, Names, AreHosts, AreNumbered, IsSound, host_index, host_limit, with_hosts}
 use Rattle.office_model.specs.Meaning.{Carried, Judged, Reply, Commits}

@@ -17,7 +17,8 @@ use Rattle.office_model.specs.declared.event.Event.TheVariants.{AddHost, SetRule
 use Rattle.office_model.specs.declared.event.PutItem.{PutItem}
 use Rattle.office_model.specs.declared.event.PutItem.TheVariants.{Whole, Staged}
 use Rattle.office_model.specs.declared.refusal.BrokenRule.TheVariants.{BadBucket, NumbersSpent, NoSession, NoContent, NumberBehind, TokensFull}
-use Rattle.office_model.specs.Places.{in_longer, slice_get-remove, place_before, slice_get-longer}
+use Rattle.office_model.specs.Places.{place_before}
+use Rattle.office_model.specs.PlacesLaws.{in_longer, slice_get-remove, slice_get-longer}
 use Rattle.office_model.specs.Pool.{with_tree}
 use Rattle.office_model.specs.Ids.{content_at}
 use Rattle.office_model.specs.Office.{Office, Host, Backup, Dump, Restore, Names, host_index, host_limit, number_limit, stage_content, last_sequence, piece_limit, token_limit}

@@ -14,7 +14,8 @@ use Rattle.office_model.specs.declared.event.Event.{Event}
 use Rattle.office_model.specs.declared.event.Event.TheVariants.{OpenRead, ReadNext, Reopen}
 use Rattle.office_model.specs.declared.answer.Answer.{Answer}
 use Rattle.office_model.specs.declared.answer.Answer.TheVariants.{Next, Restore as Opened}
-use Rattle.office_model.specs.Places.{AtEach, in_set, in_longer, position-found}
+use Rattle.office_model.specs.Places.{AtEach}
+use Rattle.office_model.specs.PlacesLaws.{in_set, in_longer, position-found}
 use Rattle.office_model.specs.Ids.{Ids}
 use Rattle.office_model.specs.Office.{Office, Restore, Durable, Names, raised, reopened, with_restores, numbered, IsSound, with_ids}
 use Rattle.office_model.specs.Meaning.{Carried, Reply}

@@ -3,7 +3,8 @@ use Rattle.std.specs.Prelude.{◌≡◌, ◌<◌, ◌≤◌, ◌==◌, ℕ, List
 use Rattle.std.proofs.Common.{sym, ap, ◌∙◌, subst, inl, inr, arith}
 use Rattle.std.proofs.lemmas.Bool.Decides.{Decides-eqb}
 use Rattle.office_model.specs.declared.event.Event.{Event}
-use Rattle.office_model.specs.Places.{Differ, position-found}
+use Rattle.office_model.specs.Places.{Differ}
+use Rattle.office_model.specs.PlacesLaws.{position-found}
 use Rattle.office_model.specs.Office.{Office, Host, Backup, Durable, raised, AreNumbered, AreHosts}
 use Rattle.office_model.specs.Meaning.{Reply}
 use Rattle.office_model.specs.Parts.{host_at, backup_at, backup_of}

@@ -11,7 +11,7 @@ use Rattle.office_model.specs.declared.event.Event.TheVariants.{OpenRead, Backup
 use Rattle.office_model.specs.declared.answer.Answer.{Answer}
 use Rattle.office_model.specs.declared.answer.Answer.TheVariants.{Restore as Opened, Backups as Listing}
 use Rattle.office_model.specs.declared.refusal.BrokenRule.TheVariants.{NoBackup}
-use Rattle.office_model.specs.Places.{position-found, position-some}
+use Rattle.office_model.specs.PlacesLaws.{position-found, position-some}
 use Rattle.office_model.specs.Office.{Office, Host, Backup, Durable, Names, backup_index, AreNumbered, IsSound}
 use Rattle.office_model.specs.Meaning.{Carried, Judged, Reply, ◌>>=◌}
 use Rattle.office_model.specs.Parts.{At, host_at, backup_at, backup_of, lines_of}

@@ -31,7 +31,7 @@ use Rattle.pool_changes.specs.Indexed.{after}
 use Rattle.pool_changes.specs.Written.{LeadsIndex, IsIndexFile}
 use Rattle.pool_store.specs.declared.pool.Pool.{Pool}
 use Rattle.pool_store.specs.Fits.{Fits}
-use Rattle.pool_store.specs.Accepted.{fits_accepted}
+use Rattle.pool_store.specs.AcceptedLaws.{fits_accepted}
 use Rattle.backup_views.specs.declared.kept.Views.{Views}
 use Rattle.ref_counts.specs.Numbers.{Items}
 use Rattle.nightly_clean.specs.declared.cleaning.Cleaning.{Cleaning}

@@ -12,7 +12,8 @@ use Rattle.fault_counts.specs.Counts.{Counted}
 use Rattle.disk_trait.specs.declared.ids.FileId.{FileId}
 use Rattle.disk_trait.specs.declared.ids.FileId.TheVariants as F
 use Rattle.disk_trait.specs.declared.disk.Disk.{Ghosts as DiskGhosts}
-use Rattle.disk_trait.specs.Names.{is_metadata, is_same_file, same_file}
+use Rattle.disk_trait.specs.Names.{is_metadata, is_same_file}
+use Rattle.disk_trait.specs.NamesLaws.{same_file}
 use Rattle.disk_trait.specs.Files.{Files, lists, with_bytes, changed}
 use Rattle.disk_trait.specs.Images.{also}
 use Rattle.pool_name.specs.declared.namer.Namer.{Ghosts as NamerGhosts}
@@ -25,7 +26,7 @@ use Rattle.journal_view.specs.View.{told, uncertain, FindsOnly, Quiet, Staged}
 use Rattle.journal_view.specs.ViewLaws.{FindsOnly-still, FindsOnly-each, FindsOnly-then}
 use Rattle.pool_changes.specs.Slots.{Slots}
 use Rattle.pool_changes.specs.Listed.{index_of}
-use Rattle.pool_store.specs.Fits.{fits_less}
+use Rattle.pool_store.specs.FitsLaws.{fits_less}
 use Rattle.pool_store.specs.Sweeps.{Sweeps}
 use Rattle.open_sessions.specs.declared.stages.OpenStage.{OpenStage}
 use Rattle.open_sessions.specs.SessionLaws.{stage_index-sessions}
@@ -34,7 +35,7 @@ use Rattle.office_model.specs.declared.refusal.Refusal.{Refusal}
 use Rattle.office_model.specs.declared.refusal.Refusal.TheVariants.{Halted, DiskFault, Memory}
 use Rattle.office_model.specs.Meaning.{Carried, Judged, Reply}
 use Rattle.office_model.specs.Office.{Office, Names, Stage}
-use Rattle.office_model.specs.Places.{position-some}
+use Rattle.office_model.specs.PlacesLaws.{position-some}
 use Rattle.office_model.specs.Step.{Running, IsStep, meaning_of}
 use Rattle.office_model.specs.History.{IsUndamaged}
 use Rattle.office_model.specs.UsedNames.{AreSome}

@@ -12,7 +12,8 @@ use Rattle.disk_trait.specs.declared.ids.PoolId.{PoolId}
 use Rattle.disk_trait.specs.declared.ids.FileId.{FileId}
 use Rattle.disk_trait.specs.declared.ids.FileId.TheVariants as F
 use Rattle.disk_trait.specs.declared.disk.Disk.{Ghosts as DiskGhosts}
-use Rattle.disk_trait.specs.Names.{is_metadata, is_same_file, is_same_file-itself}
+use Rattle.disk_trait.specs.Names.{is_metadata, is_same_file}
+use Rattle.disk_trait.specs.NamesLaws.{is_same_file-itself}
 use Rattle.disk_trait.specs.Files.{Files}
 use Rattle.disk_trait.specs.Images.{LeavesOnly}
 use Rattle.pool_name.specs.declared.namer.Namer.{Ghosts as NamerGhosts}
@@ -27,7 +28,7 @@ use Rattle.pool_changes.specs.Slots.{Slots, is_given, claims_of, unlisted, one_i
 use Rattle.pool_changes.specs.Listed.{item_of}
 use Rattle.pool_changes.specs.Named.{NoneDoomed}
 use Rattle.pool_store.specs.Pools.{IsCertain}
-use Rattle.pool_store.specs.Fits.{fits_less, less_swept}
+use Rattle.pool_store.specs.FitsLaws.{fits_less, less_swept}
 use Rattle.pool_store.specs.Sweeps.{IsPruned, IsKept, Sweeps}
 use Rattle.office_pool.specs.FitLaws.{given_one, given_digest}
 use Rattle.open_sessions.specs.Opened.{claims_in}

@@ -21,7 +21,7 @@ use Rattle.std.proofs.lemmas.Cmp.{tied_itself}
 use Rattle.ordered_lists.specs.Order.{IsInOrder}
 use Rattle.disk_trait.specs.declared.ids.PoolId.{PoolId}
 use Rattle.disk_trait.specs.declared.ids.FileId.TheVariants.{Pool as PoolFile}
-use Rattle.disk_trait.specs.Names.{is_same_file-itself}
+use Rattle.disk_trait.specs.NamesLaws.{is_same_file-itself}
 use Rattle.attr_records.specs.Items.{Tree, some_bytes}
 use Rattle.attr_tables.specs.Records.{is_same_id as is_content_id}
 use Rattle.attr_tables.specs.RecordLaws.{same_id as same_content_id, id_itself as content_id_itself}
@@ -36,7 +36,8 @@ use Rattle.pool_index.specs.ItemLaws.{id_total, one_id}
 use Rattle.pool_changes.specs.declared.slot.Slot.{Slot}
 use Rattle.pool_changes.specs.declared.slot.Slot.TheVariants.{Live, Staged, Doomed}
 use Rattle.pool_changes.specs.declared.listing.BucketItem.{BucketItem}
-use Rattle.pool_changes.specs.Slots.{Slots, is_given, claims_of, same_id}
+use Rattle.pool_changes.specs.Slots.{Slots, is_given, claims_of}
+use Rattle.pool_changes.specs.SlotsLaws.{same_id}
 use Rattle.pool_changes.specs.Listed.{item_of, index_of, bucket_item_of, bucket_item_at, IsBucketOf}
 use Rattle.ref_counts.specs.Cleaning.{next_mark}
 use Rattle.ref_counts.specs.Numbers.{Items, total as total_named}

@@ -31,14 +31,14 @@ use Rattle.open_sessions.specs.SessionLaws.{pairs_set}
 use Rattle.office_catalog.specs.Held.{HoldsCatalog}
 use Rattle.office_catalog.specs.Known.{Known, with_line}
 use Rattle.office_model.specs.Office.{Office, Durable, Host, Names, IsSound, IsSoundDurable, IsSoundHost, backup_index}
-use Rattle.office_model.specs.Places.{slice_get-set_same}
+use Rattle.office_model.specs.PlacesLaws.{slice_get-set_same}
 use Rattle.office_model.specs.Parts.{lines_of}
 use Rattle.office_model.specs.Pool.{Pool, with_tree}
 use Rattle.office_model.specs.events.Commit.{new_backup, with_commit}
 use Rattle.office_files.specs.Hosts.{index_of_host, IsShown, StandsHost}
 use Rattle.office_files.specs.Layouts.{IsHostFile}
 use Rattle.office_files.specs.Owners.{has_backup}
-use Rattle.office_model.specs.Pairs.{other_at, pair_at}
+use Rattle.office_model.specs.PairsLaws.{other_at, pair_at}
 use Rattle.office_files.specs.Pooled.{contents_of, IsListed}
 use Rattle.office_files.specs.Stands.{Stands}
 use Rattle.office_changes.specs.Commits.{IsListedWith}

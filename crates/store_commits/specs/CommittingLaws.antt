@@ -5,7 +5,7 @@ use Rattle.disk_trait.specs.declared.disk.Disk.{Ghosts as DiskGhosts}
 use Rattle.pool_name.specs.declared.namer.Namer.{Ghosts as NamerGhosts}
 use Rattle.open_sessions.specs.declared.sessions.OpenDump.{OpenDump}
 use Rattle.office_model.specs.Office.{Office, Names}
-use Rattle.office_model.specs.Pairs.{other_at}
+use Rattle.office_model.specs.PairsLaws.{other_at}
 use Rattle.store_parts.specs.declared.parts.StoreParts.{StoreParts}
 use Rattle.store_parts.specs.States.{IsRunning}
 use Rattle.store_commits.specs.Committing.{IsMeant}

@@ -26,7 +26,8 @@ use Rattle.office_model.specs.Parts.{lines_of, filled_as, with_newest}
 use Rattle.office_model.specs.events.Commit.{new_backup, with_commit}
 use Rattle.office_files.specs.Layouts.{IsHostFile, IsTableFile, IsCountsFile}
 use Rattle.office_files.specs.Hosts.{index_of_host, IsShown, StandsHost}
-use Rattle.office_model.specs.Pairs.{AtEachPair, pairs_each, pairs_push, pairs_front, pairs_last, last_there, longer}
+use Rattle.office_model.specs.Pairs.{AtEachPair}
+use Rattle.office_model.specs.PairsLaws.{pairs_each, pairs_push, pairs_front, pairs_last, last_there, longer}
 use Rattle.office_changes.specs.ChangeLaws.{shown_given}
 use Rattle.office_changes.specs.CommitLaws.{with_newest-push, backups_alone, host_first_committed}
 use Rattle.store_parts.specs.Held.{AreCounts}

@@ -8,7 +8,7 @@ use Rattle.intent_journal.specs.ChangesLaws.{either}
 use Rattle.backup_views.specs.declared.kept.KeptView.{KeptView}
 use Rattle.ref_counts.specs.Stored.{Backup as StoredBackup, StoredHost}
 use Rattle.office_model.specs.Office.{Host, Backup}
-use Rattle.office_model.specs.Places.{slice_get-set_same, slice_get-set_other}
+use Rattle.office_model.specs.PlacesLaws.{slice_get-set_same, slice_get-set_other}
 use Rattle.store_parts.specs.Held.{IsViewOf, IsKeptView}
 use Rattle.store_commits.specs.HostAfterLaws.{AreStill}
 

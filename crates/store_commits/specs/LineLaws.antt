@@ -19,7 +19,7 @@ use Rattle.office_model.specs.laws.RepeatLaws.{same_token}
 use Rattle.office_model.specs.Parts.{lines_of, filled_as, with_newest}
 use Rattle.office_model.specs.events.Commit.{new_backup, with_receipt, with_commit}
 use Rattle.office_files.specs.Hosts.{index_of_host}
-use Rattle.office_model.specs.Pairs.{last_there, longer}
+use Rattle.office_model.specs.PairsLaws.{last_there, longer}
 use Rattle.office_changes.specs.CommitLaws.{with_newest-push}
 use Rattle.store_commits.specs.Former.{last_line, if_dropped, dropped_of}
 use Rattle.store_commits.specs.HostLaws.{HasLast, ends}

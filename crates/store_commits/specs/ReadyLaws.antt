@@ -22,7 +22,7 @@ use Rattle.office_model.specs.Parts.{lines_of}
 use Rattle.store_parts.specs.KnownOffice.{indices_from}
 use Rattle.office_files.specs.Hosts.{index_of_host, StandsHost}
 use Rattle.office_files.specs.Layouts.{IsTableFile as IsOfficeTable}
-use Rattle.office_model.specs.Pairs.{other_at, pair_at}
+use Rattle.office_model.specs.PairsLaws.{other_at, pair_at}
 use Rattle.office_files.specs.Pooled.{contents_of, IsListed}
 use Rattle.host_partials.specs.declared.held.PartialHead.{PartialHead}
 use Rattle.host_partials.specs.Held.{head_at}

@@ -17,8 +17,9 @@ use Rattle.pool_changes.specs.declared.slot.Slot.{Slot}
 use Rattle.pool_changes.specs.declared.slot.Slot.TheVariants.{Live, Staged, Doomed}
 use Rattle.pool_changes.specs.Slots.{is_live, claims_of}
 use Rattle.pool_changes.specs.Listed.{item_of, index_of}
-use Rattle.pool_store.specs.Fits.{Fits, fits_less}
-use Rattle.pool_store.specs.Accepted.{fits_accepted}
+use Rattle.pool_store.specs.Fits.{Fits}
+use Rattle.pool_store.specs.FitsLaws.{fits_less}
+use Rattle.pool_store.specs.AcceptedLaws.{fits_accepted}
 use Rattle.ref_counts.specs.Stored.{StoredHost}
 use Rattle.open_sessions.specs.Opened.{AreSessions, claims_in}
 use Rattle.open_sessions.specs.SessionLaws.{AreSessions-claimed}

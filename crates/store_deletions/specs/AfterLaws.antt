@@ -25,12 +25,13 @@ use Rattle.office_catalog.specs.Changed.{after}
 use Rattle.office_model.specs.declared.answer.Answer.{Answer}
 use Rattle.office_model.specs.declared.event.Event.{Event}
 use Rattle.office_model.specs.Office.{Office, Host, Names, with_hosts}
-use Rattle.office_model.specs.Places.{in_set}
+use Rattle.office_model.specs.PlacesLaws.{in_set}
 use Rattle.office_model.specs.Step.{meaning_of}
 use Rattle.office_model.specs.UsedNames.{AreSound, AreNamesAfter}
 use Rattle.office_model.specs.laws.StepLaws.{IsSound-carried}
 use Rattle.office_model.specs.laws.StateLaws.{AreSound-carried}
-use Rattle.office_model.specs.Pairs.{AtEachPair, other_at, pair_at}
+use Rattle.office_model.specs.Pairs.{AtEachPair}
+use Rattle.office_model.specs.PairsLaws.{other_at, pair_at}
 use Rattle.office_files.specs.Hosts.{index_of_host, StandsHost}
 use Rattle.office_files.specs.Pooled.{contents_of, IsListed}
 use Rattle.office_files.specs.Stands.{Stands}

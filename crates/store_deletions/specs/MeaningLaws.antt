@@ -19,7 +19,7 @@ use Rattle.office_model.specs.declared.refusal.BrokenRule.TheVariants.{NoHost, N
 use Rattle.office_model.specs.Office.{Office, Host, Backup, Names, IsSoundHost, backup_index, with_hosts}
 use Rattle.office_model.specs.Meaning.{ReadsAndCommits, Reads, breaks}
 use Rattle.office_model.specs.Parts.{host_at, lines_of}
-use Rattle.office_model.specs.Places.{position-found}
+use Rattle.office_model.specs.PlacesLaws.{position-found}
 use Rattle.office_model.specs.Step.{meaning_of}
 use Rattle.office_model.specs.UsedNames.{AreSound}
 use Rattle.office_model.specs.laws.Judging.{at_found}

@@ -21,7 +21,7 @@ use Rattle.ref_counts.specs.Stored.{Backup as StoredBackup, StoredHost, stored, 
 use Rattle.ref_counts.specs.StoredLaws.{total-counted}
 use Rattle.backup_delete.specs.Folds.{folded_tables, Change as TableChange, changes, change_at, added_tables, taken_tables}
 use Rattle.backup_delete.specs.FoldLaws.{folded-stored}
-use Rattle.backup_delete.specs.Counted.{folded-total, taken-within}
+use Rattle.backup_delete.specs.CountedLaws.{folded-total, taken-within}
 use Rattle.backup_delete.specs.Windows.{part, IsWindow}
 use Rattle.backup_delete.specs.WindowLaws.{changes-part, taken-part}
 use Rattle.office_model.specs.Office.{Host}

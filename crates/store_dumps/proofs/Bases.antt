@@ -45,7 +45,7 @@ use Rattle.office_model.specs.Meaning.{found}
 use Rattle.office_model.specs.Office.{Office, Host, Backup, Names}
 use Rattle.office_model.specs.Parts.{lines_of, newest}
 use Rattle.office_model.specs.events.OpenDump.{base_of}
-use Rattle.office_model.specs.Pairs.{pair_at}
+use Rattle.office_model.specs.PairsLaws.{pair_at}
 use Rattle.office_files.specs.Pooled.{contents_of, IsListed}
 use Rattle.office_files.specs.Hosts.{IsShown, StandsHost}
 use Rattle.store_parts.specs.declared.parts.StoreParts.{StoreParts}

@@ -8,7 +8,7 @@ use Rattle.pool_name.specs.declared.namer.Namer.{Ghosts as NamerGhosts}
 use Rattle.intent_journal.specs.declared.journal.Journal.{Journal}
 use Rattle.journal_view.specs.View.{told, uncertain}
 use Rattle.pool_changes.specs.Slots.{claims_of}
-use Rattle.pool_store.specs.Fits.{fits_less}
+use Rattle.pool_store.specs.FitsLaws.{fits_less}
 use Rattle.pool_store.specs.Pools.{IsCertain}
 use Rattle.open_sessions.specs.Opened.{AreSessions, claims_in}
 use Rattle.office_model.specs.Office.{Office, Names}

@@ -40,7 +40,7 @@ use Rattle.office_model.specs.events.Resume as ResumeModel
 use Rattle.office_files.specs.FoundLaws.{partial_found}
 use Rattle.office_files.specs.Hosts.{StandsPartial, StandsHost}
 use Rattle.office_files.specs.Layouts.{IsPartialFile, parked_of}
-use Rattle.office_model.specs.Pairs.{pair_at}
+use Rattle.office_model.specs.PairsLaws.{pair_at}
 use Rattle.office_files.specs.Pooled.{contents_of, IsListed}
 use Rattle.store_parts.specs.KnownOffice.{IsNamed, named_host}
 use Rattle.store_parts.specs.declared.parts.StoreParts.{StoreParts}

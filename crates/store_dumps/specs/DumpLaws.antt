@@ -16,7 +16,7 @@ use Rattle.office_model.specs.declared.refusal.BrokenRule.TheVariants.{NoSession
 use Rattle.office_model.specs.Office.{Office, Dump, Names, dump_index}
 use Rattle.office_model.specs.Parts.{dump_at}
 use Rattle.office_model.specs.laws.Judging.{at_found}
-use Rattle.office_model.specs.Pairs.{other_at}
+use Rattle.office_model.specs.PairsLaws.{other_at}
 use Rattle.office_files.specs.Pooled.{contents_of}
 use Rattle.store_parts.specs.declared.parts.StoreParts.{StoreParts}
 use Rattle.store_parts.specs.Held.{given}

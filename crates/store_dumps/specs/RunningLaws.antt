@@ -22,7 +22,8 @@ use Rattle.pool_changes.specs.Slots.{is_live, claims_of}
 use Rattle.pool_changes.specs.Kept.{slots_of}
 use Rattle.pool_changes.specs.Listed.{item_of, index_of}
 use Rattle.pool_store.specs.declared.pool.Pool.{Pool}
-use Rattle.pool_store.specs.Fits.{Fits, IsLess, fits_less}
+use Rattle.pool_store.specs.Fits.{Fits, IsLess}
+use Rattle.pool_store.specs.FitsLaws.{fits_less}
 use Rattle.backup_views.specs.declared.kept.Views.{Views}
 use Rattle.office_catalog.specs.Known.{Known}
 use Rattle.ref_counts.specs.Numbers.{Items}

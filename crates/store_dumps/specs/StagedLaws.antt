@@ -12,7 +12,7 @@ use Rattle.pool_name.specs.declared.namer.Namer.{Ghosts as NamerGhosts}
 use Rattle.attr_records.specs.Items.{some_bytes}
 use Rattle.attr_tables.specs.Records.{IsContentOf}
 use Rattle.intent_journal.specs.ChangesLaws.{with_bytes_there}
-use Rattle.disk_trait.specs.Names.{is_same_file-itself}
+use Rattle.disk_trait.specs.NamesLaws.{is_same_file-itself}
 use Rattle.journal_view.specs.Found.{seen}
 use Rattle.journal_view.specs.View.{told, uncertain}
 use Rattle.pool_changes.specs.declared.slot.Slot.TheVariants.{Staged, Doomed}

@@ -7,7 +7,8 @@ use Rattle.disk_trait.specs.declared.ids.PoolId.{PoolId}
 use Rattle.disk_trait.specs.declared.ids.FileId.{FileId}
 use Rattle.disk_trait.specs.declared.ids.FileId.TheVariants as F
 use Rattle.disk_trait.specs.declared.disk.Disk.{Ghosts as DiskGhosts}
-use Rattle.disk_trait.specs.Names.{is_metadata, is_same_file, is_same_file-itself}
+use Rattle.disk_trait.specs.Names.{is_metadata, is_same_file}
+use Rattle.disk_trait.specs.NamesLaws.{is_same_file-itself}
 use Rattle.disk_trait.specs.Files.{with_bytes, changed}
 use Rattle.pool_name.specs.declared.namer.Namer.{Ghosts as NamerGhosts}
 use Rattle.intent_journal.specs.ChangesLaws.{with_bytes_other}
@@ -18,7 +19,7 @@ use Rattle.pool_changes.specs.declared.slot.Slot.TheVariants.{Live, Staged, Doom
 use Rattle.pool_changes.specs.Slots.{Slots, is_live, is_given, size_of, claims_of, claimed, one_id}
 use Rattle.pool_changes.specs.Kept.{IsSet, IsSame}
 use Rattle.pool_changes.specs.Listed.{item_of}
-use Rattle.pool_store.specs.Fits.{fits_less, fits_adds, less_claimed, less_doomed}
+use Rattle.pool_store.specs.FitsLaws.{fits_less, fits_adds, less_claimed, less_doomed}
 use Rattle.pool_store.specs.Pools.{IsCertain, Matches, Adds}
 use Rattle.attr_tables.specs.RecordLaws.{id_itself}
 use Rattle.office_model.specs.Office.{Office, Names}

@@ -34,7 +34,7 @@ use Rattle.office_model.specs.declared.refusal.BrokenRule.TheVariants.{NoHost, N
 use Rattle.office_model.specs.Meaning.{Carried, Judged, Reply, ◌>>=◌, ◌>>◌, breaks}
 use Rattle.office_model.specs.Office.{Office, Host, Dump, Stage, Names, dump_index_of_host, token_limit, with_dumps, with_stages}
 use Rattle.office_model.specs.Parts.{At, dump_at, host_at}
-use Rattle.office_model.specs.Places.{position-found, slice_get-set_same}
+use Rattle.office_model.specs.PlacesLaws.{position-found, slice_get-set_same}
 use Rattle.office_model.specs.Repeats.{again, keeps, with_token, kept_at, keeping, once}
 use Rattle.office_model.specs.Step.{kind_of}
 use Rattle.office_model.specs.UsedNames.{IsRenamed, IsNamedBy, IsNamedIf}

@@ -33,14 +33,14 @@ use Rattle.office_model.specs.declared.refusal.Refusal.{Refusal}
 use Rattle.office_model.specs.declared.refusal.Refusal.TheVariants as R
 use Rattle.office_model.specs.Office.{Office, Host, Backup, Names, host_index, backup_index}
 use Rattle.office_model.specs.Parts.{host_at, lines_of}
-use Rattle.office_model.specs.Places.{position-found}
+use Rattle.office_model.specs.PlacesLaws.{position-found}
 use Rattle.office_model.specs.Step.{Running, meaning_of}
 use Rattle.office_model.specs.UsedNames.{AreNamesAfter, without_index}
 use Rattle.office_catalog.specs.Known.{Known, host_named, names_of}
 use Rattle.office_files.specs.Hosts.{StandsHost}
 use Rattle.office_files.specs.Layouts.{IsTableFile as IsStoredTable}
 use Rattle.office_files.specs.Owners.{has_backup}
-use Rattle.office_model.specs.Pairs.{pair_at, other_at}
+use Rattle.office_model.specs.PairsLaws.{pair_at, other_at}
 use Rattle.office_files.specs.Pooled.{contents_of, IsListed}
 use Rattle.office_files.specs.Stands.{Stands}
 use Rattle.office_files.specs.TableLayouts.{is_first_layout, is_among, AreSecondBut, WriteNoFirst}

@@ -22,7 +22,8 @@ use Rattle.ref_counts.specs.Stored.{StoredHost, stored, counted}
 use Rattle.office_model.specs.Office.{Durable, Host}
 use Rattle.office_files.specs.Layouts.{IsHeadFile, IsTableFile}
 use Rattle.office_files.specs.Owners.{is_called_for}
-use Rattle.office_model.specs.Pairs.{AtEachPair, pairs_each}
+use Rattle.office_model.specs.Pairs.{AtEachPair}
+use Rattle.office_model.specs.PairsLaws.{pairs_each}
 use Rattle.office_files.specs.Pooled.{contents_of, IsListed, HasNoIndex}
 use Rattle.office_files.specs.Hosts.{index_of_host, IsShown, StandsHost}
 use Rattle.office_files.specs.Stands.{names_of, Stands}

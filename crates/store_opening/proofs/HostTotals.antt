@@ -19,7 +19,7 @@ use Rattle.partial_files.specs.declared.partial.PartialFile.{PartialFile}
 use Rattle.office_model.specs.Office.{Durable, Host, Partial}
 use Rattle.office_files.specs.FoundLaws.{partial_found}
 use Rattle.office_files.specs.Hosts.{StandsPartial}
-use Rattle.office_model.specs.Pairs.{other_at, same_elements}
+use Rattle.office_model.specs.PairsLaws.{other_at, same_elements}
 use Rattle.office_files.specs.Pooled.{contents_of, IsListed}
 use Rattle.office_files.specs.Stands.{Stands}
 use Rattle.office_changes.specs.BoundLaws.{length-map_values}

@@ -11,8 +11,10 @@ use Rattle.std.proofs.lemmas.Bool.{false≢true, true≢false}
 use Rattle.disk_trait.specs.declared.ids.FileId.{FileId}
 use Rattle.disk_trait.specs.declared.ids.FileId.TheVariants as F
 use Rattle.disk_trait.specs.declared.disk.Disk.{Ghosts as DiskGhosts}
-use Rattle.disk_trait.specs.Names.{is_same_file, same_file, is_same_file-itself}
-use Rattle.disk_trait.specs.Order.{file_cmp, file_eq_same}
+use Rattle.disk_trait.specs.Names.{is_same_file}
+use Rattle.disk_trait.specs.NamesLaws.{same_file, is_same_file-itself}
+use Rattle.disk_trait.specs.Order.{file_cmp}
+use Rattle.disk_trait.specs.OrderLaws.{file_eq_same}
 use Rattle.disk_trait.specs.Files.{Files, lists}
 use Rattle.backup_rules.specs.declared.lines.Line.{Line}
 use Rattle.backup_index.specs.Index.{Index}
@@ -26,7 +28,7 @@ use Rattle.office_model.specs.Office.{Durable, Host, Backup}
 use Rattle.office_model.specs.Parts.{lines_of}
 use Rattle.office_files.specs.Hosts.{index_of_host, StandsHost}
 use Rattle.office_files.specs.Layouts.{IsTableFile}
-use Rattle.office_model.specs.Pairs.{other_at}
+use Rattle.office_model.specs.PairsLaws.{other_at}
 use Rattle.office_files.specs.Pooled.{contents_of, IsListed}
 use Rattle.office_files.specs.Stands.{StandsFor}
 use Rattle.office_catalog.specs.Known.{Known}

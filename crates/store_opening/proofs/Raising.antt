@@ -25,7 +25,8 @@ use Rattle.pool_changes.specs.Kept.{slots_of, IsSame}
 use Rattle.pool_changes.specs.Listed.{index_of}
 use Rattle.pool_changes.specs.Written.{IsIndexFile, LeadsIndex}
 use Rattle.pool_store.specs.declared.pool.Pool.{Pool}
-use Rattle.pool_store.specs.Fits.{Fits, fits_less}
+use Rattle.pool_store.specs.Fits.{Fits}
+use Rattle.pool_store.specs.FitsLaws.{fits_less}
 use Rattle.pool_store.specs.Sweeps.{AreAllUsed}
 use Rattle.ref_counts.specs.Numbers.{Items}
 use Rattle.ref_counts.specs.Stored.{StoredHost}

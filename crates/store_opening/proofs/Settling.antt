@@ -6,7 +6,7 @@ use Rattle.std.proofs.Common.{◌≡◌, ℕ, ◌<◌, false, List, Some, Ok, Er
 use Rattle.disk_trait.specs.declared.ids.FileId.TheVariants as F
 use Rattle.disk_trait.specs.declared.disk.Disk.{Ghosts as DiskGhosts}
 use Rattle.disk_trait.specs.Files.{Files}
-use Rattle.disk_trait.specs.Images.{leaves_wider, leaves_then, only_wider}
+use Rattle.disk_trait.specs.ImagesLaws.{leaves_wider, leaves_then, only_wider}
 use Rattle.pool_name.specs.declared.namer.Namer.{Ghosts as NamerGhosts}
 use Rattle.intent_journal.specs.declared.fault.OpenJournalFault.{OpenJournalFault}
 use Rattle.intent_journal.specs.declared.journal.Journal.{Journal}

@@ -5,7 +5,8 @@ use Rattle.std.proofs.Common.{◌≡◌, ℕ, ◌+◌, zero, suc, ◌==◌, Bool
 use Rattle.std.proofs.lemmas.Bool.{false≢true}
 use Rattle.disk_trait.specs.declared.ids.FileId.{FileId}
 use Rattle.disk_trait.specs.declared.ids.FileId.TheVariants as F
-use Rattle.disk_trait.specs.Names.{is_same_file, same_file, is_same_file-itself}
+use Rattle.disk_trait.specs.Names.{is_same_file}
+use Rattle.disk_trait.specs.NamesLaws.{same_file, is_same_file-itself}
 use Rattle.disk_trait.specs.Files.{Files, lists}
 use Rattle.backup_index.specs.Index.{Index}
 use Rattle.backup_rules.specs.declared.lines.Line.{Line}

@@ -20,7 +20,8 @@ use Rattle.intent_journal.specs.ChangesLaws.{either}
 use Rattle.pool_index.specs.declared.item.IndexItem.{IndexItem}
 use Rattle.pool_index.specs.Items.{id_cmp}
 use Rattle.pool_index.specs.Index.{Index, TellsIn, TellsIndex}
-use Rattle.pool_changes.specs.Slots.{Slots, same_id, id_itself, equal_of}
+use Rattle.pool_changes.specs.Slots.{Slots}
+use Rattle.pool_changes.specs.SlotsLaws.{same_id, id_itself, equal_of}
 use Rattle.pool_changes.specs.Listed.{index_of}
 use Rattle.merge_view.specs.Views.{Rows}
 use Rattle.stored_trees.specs.Occurrences.{names, occurrences}
@@ -35,7 +36,8 @@ use Rattle.office_catalog.specs.Held.{HoldsCatalog}
 use Rattle.office_model.specs.Office.{Durable, Host, Partial}
 use Rattle.office_files.specs.Hosts.{IsShown, StandsPartial, StandsHost}
 use Rattle.office_files.specs.OneLaws.{one_listing}
-use Rattle.office_model.specs.Pairs.{AtEachPair, other_at}
+use Rattle.office_model.specs.Pairs.{AtEachPair}
+use Rattle.office_model.specs.PairsLaws.{other_at}
 use Rattle.office_files.specs.Pooled.{contents_of, IsListed}
 use Rattle.office_files.specs.Stands.{StandsFor}
 use Rattle.office_changes.specs.BridgeLaws.{shown_whole, shown_told}

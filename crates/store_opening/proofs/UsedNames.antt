@@ -10,7 +10,7 @@ use Rattle.intent_journal.specs.ChangesLaws.{either}
 use Rattle.pool_index.specs.Items.{id_cmp}
 use Rattle.pool_changes.specs.declared.names.Names.{Names}
 use Rattle.pool_changes.specs.declared.slot.Slot.{Slot}
-use Rattle.pool_changes.specs.Slots.{same_id, id_itself, equal_of}
+use Rattle.pool_changes.specs.SlotsLaws.{same_id, id_itself, equal_of}
 use Rattle.pool_changes.specs.Kept.{slots_of}
 use Rattle.office_model.specs.UsedNames.{Among, AreDistinct}
 use Rattle.store_parts.specs.Held.{AreUsed}

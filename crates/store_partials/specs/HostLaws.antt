@@ -18,7 +18,7 @@ use Rattle.host_partials.specs.declared.held.PartialHead.{PartialHead}
 use Rattle.host_partials.specs.Held.{head_at}
 use Rattle.office_model.specs.Office.{Office, Host, Names}
 use Rattle.office_files.specs.Hosts.{StandsHost}
-use Rattle.office_model.specs.Pairs.{other_at, pair_at}
+use Rattle.office_model.specs.PairsLaws.{other_at, pair_at}
 use Rattle.office_files.specs.Pooled.{contents_of, IsListed}
 use Rattle.office_changes.specs.BoundLaws.{few_stored}
 use Rattle.store_parts.specs.declared.parts.StoreParts.{StoreParts}

@@ -16,7 +16,7 @@ use Rattle.receipts.specs.declared.session.SessionName.{SessionName}
 use Rattle.receipts.specs.Session.{is_same_session}
 use Rattle.office_model.specs.Office.{Office, Dump, Stage, Reader, Names, dump_index, stage_index, reader_index}
 use Rattle.office_model.specs.Parts.{dump_at, stage_at, reader_at}
-use Rattle.office_model.specs.Places.{position-found}
+use Rattle.office_model.specs.PlacesLaws.{position-found}
 use Rattle.office_model.specs.laws.Judging.{at_found}
 use Rattle.office_files.specs.Pooled.{contents_of}
 use Rattle.store_parts.specs.declared.parts.StoreParts.{StoreParts}

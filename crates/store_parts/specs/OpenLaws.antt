@@ -22,7 +22,8 @@ use Rattle.pool_changes.specs.declared.slot.Slot.TheVariants.{Live, Staged, Doom
 use Rattle.pool_changes.specs.Slots.{Slots, is_live, is_given, size_of, claims_of}
 use Rattle.pool_changes.specs.Kept.{IsSame}
 use Rattle.pool_changes.specs.Listed.{item_of, index_of}
-use Rattle.pool_store.specs.Fits.{IsLess, fits_less}
+use Rattle.pool_store.specs.Fits.{IsLess}
+use Rattle.pool_store.specs.FitsLaws.{fits_less}
 use Rattle.backup_views.specs.declared.kept.Views.{Views}
 use Rattle.ref_counts.specs.Numbers.{Items}
 use Rattle.open_sessions.specs.Opened.{AreSessions, AreAlike, claims_in}

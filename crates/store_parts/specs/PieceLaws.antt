@@ -13,7 +13,8 @@ use Rattle.disk_trait.specs.declared.ids.PoolId.{PoolId}
 use Rattle.disk_trait.specs.declared.ids.FileId.{FileId}
 use Rattle.disk_trait.specs.declared.ids.FileId.TheVariants as F
 use Rattle.disk_trait.specs.declared.disk.Disk.{Ghosts as DiskGhosts}
-use Rattle.disk_trait.specs.Names.{is_same_file, same_file, is_metadata}
+use Rattle.disk_trait.specs.Names.{is_same_file, is_metadata}
+use Rattle.disk_trait.specs.NamesLaws.{same_file}
 use Rattle.disk_trait.specs.Files.{Files, bytes_of as file_bytes}
 use Rattle.disk_trait.specs.Images.{also}
 use Rattle.pool_name.specs.declared.namer.Namer.{Ghosts as NamerGhosts}

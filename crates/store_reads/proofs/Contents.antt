@@ -13,7 +13,7 @@ use Rattle.journal_view.specs.ViewLaws.{seen_read}
 use Rattle.pool_store.specs.declared.fault.PoolFault.{PoolFault}
 use Rattle.pool_store.specs.declared.fault.PoolFault.TheVariants as P
 use Rattle.pool_store.specs.Chains.{OfReading, SaysDamaged}
-use Rattle.pool_store.specs.Fits.{not_damaged}
+use Rattle.pool_store.specs.FitsLaws.{not_damaged}
 use Rattle.store_parts.specs.declared.parts.StoreParts.{StoreParts}
 use Rattle.pool_changes.specs.Slots.{is_given}
 use Rattle.store_parts.specs.States.{slots}

@@ -28,7 +28,7 @@ use Rattle.office_model.specs.Office.{Office, Host, Backup, Names}
 use Rattle.office_model.specs.Meaning.{◌>>=◌}
 use Rattle.office_model.specs.Parts.{lines_of, backup_of}
 use Rattle.office_model.specs.declared.refusal.BrokenRule.TheVariants.{NoHost, NoBackup}
-use Rattle.office_model.specs.Pairs.{pair_at}
+use Rattle.office_model.specs.PairsLaws.{pair_at}
 use Rattle.office_files.specs.Pooled.{contents_of, IsListed}
 use Rattle.office_files.specs.Hosts.{index_of_host, IsShown, StandsHost}
 use Rattle.store_parts.specs.declared.parts.StoreParts.{StoreParts}

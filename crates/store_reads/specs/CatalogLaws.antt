@@ -17,7 +17,7 @@ use Rattle.office_model.specs.declared.refusal.BrokenRule.TheVariants.{NoBackup}
 use Rattle.office_model.specs.Office.{Durable, Host, Backup, AreNumbered, backup_index}
 use Rattle.office_model.specs.Meaning.{Judged, ◌>>=◌, found}
 use Rattle.office_model.specs.Parts.{At, at, host_at, backup_at, backup_of, lines_of}
-use Rattle.office_model.specs.Places.{position-found}
+use Rattle.office_model.specs.PlacesLaws.{position-found}
 
 -- ---- places
 

@@ -50,12 +50,12 @@ use Rattle.office_model.specs.Meaning.{Judged, Carried, Reply, ◌>>=◌, ◌>>�
 use Rattle.office_model.specs.Parts.{At, at as stage_in, dump_at}
 use Rattle.office_model.specs.Office.{Office, Dump, Stage, Names, dump_index, stage_index, stage_content, content_limit, with_dumps}
 use Rattle.office_model.specs.Office as O
-use Rattle.office_model.specs.Places.{position-found}
+use Rattle.office_model.specs.PlacesLaws.{position-found}
 use Rattle.office_model.specs.UsedNames.{IsRenamed, IsNamedIf, OnlyUsed}
 use Rattle.office_model.specs.laws.PutLaws.{stage_content_is}
 use Rattle.office_model.specs.events.Put as PutEvent
 use Rattle.office_model.specs.events.Put.{name_change, staged_item}
-use Rattle.office_model.specs.Pairs.{other_at}
+use Rattle.office_model.specs.PairsLaws.{other_at}
 use Rattle.office_files.specs.Pooled.{contents_of}
 use Rattle.store_parts.specs.declared.parts.StoreParts.{StoreParts}
 use Rattle.store_parts.specs.Held.{given}

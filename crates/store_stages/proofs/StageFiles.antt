@@ -25,7 +25,7 @@ use Rattle.open_sessions.specs.declared.stages.OpenStage.{OpenStage}
 use Rattle.open_sessions.specs.Opened.{IsStage}
 use Rattle.office_model.specs.declared.refusal.Refusal.{Refusal}
 use Rattle.office_model.specs.Office.{Stage}
-use Rattle.office_model.specs.Places.{position-found}
+use Rattle.office_model.specs.PlacesLaws.{position-found}
 use Rattle.store_parts.specs.declared.parts.StoreParts.{StoreParts}
 use Rattle.store_parts.specs.Refusals.{refusal_of_pool}
 use Rattle.store_parts.specs.FoundLaws.{stage_place}

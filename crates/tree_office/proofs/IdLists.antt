@@ -10,8 +10,7 @@ use Rattle.disk_trait.specs.declared.ids.PoolId.{PoolId}
 use Rattle.ordered_lists.specs.Order.{IsInOrder, IsBelowAll}
 use Rattle.ordered_lists.specs.OrderLaws.{IsInOrder-put, find_below, below_alike}
 use Rattle.pool_index.specs.Items.{id_cmp}
-use Rattle.pool_index.specs.ItemLaws.{id_total}
-use Rattle.ref_counts.specs.Ids.{id_exact}
+use Rattle.pool_index.specs.ItemLaws.{id_total, id_exact}
 use Rattle.office_model.specs.Places.{Differ}
 use Rattle.office_model.specs.Pool.{Pool, is_pooled}
 use Rattle.office_model.specs.Ids.{Ids, content_at}

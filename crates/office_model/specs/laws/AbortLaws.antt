@@ -3,7 +3,7 @@ use Rattle.std.specs.Prelude.{◌≡◌, ◌<◌, ℕ, true, not, List, Ok}
 use Rattle.std.specs.List.{remove}
 use Rattle.std.proofs.Common.{refl, ap, ◌∙◌, subst}
 use Rattle.receipts.specs.declared.session.SessionName.{SessionName}
-use Rattle.office_model.specs.Places.{AtEach-remove}
+use Rattle.office_model.specs.PlacesLaws.{AtEach-remove}
 use Rattle.receipts.specs.Session.{is_same_session}
 use Rattle.office_model.specs.Office.{Office, Dump, Stage, with_dumps, with_stages, stages_left, IsSound, HasHost, in_dumps}
 use Rattle.office_model.specs.Meaning.{Same}

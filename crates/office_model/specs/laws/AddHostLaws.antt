@@ -4,7 +4,8 @@ use Rattle.std.proofs.Common.{refl, subst, arith, length-append}
 use Rattle.std.proofs.lemmas.Bool.Decides.{nat_tests}
 use Rattle.backup_rules.specs.Values.{RuleSet}
 use Rattle.office_model.specs.declared.answer.Answer.TheVariants.{Done}
-use Rattle.office_model.specs.Places.{AtEach, AtEach-longer, Differ-longer, slice_get-longer}
+use Rattle.office_model.specs.Places.{AtEach}
+use Rattle.office_model.specs.PlacesLaws.{AtEach-longer, Differ-longer, slice_get-longer}
 use Rattle.office_model.specs.Office.{Office, Host, Backup, host_index, host_limit, with_hosts, IsSound, AreHosts, IsSoundHost, HasHost, IsPooledTree, IsPooledPartial}
 use Rattle.office_model.specs.events.AddHost.{new_host, with_host, meaning}
 use Rattle.office_model.specs.laws.Judging.{bound, passed}

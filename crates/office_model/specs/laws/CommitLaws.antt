@@ -13,7 +13,8 @@ use Rattle.office_model.specs.declared.answer.Answer.{Answer}
 use Rattle.office_model.specs.declared.answer.Answer.TheVariants.{Committed}
 use Rattle.office_model.specs.declared.answer.AnswerKind.TheVariants as K
 use Rattle.office_model.specs.declared.refusal.BrokenRule.TheVariants.{NoSession, NumberBehind}
-use Rattle.office_model.specs.Places.{AtEach, AtEach-set, AtEach-longer, slice_get-set_other, slice_get-remove, place_before, place_before-other}
+use Rattle.office_model.specs.Places.{AtEach, place_before}
+use Rattle.office_model.specs.PlacesLaws.{AtEach-set, AtEach-longer, slice_get-set_other, slice_get-remove, place_before-other}
 use Rattle.office_model.specs.Pool.{Pool, is_pooled, holds, with_tree}
 use Rattle.receipts.specs.declared.receipt.Receipt.{Receipt}
 use Rattle.office_model.specs.Office.{Office, Host, Backup, Dump, Stage, Names, dump_index, IsOver, IsUnspent, stages_left, number_limit, IsSound, IsTree, IsSoundHost, HasHost, AreDumps, IsPooledTree, IsPooledPartial, is_held}

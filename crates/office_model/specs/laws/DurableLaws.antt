@@ -2,7 +2,8 @@
 use Rattle.std.specs.Prelude.{◌≡◌, ◌≢◌, ◌<◌, ◌≤◌, ℕ, zero, suc, List, [], ◌∷◌, length, Option, None, Some, IfSome, slice_get, slice_set, ◌⊎◌}
 use Rattle.std.proofs.Common.{refl, sym, ap, ◌∙◌, subst, inl, inr}
 use Rattle.std.proofs.Math.ListN.{length-set}
-use Rattle.office_model.specs.Places.{AtEach, AtEach-set, Differ-set, in_set}
+use Rattle.office_model.specs.Places.{AtEach}
+use Rattle.office_model.specs.PlacesLaws.{AtEach-set, Differ-set, in_set}
 use Rattle.office_model.specs.Pool.{Pool}
 use Rattle.attr_records.specs.Items.{Tree}
 use Rattle.receipts.specs.declared.receipt.Receipt.{Receipt}

@@ -17,10 +17,9 @@ use Rattle.disk_trait.specs.declared.ids.PoolId.{PoolId}
 use Rattle.ordered_lists.specs.Order.{IsInOrder, IsBelowAll}
 use Rattle.ordered_lists.specs.OrderLaws.{same_in_order}
 use Rattle.pool_index.specs.Items.{id_cmp}
-use Rattle.pool_index.specs.ItemLaws.{id_total}
-use Rattle.ref_counts.specs.Ids.{id_exact}
+use Rattle.pool_index.specs.ItemLaws.{id_total, id_exact}
 use Rattle.office_model.specs.declared.answer.Answer.{Answer}
-use Rattle.office_model.specs.Places.{position-found, position-some}
+use Rattle.office_model.specs.PlacesLaws.{position-found, position-some}
 use Rattle.office_model.specs.Pool.{Pool, is_pooled}
 use Rattle.office_model.specs.Ids.{Ids, content_at, place_of, id_of, AreIds}
 use Rattle.office_model.specs.Office.{Office, Durable, Names, IsSound, IsSoundDurable, with_ids}

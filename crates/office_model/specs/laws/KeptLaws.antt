@@ -16,7 +16,8 @@ use Rattle.office_model.specs.declared.refusal.BrokenRule.TheVariants.{BadBucket
 use Rattle.office_model.specs.declared.refusal.Refusal.TheVariants.{Broken, Halted as HaltedReply, DiskFault, Damaged, Memory}
 use Rattle.attr_records.specs.Trees.{node_at}
 use Rattle.backup_rules.specs.declared.lines.Kind.{Kind}
-use Rattle.office_model.specs.Places.{in_longer, in_set, slice_get-remove, place_before, slice_get-longer}
+use Rattle.office_model.specs.Places.{place_before}
+use Rattle.office_model.specs.PlacesLaws.{in_longer, in_set, slice_get-remove, slice_get-longer}
 use Rattle.office_model.specs.Ids.{content_at}
 use Rattle.office_model.specs.Office.{Office, Dump, Names, Durable, raised, reopened, with_ids, stage_content, last_sequence, piece_limit, token_limit}
 use Rattle.office_model.specs.Meaning.{Meaning, Carried, Judged, Reply, Touch, Nothing, Reads, Stages, Removes, Commits, ReadsAndCommits, Reopens, NameChange, Renews, found}

@@ -13,7 +13,8 @@ use Rattle.office_model.specs.declared.answer.Answer.{Answer}
 use Rattle.office_model.specs.declared.answer.Answer.TheVariants.{Dump as Opened, Already}
 use Rattle.office_model.specs.declared.answer.AnswerKind.TheVariants as K
 use Rattle.office_model.specs.declared.refusal.BrokenRule.TheVariants.{NoBackup}
-use Rattle.office_model.specs.Places.{AtEach, AtEach-longer}
+use Rattle.office_model.specs.Places.{AtEach}
+use Rattle.office_model.specs.PlacesLaws.{AtEach-longer}
 use Rattle.office_model.specs.Pool.{Pool, is_pooled}
 use Rattle.receipts.specs.declared.receipt.Receipt.{Receipt}
 use Rattle.office_model.specs.Office.{Office, Host, Backup, Dump, Names, IsUnspent, dump_index_of_host, number_limit, last_sequence, with_dumps, numbered, IsSound, IsTree, IsSoundHost, HasHost, IsPooledTree, in_dumps}

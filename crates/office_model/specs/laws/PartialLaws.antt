@@ -5,7 +5,8 @@ use Rattle.attr_records.specs.Items.{Tree}
 use Rattle.receipts.specs.declared.session.SessionName.{SessionName}
 use Rattle.office_model.specs.declared.answer.Answer.TheVariants as A
 use Rattle.office_model.specs.declared.refusal.BrokenRule.TheVariants.{NoSession, NoPartial}
-use Rattle.office_model.specs.Places.{AtEach, AtEach-set}
+use Rattle.office_model.specs.Places.{AtEach}
+use Rattle.office_model.specs.PlacesLaws.{AtEach-set}
 use Rattle.office_model.specs.Pool.{Pool, is_pooled, holds, with_tree}
 use Rattle.office_model.specs.Office.{Office, Host, Backup, Partial, Dump, dump_index_of_host, number_limit, last_sequence, with_hosts, with_pool, with_dumps, numbered, IsSound, IsTree, IsSoundHost, IsPooledTree, IsPooledPartial, in_dumps, is_held}
 use Rattle.office_model.specs.Meaning.{Same, found}

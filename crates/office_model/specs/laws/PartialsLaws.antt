@@ -16,7 +16,8 @@ use Rattle.office_model.specs.declared.refusal.Refusal.TheVariants.{Broken, Halt
 use Rattle.attr_records.specs.Items.{content_of, is_large}
 use Rattle.backup_rules.specs.Values.{RuleSet, RuleChanges}
 use Rattle.office_model.specs.declared.event.PutItem.{PutItem}
-use Rattle.office_model.specs.Places.{Differ, slice_get-longer}
+use Rattle.office_model.specs.Places.{Differ}
+use Rattle.office_model.specs.PlacesLaws.{slice_get-longer}
 use Rattle.office_model.specs.Ids.{content_at}
 use Rattle.office_model.specs.Office.{Office, Host, Backup, Partial, Dump, Durable, Names, host_index, backup_index, host_limit, with_ids, last_sequence, piece_limit, token_limit, stage_content, raised, reopened, with_dumps, numbered}
 use Rattle.office_model.specs.Meaning.{Meaning, Carried, Judged, Reply, Touch, Nothing, Reads, Stages, Removes, Commits, ReadsAndCommits, Reopens, NameChange, Renews, ◌>>=◌, found}

@@ -16,7 +16,8 @@ use Rattle.office_model.specs.declared.event.PutItem.{PutItem}
 use Rattle.office_model.specs.declared.event.PutItem.TheVariants.{Whole, Staged}
 use Rattle.office_model.specs.declared.answer.Answer.TheVariants.{Done}
 use Rattle.office_model.specs.declared.refusal.BrokenRule.TheVariants.{Put, NoSession}
-use Rattle.office_model.specs.Places.{AtEach, AtEach-remove}
+use Rattle.office_model.specs.Places.{AtEach}
+use Rattle.office_model.specs.PlacesLaws.{AtEach-remove}
 use Rattle.office_model.specs.Pool.{is_content}
 use Rattle.office_model.specs.Office.{Office, Dump, Stage, stage_index, stage_content, Names, with_dumps, with_stages, IsSound, IsTree, in_dumps}
 use Rattle.office_model.specs.Meaning.{Carried, Judged, Same, AddsStage}

@@ -11,7 +11,8 @@ use Rattle.attr_records.specs.Paths.{path_cmp}
 use Rattle.attr_records.specs.Trees.{node_at}
 use Rattle.office_model.specs.declared.answer.Answer.TheVariants as A
 use Rattle.office_model.specs.declared.refusal.BrokenRule.TheVariants.{NoPath, NumbersSpent}
-use Rattle.office_model.specs.Places.{AtEach, AtEach-longer, AtEach-set, AtEach-remove, Differ-longer, Differ-set, Differ-remove}
+use Rattle.office_model.specs.Places.{AtEach}
+use Rattle.office_model.specs.PlacesLaws.{AtEach-longer, AtEach-set, AtEach-remove, Differ-longer, Differ-set, Differ-remove}
 use Rattle.office_model.specs.Pool.{is_pooled, is_content, is_same_content, holds}
 use Rattle.office_model.specs.Office.{Office, Host, Reader, last_sequence, piece_limit, with_readers, IsSound, AreReaders, IsPooledReader}
 use Rattle.office_model.specs.Meaning.{found}

@@ -4,7 +4,8 @@ use Rattle.std.proofs.Common.{refl, sym, ap, ◌∙◌, subst, inl, inr, arith, 
 use Rattle.std.proofs.lemmas.List.{length-drop}
 use Rattle.receipts.specs.declared.session.SessionName.{SessionName}
 use Rattle.receipts.specs.declared.session.Token.{Token}
-use Rattle.office_model.specs.Places.{AtEach, Differ, Differ-longer, in_longer, in_set}
+use Rattle.office_model.specs.Places.{AtEach, Differ}
+use Rattle.office_model.specs.PlacesLaws.{Differ-longer, in_longer, in_set}
 use Rattle.receipts.specs.declared.receipt.Receipt.{Receipt}
 use Rattle.receipts.specs.Receipts.{receipt_limit}
 use Rattle.office_model.specs.Office.{Host, StandsAt, AtEachReceipt, AreReceipts, AreEnded, IsUnspent}

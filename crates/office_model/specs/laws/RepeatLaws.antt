@@ -11,7 +11,8 @@ use Rattle.office_model.specs.declared.answer.Answer.{Answer}
 use Rattle.office_model.specs.declared.answer.Answer.TheVariants.{Done}
 use Rattle.office_model.specs.declared.refusal.BrokenRule.TheVariants.{TokensFull}
 use Rattle.receipts.specs.Session.{is_same_token}
-use Rattle.office_model.specs.Places.{AtEach, AtEach-set, Differ-longer, position-found, position-none}
+use Rattle.office_model.specs.Places.{AtEach}
+use Rattle.office_model.specs.PlacesLaws.{AtEach-set, Differ-longer, position-found, position-none}
 use Rattle.office_model.specs.Office.{Office, Dump, Names, token_limit, with_dumps, in_dumps, IsSound, IsTree, AreKept, HasHost, IsUnspent}
 use Rattle.office_model.specs.Meaning.{Meaning, Carried, Judged}
 use Rattle.office_model.specs.Parts.{At, dump_at}

@@ -7,7 +7,8 @@ use Rattle.attr_records.specs.declared.trees.PutRule.TheVariants.{FileTooLarge}
 use Rattle.receipts.specs.declared.session.SessionName.{SessionName}
 use Rattle.office_model.specs.declared.answer.Answer.TheVariants.{Done, Stage as Opened}
 use Rattle.office_model.specs.declared.refusal.BrokenRule.TheVariants.{NumbersSpent, BadPiece, Put as PutRule}
-use Rattle.office_model.specs.Places.{AtEach, AtEach-longer, AtEach-set, AtEach-remove}
+use Rattle.office_model.specs.Places.{AtEach}
+use Rattle.office_model.specs.PlacesLaws.{AtEach-longer, AtEach-set, AtEach-remove}
 use Rattle.office_model.specs.Office.{Office, Dump, Stage, Names, last_sequence, content_limit, stage_index, with_stages, IsSound, HasDump}
 use Rattle.office_model.specs.Parts.{dump_at, stage_at}
 use Rattle.office_model.specs.UsedNames.{AreSound}

@@ -6,7 +6,8 @@ use Rattle.std.proofs.Common.{refl, sym, ap, ◌∙◌, inl, inr, arith}
 use Rattle.std.proofs.lemmas.Bool.{true≢false}
 use Rattle.receipts.specs.declared.session.SessionName.{SessionName}
 use Rattle.receipts.specs.Session.{is_same_session}
-use Rattle.office_model.specs.Places.{AtEach, AtEach-longer, AtEach-set, AtEach-remove, Differ, Differ-longer, Differ-set, Differ-remove, slice_get-longer, still_there}
+use Rattle.office_model.specs.Places.{AtEach, Differ}
+use Rattle.office_model.specs.PlacesLaws.{AtEach-longer, AtEach-set, AtEach-remove, Differ-longer, Differ-set, Differ-remove, slice_get-longer, still_there}
 use Rattle.office_model.specs.Office.{Office, IsSound, with_stages, Dump, Stage, HasDump, AreStages, stages_left, content_limit}
 use Rattle.office_model.specs.laws.Lookups.{session_itself}
 use Rattle.office_model.specs.laws.DurableLaws.{set_finds}

@@ -8,7 +8,8 @@ use Rattle.receipts.specs.declared.session.Token.{Token}
 use Rattle.office_model.specs.declared.answer.Answer.{Answer}
 use Rattle.office_model.specs.declared.answer.Answer.TheVariants.{Done, Already, Committed, Dump as Opened}
 use Rattle.receipts.specs.Session.{is_same_session, is_same_token}
-use Rattle.office_model.specs.Places.{Differ, position-found, position-some}
+use Rattle.office_model.specs.Places.{Differ}
+use Rattle.office_model.specs.PlacesLaws.{position-found, position-some}
 use Rattle.receipts.specs.declared.receipt.Receipt.{Receipt}
 use Rattle.office_model.specs.Office.{Office, Host, Dump, Durable, dump_index, dump_index_of_host, IsSoundDurable, IsUnspent, HasHost, StandsAt}
 use Rattle.office_model.specs.Meaning.{Carried, Judged, ◌>>=◌}

@@ -4,7 +4,8 @@ use Rattle.std.specs.Prelude.{◌≡◌, ◌≢◌, ◌<◌, ℕ, ◌+◌, List,
 use Rattle.std.specs.List.{remove}
 use Rattle.std.proofs.Common.{refl, sym, ap, ◌∙◌, subst, inl, inr, arith}
 use Rattle.receipts.specs.declared.session.SessionName.{SessionName}
-use Rattle.office_model.specs.Places.{AtEach-longer, AtEach-set, AtEach-remove, Differ-longer, Differ-set, Differ-remove, in_longer, slice_get-remove, place_before}
+use Rattle.office_model.specs.Places.{place_before}
+use Rattle.office_model.specs.PlacesLaws.{AtEach-longer, AtEach-set, AtEach-remove, Differ-longer, Differ-set, Differ-remove, in_longer, slice_get-remove}
 use Rattle.office_model.specs.Pool.{Pool}
 use Rattle.receipts.specs.declared.receipt.Receipt.{Receipt}
 use Rattle.office_model.specs.Office.{Dump, Restore, Reader, Stage, Volatile, AreKept, IsOver, dump_index_of_host, nothing_open, stages_left, IsTree, IsGiven, IsSoundVolatile, IsPooledTree, IsPooledReader, IsPooledOpen}

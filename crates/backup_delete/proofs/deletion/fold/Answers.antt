@@ -8,7 +8,7 @@ use Rattle.ref_counts.specs.Stored.{stored}
 use Rattle.backup_delete.specs.Trees.{backups}
 use Rattle.backup_delete.specs.Folds.{left_trees, folded_tables, Change, change_at, changed, table_at, added_tables, taken_tables}
 use Rattle.backup_delete.specs.FoldLaws.{folded-stored}
-use Rattle.backup_delete.specs.Counted.{folded-total, taken-within}
+use Rattle.backup_delete.specs.CountedLaws.{folded-total, taken-within}
 use Rattle.backup_delete.specs.TableLaws.{changed-left, left-sound}
 use Rattle.backup_delete.proofs.AddedLaws.{added-within}
 use Rattle.backup_delete.proofs.deletion.fold.Goals as goal

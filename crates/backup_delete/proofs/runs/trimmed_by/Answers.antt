@@ -4,7 +4,7 @@ use Rattle.ordered_lists.specs.Order.{IsInOrder}
 use Rattle.attr_records.specs.Paths.{path_cmp}
 use Rattle.merge_view.specs.Views.{Rows, stacked}
 use Rattle.merge_view.specs.ViewLaws.{IsInOrder-stacked}
-use Rattle.backup_delete.specs.RunFolds.{resolved_in_order, remaining_in_order}
+use Rattle.backup_delete.specs.RunFoldsLaws.{resolved_in_order, remaining_in_order}
 use Rattle.backup_delete.proofs.RunSteps.{going, moves, fold_begun, fold_step}
 use Rattle.backup_delete.proofs.runs.trimmed_by.Goals as goal
 

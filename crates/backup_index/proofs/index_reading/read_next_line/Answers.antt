@@ -4,7 +4,8 @@ use Rattle.wire_bytes.specs.GrammarLaws.{field_finds, field_refuses, narrow_find
 use Rattle.backup_rules.specs.declared.lines.Line.{Line}
 use Rattle.backup_rules.specs.Layout.{line_bytes}
 use Rattle.backup_index.specs.declared.lines.IndexRule.{IndexRule}
-use Rattle.backup_index.specs.Lines.{broken_line, IsKeptLine, follows_from_none, none_from_follows}
+use Rattle.backup_index.specs.Lines.{broken_line, IsKeptLine}
+use Rattle.backup_index.specs.LinesLaws.{follows_from_none, none_from_follows}
 use Rattle.backup_index.proofs.index_reading.read_next_line.Goals as goal
 
 pub returns-in-Err : goal.returns-in-Err

@@ -1,6 +1,7 @@
 use Rattle.std.proofs.Common.{◌≡◌, Option, Some, inr, ◌∙◌, subst}
 use Rattle.disk_trait.specs.Files.{Files}
-use Rattle.disk_trait.specs.Images.{FileSet, nothing, IsWithin, MayLeave, Leaves, leaves_then, leaves_wider, leaves_only}
+use Rattle.disk_trait.specs.Images.{FileSet, nothing, IsWithin, MayLeave, Leaves}
+use Rattle.disk_trait.specs.ImagesLaws.{leaves_then, leaves_wider, leaves_only}
 use Rattle.intent_journal.specs.Overlay.{ComesTo, IsForeign, Looks, Recovers}
 use Rattle.intent_journal.proofs.CommitLaws.{certain_image, found_recoverable, looks_then, looks_durably, found_none, found_some}
 use Rattle.intent_journal.proofs.recovery.recover.Goals as goal

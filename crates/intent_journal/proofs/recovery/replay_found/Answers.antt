@@ -1,6 +1,6 @@
 use Rattle.std.proofs.Common.{◌≡◌, List, Option, Some, sym, subst}
 use Rattle.disk_trait.specs.Files.{Files}
-use Rattle.disk_trait.specs.Images.{leaves_wider}
+use Rattle.disk_trait.specs.ImagesLaws.{leaves_wider}
 use Rattle.intent_journal.specs.declared.changes.Change.{Change}
 use Rattle.intent_journal.specs.Overlay.{IsFound, IsFoundOver}
 use Rattle.intent_journal.proofs.CommitLaws.{alike_of_found, at_rest_alike, same_comes}

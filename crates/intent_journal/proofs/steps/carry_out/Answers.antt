@@ -1,7 +1,7 @@
 use Rattle.std.proofs.Common.{◌≡◌, ℕ, List, [], ◌∷◌, Option, Some, inr, ap, ◌∙◌}
 use Rattle.disk_trait.specs.declared.ids.FileId.TheVariants.{Intent, Gate}
 use Rattle.disk_trait.specs.Files.{Files, with_bytes, changed}
-use Rattle.disk_trait.specs.Images.{leaves_wider, leaves_then}
+use Rattle.disk_trait.specs.ImagesLaws.{leaves_wider, leaves_then}
 use Rattle.intent_journal.specs.declared.changes.Change.{Change}
 use Rattle.intent_journal.specs.Layout.{intent_file}
 use Rattle.intent_journal.proofs.CommitLaws.{only_more, open_files, open_over, open_alike, replay_image, at_rest_alike, applied_keeps_alike}

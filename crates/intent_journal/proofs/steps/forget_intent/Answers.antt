@@ -1,6 +1,6 @@
 use Rattle.std.proofs.Common.{[], Some}
 use Rattle.disk_trait.specs.declared.ids.FileId.TheVariants.{Intent}
-use Rattle.disk_trait.specs.Images.{leaves_by}
+use Rattle.disk_trait.specs.ImagesLaws.{leaves_by}
 use Rattle.intent_journal.proofs.CallsLaws.{changed_one, one_changed}
 use Rattle.intent_journal.proofs.CommitLaws.{rest_still, settled_still, emptied, rest_image}
 use Rattle.intent_journal.proofs.steps.forget_intent.Goals as goal

@@ -1,5 +1,5 @@
 use Rattle.std.proofs.Common.{refl, ◌∙◌}
-use Rattle.disk_trait.specs.Images.{leaves_none, leaves_by, leaves_then}
+use Rattle.disk_trait.specs.ImagesLaws.{leaves_none, leaves_by, leaves_then}
 use Rattle.intent_journal.proofs.StepsLaws.{touched_image, underway_start, underway_next, underway_failed, underway_done, next_of}
 use Rattle.intent_journal.proofs.steps.make_changes.Goals as goal
 

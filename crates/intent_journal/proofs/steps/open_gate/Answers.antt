@@ -1,7 +1,8 @@
 use Rattle.std.proofs.Common.{◌≡◌, ℕ, List, Option, Some, inl, inr, refl, ap, ◌∙◌}
 use Rattle.disk_trait.specs.declared.ids.FileId.TheVariants.{Intent}
 use Rattle.disk_trait.specs.Files.{Files, with_bytes, changed}
-use Rattle.disk_trait.specs.Images.{leaves_wider, leaves_then, leaves_only, nothing}
+use Rattle.disk_trait.specs.Images.{nothing}
+use Rattle.disk_trait.specs.ImagesLaws.{leaves_wider, leaves_then, leaves_only}
 use Rattle.intent_journal.specs.Layout.{intent_file}
 use Rattle.intent_journal.proofs.CommitLaws.{intent_image, gate_image, synced_image, image_of_one}
 use Rattle.intent_journal.specs.OverlayLaws.{settled_of, start_image}

@@ -1,4 +1,4 @@
-use Rattle.disk_trait.specs.Images.{leaves_by, leaves_then}
+use Rattle.disk_trait.specs.ImagesLaws.{leaves_by, leaves_then}
 use Rattle.intent_journal.proofs.StepsLaws.{touched_image, touched_look}
 use Rattle.intent_journal.proofs.steps.replace_files.Goals as goal
 

@@ -1,7 +1,7 @@
 use Rattle.std.proofs.Common.{[], ◌∷◌, Option, Some, refl, ap, ◌∙◌}
 use Rattle.disk_trait.specs.declared.ids.FileId.TheVariants.{Gate}
 use Rattle.disk_trait.specs.Files.{Files, changed}
-use Rattle.disk_trait.specs.Images.{leaves_wider, leaves_then}
+use Rattle.disk_trait.specs.ImagesLaws.{leaves_wider, leaves_then}
 use Rattle.intent_journal.proofs.CommitLaws.{replaying_image, closing_image, image_of_one, at_rest, alike_itself, settled_gate}
 use Rattle.intent_journal.proofs.steps.replay.Goals as goal
 

@@ -1,6 +1,6 @@
 use Rattle.std.proofs.Common.{◌∙◌}
 use Rattle.std.specs.Ordering.{nat_cmp}
-use Rattle.pool_changes.specs.Numbers.{digests_in_order}
+use Rattle.pool_changes.specs.NumbersLaws.{digests_in_order}
 use Rattle.pool_changes.proofs.key.compare_digests.Goals as goal
 
 pub returns : goal.returns

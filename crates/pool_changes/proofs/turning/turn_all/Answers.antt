@@ -1,5 +1,5 @@
 use Rattle.pool_changes.specs.Kept.{slots_of}
-use Rattle.pool_changes.specs.Relisted.{turn_next}
+use Rattle.pool_changes.specs.RelistedLaws.{turn_next}
 use Rattle.pool_changes.specs.StepLaws.{first_of}
 use Rattle.pool_changes.proofs.turning.turn_all.Goals as goal
 

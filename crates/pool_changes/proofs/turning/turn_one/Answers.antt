@@ -1,6 +1,6 @@
 use Rattle.std.proofs.Common.{◌≡◌, None}
 use Rattle.pool_changes.specs.Kept.{slots_of}
-use Rattle.pool_changes.specs.Relisted.{turn_none}
+use Rattle.pool_changes.specs.RelistedLaws.{turn_none}
 use Rattle.pool_changes.proofs.turning.turn_one.Goals as goal
 
 pub returns-in-None : goal.returns-in-None

@@ -2,8 +2,8 @@
 use Rattle.std.proofs.Common.{refl}
 use Rattle.pool_changes.specs.declared.slot.Turn.TheVariants.{Add}
 use Rattle.pool_changes.specs.Kept.{slots_of}
-use Rattle.pool_changes.specs.Relisted.{same_then}
-use Rattle.pool_changes.specs.Indexed.{four_parts}
+use Rattle.pool_changes.specs.RelistedLaws.{same_then}
+use Rattle.pool_changes.specs.IndexedLaws.{four_parts}
 use Rattle.pool_changes.specs.Writing.{layered}
 use Rattle.pool_changes.proofs.Layering.{nothing_over, none_over}
 use Rattle.pool_changes.proofs.writing.changed_names.Goals as goal

@@ -1,7 +1,7 @@
 use Rattle.std.proofs.Common.{◌≡◌, length, take, ◌∙◌, refl, arith, rules}
 use Rattle.std.proofs.lemmas.List.{length-take-le}
 use Rattle.disk_trait.specs.declared.ids.FileId.TheVariants.{Pool}
-use Rattle.pool_store.specs.Rewriting.{reads_rewrites, rewrites_none, rewrites_then}
+use Rattle.pool_store.specs.RewritingLaws.{reads_rewrites, rewrites_none, rewrites_then}
 use Rattle.pool_store.proofs.Sourcing.{so_far, so_far_there, staged_copied, copied_more, copied_all}
 use Rattle.pool_store.proofs.source.copy_stage.Goals as goal
 

@@ -1,6 +1,7 @@
 use Rattle.std.proofs.Common.{ℕ, ◌∙◌}
 use Rattle.disk_trait.specs.Files.{Files}
-use Rattle.disk_trait.specs.Images.{Leaves, LeavesOnly, leaves_then}
+use Rattle.disk_trait.specs.Images.{Leaves, LeavesOnly}
+use Rattle.disk_trait.specs.ImagesLaws.{leaves_then}
 use Rattle.store_dumps.proofs.putting.stage.Goals as goal
 
 left : {D : Type 0} {moment : D → ℕ} {left_since : D → ℕ → Files → Type 0} {old new : D} {P : Files → Type 0}

@@ -1,6 +1,7 @@
 -- Lines that break no rule are sound.
 use Rattle.std.proofs.Common.{sym, subst}
-use Rattle.backup_index.specs.Lines.{IsSound, sound_from_none}
+use Rattle.backup_index.specs.Lines.{IsSound}
+use Rattle.backup_index.specs.LinesLaws.{sound_from_none}
 use Rattle.backup_index.proofs.index.HostIndex.set_lines.Goals as goal
 
 pub invariant_of-self : goal.invariant_of-self

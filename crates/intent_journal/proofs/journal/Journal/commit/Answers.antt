@@ -1,6 +1,7 @@
 use Rattle.std.proofs.Common.{List, ◌⊎◌, inl, inr, refl, sym, subst, ◌∙◌}
 use Rattle.std.proofs.lemmas.Bool.{false≢true}
-use Rattle.disk_trait.specs.Images.{LeavesOnly, leaves_only}
+use Rattle.disk_trait.specs.Images.{LeavesOnly}
+use Rattle.disk_trait.specs.ImagesLaws.{leaves_only}
 use Rattle.intent_journal.specs.declared.changes.Change.{Change}
 use Rattle.intent_journal.specs.Changes.{applied}
 use Rattle.intent_journal.specs.Overlay.{ComesTo, IsAtRest, IsBeforeOrAfter, SyncsStages}

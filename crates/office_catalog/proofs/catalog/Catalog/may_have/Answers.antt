@@ -1,6 +1,7 @@
 use Rattle.std.proofs.Common.{◌≡◌, ℕ, sym, ap, subst, ◌∙◌}
 use Rattle.backup_index.specs.Index.{Index}
-use Rattle.backup_index.specs.Lines.{IsSound, sound_from_none, none_from_sound}
+use Rattle.backup_index.specs.Lines.{IsSound}
+use Rattle.backup_index.specs.LinesLaws.{sound_from_none, none_from_sound}
 use Rattle.office_catalog.proofs.Keeping.{none_broken, some_broken}
 use Rattle.office_catalog.proofs.Leading.{found_by, found_only}
 use Rattle.office_catalog.proofs.catalog.Catalog.may_have.Goals as goal

@@ -1,5 +1,5 @@
 use Rattle.pool_changes.specs.Kept.{slots_of}
-use Rattle.pool_changes.specs.Indexed.{four_parts}
+use Rattle.pool_changes.specs.IndexedLaws.{four_parts}
 use Rattle.pool_changes.proofs.index.IndexChange.make.Goals as goal
 
 pub returns : goal.returns

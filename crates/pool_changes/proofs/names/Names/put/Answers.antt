@@ -1,6 +1,7 @@
 use Rattle.std.proofs.Common.{◌≡◌, ◌<◌, ◌∙◌, true, Some, sym, ap, subst}
 use Rattle.pool_changes.specs.declared.slot.Slot.{Slot}
-use Rattle.pool_changes.specs.Slots.{slots_in, with_slot, is_given, size_of, set_at}
+use Rattle.pool_changes.specs.Slots.{slots_in, with_slot, is_given, size_of}
+use Rattle.pool_changes.specs.SlotsLaws.{set_at}
 use Rattle.pool_changes.proofs.Naming.{good_put}
 use Rattle.pool_changes.proofs.names.Names.put.Goals as goal
 

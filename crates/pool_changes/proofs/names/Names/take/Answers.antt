@@ -1,5 +1,6 @@
 use Rattle.std.proofs.Common.{◌∙◌, None}
-use Rattle.pool_changes.specs.Slots.{slots_in, set_at}
+use Rattle.pool_changes.specs.Slots.{slots_in}
+use Rattle.pool_changes.specs.SlotsLaws.{set_at}
 use Rattle.pool_changes.proofs.Naming.{good_updated}
 use Rattle.pool_changes.proofs.names.Names.take.Goals as goal
 

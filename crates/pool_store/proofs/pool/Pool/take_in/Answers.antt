@@ -1,5 +1,5 @@
 use Rattle.std.proofs.Common.{◌∙◌, rules}
-use Rattle.disk_trait.specs.Images.{only_then}
+use Rattle.disk_trait.specs.ImagesLaws.{only_then}
 use Rattle.pool_changes.specs.Kept.{slots_of}
 use Rattle.pool_store.proofs.Missing.{missed}
 use Rattle.pool_store.proofs.Sourcing.{never_damaged}

@@ -1,36 +1,17 @@
 -- Laws of the order of ids.
---     id_exact      ids that compare equal are one
 --     same_key      to compare equal is to be the same id
 use Rattle.std.specs.Prelude.{◌≡◌, true}
 use Rattle.std.specs.declared.cmp.Ordering.{Ordering}
 use Rattle.std.specs.declared.cmp.Ordering.TheVariants.{Less, Equal, Greater}
-use Rattle.std.specs.Ordering.{is_eq, eq_by_cmp, nat_cmp, ordering_then}
+use Rattle.std.specs.Ordering.{is_eq, eq_by_cmp}
 use Rattle.std.specs.Cmp.{tied_itself}
-use Rattle.std.specs.Cmp.Lexicographic.{slice_cmp}
-use Rattle.std.specs.FinMap.{IsAntisymmetric, nat_cmp-IsAntisymmetric, slice_cmp-IsAntisymmetric}
 use Rattle.std.proofs.Common.{refl, ap, ◌∙◌, subst}
 use Rattle.disk_trait.specs.declared.ids.PoolId.{PoolId}
 use Rattle.attr_tables.specs.Records.{is_same_id}
 use Rattle.attr_tables.specs.RecordLaws.{same_id, id_itself}
 use Rattle.pool_index.specs.Items.{id_cmp}
-use Rattle.pool_index.specs.ItemLaws.{id_total}
+use Rattle.pool_index.specs.ItemLaws.{id_total, id_exact}
 use Rattle.stored_trees.specs.NodeLaws.{alike}
-
-first_equal : (a b : Ordering) → ordering_then a b ≡ Equal → a ≡ Equal
-first_equal Less b e = e
-first_equal Equal b e = refl
-first_equal Greater b e = e
-
-second_equal : (a b : Ordering) → ordering_then a b ≡ Equal → b ≡ Equal
-second_equal Less b e = cc
-second_equal Equal b e = e
-second_equal Greater b e = cc
-
-pub id_exact : IsAntisymmetric id_cmp
-id_exact a b e =
-    let digest = slice_cmp-IsAntisymmetric nat_cmp-IsAntisymmetric a.digest b.digest (first_equal _ _ e) in
-    let extension = nat_cmp-IsAntisymmetric a.extension b.extension (second_equal (slice_cmp nat_cmp a.digest b.digest) _ e) in
-    λ i. record { digest = digest i; extension = extension i }
 
 equal_from_test : (r : Ordering) → is_eq r ≡ true → r ≡ Equal
 equal_from_test Less e = cc
