@@ -181,10 +181,11 @@ module _ {D N S : Type 0} {d : DiskGhosts D} {n : NamerGhosts N S} where
   -- meanwhile a crash leaves what is durable
   pub crash_stays : (old new : StoreParts D N S d n) (office : Office) (names : Names) → IsRunning old office names
       → Quiet old.journal new.journal
-      → (judged : Judged Carried) → FindsOnly old.journal new.journal (MayRecover n.digest_of office judged)
-  crash_stays old new office names at quiet judged =
-      FindsOnly-each (IsAlikeBut at.all (uncertain old.journal)) (MayRecover n.digest_of office judged) old.journal new.journal
-      (λ found alike. recover_before n.digest_of office judged found
+      → (pools : Bool) (judged : Judged Carried)
+      → FindsOnly old.journal new.journal (MayRecover n.digest_of pools names office judged)
+  crash_stays old new office names at quiet pools judged =
+      FindsOnly-each (IsAlikeBut at.all (uncertain old.journal)) (MayRecover n.digest_of pools names office judged) old.journal new.journal
+      (λ found alike. recover_before n.digest_of pools names office judged found
       (stored_found old.journal old.pool old.catalog office.durable names at.stored found alike))
       (quiet.crash at.all at.told_is)
 
@@ -201,10 +202,10 @@ module _ {D N S : Type 0} {d : DiskGhosts D} {n : NamerGhosts N S} where
             step = (to.judged, to.renamed);
             undamaged = tt;
             in_state = running_opened old new office to.now names to.names' at.working stays to.alike to.sessions to.claimed
-                (AreSound-carried office names event (record { answer = answer; after = with_open office to.now }) to.names' at.sound
-                to.judged to.renamed);
+                (AreSound-carried office names event answer (with_open office to.now) to.names' at.sound to.judged to.renamed);
           };
-      crash = λ office names at. crash_stays old new office names at stays.quiet ((meaning_of event).carried office names);
+      crash = λ office names at.
+          crash_stays old new office names at stays.quiet (meaning_of event).pools ((meaning_of event).carried office names);
       in_kind = in_kind;
       awake = λ e. absurd cc;
       halts = λ not. works_stays old new stays;
@@ -225,7 +226,8 @@ module _ {D N S : Type 0} {d : DiskGhosts D} {n : NamerGhosts N S} where
           undamaged = undamaged;
           in_state = same office names at;
         };
-        crash = λ office names at. crash_stays old new office names at stays.quiet ((meaning_of event).carried office names);
+        crash = λ office names at.
+          crash_stays old new office names at stays.quiet (meaning_of event).pools ((meaning_of event).carried office names);
         in_kind = tt;
         awake = λ e. at_work (let f : refusal ≡ Halted = cc in f);
         halts = λ not. works_stays old new stays;

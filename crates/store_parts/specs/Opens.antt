@@ -15,7 +15,7 @@ use Rattle.open_sessions.specs.Opened.{AreSessions, claims_in}
 use Rattle.office_model.specs.declared.answer.Answer.{Answer}
 use Rattle.office_model.specs.declared.event.Event.{Event}
 use Rattle.office_model.specs.Office.{Office, Volatile, Names}
-use Rattle.office_model.specs.Step.{meaning_of}
+use Rattle.office_model.specs.Step.{IsMade, meaning_of}
 use Rattle.office_model.specs.UsedNames.{AreNamesAfter}
 use Rattle.office_files.specs.Pooled.{contents_of}
 use Rattle.store_parts.specs.declared.parts.StoreParts.{StoreParts}
@@ -59,7 +59,7 @@ module _ {D N S : Type 0} {d : DiskGhosts D} {n : NamerGhosts N S} where
       (at : IsRunning old office names) (new : StoreParts D N S d n) : Type 0 where
     pub now : Volatile
     pub names' : Names
-    pub judged : (meaning_of event).carried office names ≡ Ok (record { answer = answer; after = with_open office now })
+    pub judged : IsMade (meaning_of event).pools names office ((meaning_of event).carried office names) answer (with_open office now)
     pub renamed : AreNamesAfter office names (meaning_of event) (Ok answer) names'
     pub alike : AreNamedAlike names names'
     pub sessions : AreSessions n.holds (given (slots old)) (contents_of at.all) (staging_of at.all names') now new.sessions

@@ -171,10 +171,10 @@ module _ {D N S : Type 0} {d : DiskGhosts D} {n : NamerGhosts N S} where
         claims sound
 
     crash : (office : Office) (names : Names) → IsRunning old office names → (judged : Judged Carried)
-        → FindsOnly old.journal new.journal (MayRecover n.digest_of office judged)
+        → FindsOnly old.journal new.journal (MayRecover n.digest_of false names office judged)
     crash office names at judged =
-        FindsOnly-each (λ found. StandsFor n.digest_of found office.durable) (MayRecover n.digest_of office judged) old.journal new.journal
-        (λ found stands. recover_before n.digest_of office judged found stands)
+        FindsOnly-each (λ found. StandsFor n.digest_of found office.durable) (MayRecover n.digest_of false names office judged) old.journal
+        new.journal (λ found stands. recover_before n.digest_of false names office judged found stands)
         (crash_pieced old new only office names at number (staged at.all at.told_is))
 
     pub runs_pieced : (failed → ⊥) → new.journal.halted ≡ old.journal.halted
@@ -189,8 +189,7 @@ module _ {D N S : Type 0} {d : DiskGhosts D} {n : NamerGhosts N S} where
             step = (judged, refl);
             undamaged = tt;
             in_state = with_stages_running office names at to.stages to.sessions
-                (AreSound-carried office names (StagePiece number bytes)
-                (record { answer = Done; after = with_stages office to.stages }) names at.sound judged refl);
+                (AreSound-carried office names (StagePiece number bytes) Done (with_stages office to.stages) names at.sound judged refl);
           };
       crash = λ office names at. crash office names at (StagePieceEvent.carried number bytes office);
       in_kind = refl;
