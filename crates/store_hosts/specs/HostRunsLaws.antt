@@ -25,9 +25,9 @@ use Rattle.office_files.specs.TableLayoutLaws.{second_applied}
 use Rattle.store_parts.specs.declared.parts.StoreParts.{StoreParts}
 use Rattle.store_parts.specs.Held.{AreCountsOf}
 use Rattle.store_parts.specs.States.{slots, IsRunning}
-use Rattle.store_parts.specs.Runs.{Runs}
+use Rattle.store_parts.specs.Runs.{IsCarried, Runs}
 use Rattle.store_parts.specs.Writes.{Writes}
-use Rattle.store_parts.specs.StepLaws.{IsCommitting}
+use Rattle.store_parts.specs.StepLaws.{IsCommitting, carried_plain}
 use Rattle.store_parts.specs.RunLaws.{reads_still, runs_reads, counted_still}
 use Rattle.store_parts.specs.WriteLaws.{LeadsTo, LeavesIndex, runs_write_refused, runs_written, running_hosts}
 use Rattle.store_hosts.specs.Made.{IsMade}
@@ -40,7 +40,7 @@ leads_hosts : (digest_of : List ℕ → List ℕ) (index : Index) (kept : Option
     → LeadsTo digest_of event changes office names all
 leads_hosts digest_of index kept event answer changes known counts partials office names all c = record {
   carried = record { answer = answer; after = with_hosts office c.hosts };
-  judged = c.judged;
+  judged = carried_plain event office names (record { answer = answer; after = with_hosts office c.hosts }) c.plain c.judged;
   stands = record { index = index; shown = c.shown; stands = c.stands };
   second = c.second;
 }
@@ -60,7 +60,8 @@ module _ {D N S : Type 0} {d : DiskGhosts D} {n : NamerGhosts N S} where
         answer_is = refl;
         running = running_hosts old made.mid new office c.hosts names at changes tt c.shown made.writes are leaves c.stands c.view
             (subst (λ (cs : List Items). AreCountsOf cs c.shown) (sym made.counts_are) c.counted) (made.partials_are ∙ c.parked)
-            (AreSound-carried office names event (record { answer = answer; after = with_hosts office c.hosts }) names at.sound c.judged (stay office names))
+            (AreSound-carried office names event answer (with_hosts office c.hosts) names at.sound
+            (carried_plain event office names (record { answer = answer; after = with_hosts office c.hosts }) c.plain c.judged) (stay office names))
             (second_applied names.old_hosts at.all changes c.second at.second)
             made.journal_same made.pool_same (made.catalog_is ∙ c.known_is) made.sessions_same made.views_same made.halted_same;
       }) stay in_kind
@@ -76,7 +77,7 @@ module _ {D N S : Type 0} {d : DiskGhosts D} {n : NamerGhosts N S} where
   -- an event that reads what is in memory
   pub runs_known : (old : StoreParts D N S d n) (event : Event) (answer : Answer)
       → ((office : Office) (names : Names) → IsRunning old office names
-      → (meaning_of event).carried office names ≡ Ok (record { answer = answer; after = office }))
+      → IsCarried event office names (record { answer = answer; after = office }))
       → ((office : Office) (names : Names) → AreNamesAfter office names (meaning_of event) (Ok answer) names) → IsAnswerTo event answer
       → Runs old event (Ok answer) old
   runs_known old event answer carried stay in_kind =

@@ -227,7 +227,7 @@ module _ {D N S : Type 0} {d : DiskGhosts D} {n : NamerGhosts N S} where
           in_state = same office names at;
         };
         crash = λ office names at.
-          crash_stays old new office names at stays.quiet (meaning_of event).pools ((meaning_of event).carried office names);
+            crash_stays old new office names at stays.quiet (meaning_of event).pools ((meaning_of event).carried office names);
         in_kind = tt;
         awake = λ e. at_work (let f : refusal ≡ Halted = cc in f);
         halts = λ not. works_stays old new stays;
