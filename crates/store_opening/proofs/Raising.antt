@@ -34,7 +34,7 @@ use Rattle.host_partials.specs.declared.held.PartialHead.{PartialHead}
 use Rattle.office_model.specs.Office.{Durable, Host, Names, raised}
 use Rattle.office_model.specs.laws.ReopenLaws.{IsSoundDurable-raised}
 use Rattle.office_files.specs.Layouts.{IsHeadFile}
-use Rattle.office_files.specs.KeptLaws.{pool_kept}
+use Rattle.office_files.specs.KeptLaws.{pool_kept, ids_kept}
 use Rattle.office_files.specs.Pooled.{contents_of}
 use Rattle.office_files.specs.Stands.{names_of, Stands}
 use Rattle.office_files.specs.TableLayoutLaws.{second_alike}
@@ -165,10 +165,13 @@ module _ (in_one : Bool) (index : Index) (pooled heads : List Change) (leads : L
         → Stands digest_of index shown (applied (pooled ++ heads) all) (raised office)
     both_stands digest_of shown office there tells stands =
         relisted_stands digest_of index index shown (applied heads all) (applied (pooled ++ heads) all) (raised office) office.pool
+        office.ids
         (λ file metadata out. at_same file out) (λ id listed. (listed, at_same (F.Pool id) refl)) (λ id listed holds. listed)
         (λ none. false≢true (sym (ap is_some none) ∙ there)) (inr (both_tells tells))
         (pool_kept index (contents_of (applied heads all)) (contents_of (applied (pooled ++ heads) all))
-        (λ id listed. ap bytes_of (sym (at_same (F.Pool id) refl))) digest_of office.pool stands.pool) stands.sound stands
+        (λ id listed. ap bytes_of (sym (at_same (F.Pool id) refl))) digest_of office.pool stands.pool)
+        (ids_kept index (contents_of (applied heads all)) (contents_of (applied (pooled ++ heads) all))
+        (λ id listed. ap bytes_of (sym (at_same (F.Pool id) refl))) office.ids stands.ids) stands.sound stands
 
 -- the changes lead to the next epoch
 module _ (digest_of : List ℕ → List ℕ) (index : Index) (shown : List StoredHost) (all : Files) (office : Durable)

@@ -16,6 +16,7 @@ use Rattle.pool_changes.specs.declared.slot.Slot.{Slot}
 use Rattle.pool_changes.specs.declared.slot.Slot.TheVariants.{Live, Staged, Doomed}
 use Rattle.pool_changes.specs.Slots.{claims_of}
 use Rattle.pool_changes.specs.Kept.{slots_of}
+use Rattle.pool_changes.specs.Listed.{index_of}
 use Rattle.pool_store.specs.declared.pool.Pool.{Pool}
 use Rattle.pool_store.specs.Opened.{IsFresh}
 use Rattle.pool_store.specs.Opening.{AreFresh, AreThePoolFiles}
@@ -27,6 +28,7 @@ use Rattle.open_sessions.specs.Opened.{AreNumbers}
 use Rattle.open_sessions.specs.SessionLaws.{AreSessions-none, claims_in-none}
 use Rattle.office_catalog.specs.Known.{Known}
 use Rattle.office_files.specs.Pooled.{contents_of}
+use Rattle.office_files.specs.IdLaws.{are_ids}
 use Rattle.office_files.specs.TableLayouts.{AreSecondBut}
 use Rattle.office_files.specs.TableLayoutLaws.{second_alike}
 use Rattle.office_model.specs.declared.answer.Answer.{Answer}
@@ -36,6 +38,7 @@ use Rattle.office_model.specs.declared.refusal.BrokenRule.{BrokenRule}
 use Rattle.office_model.specs.declared.refusal.BrokenRule.TheVariants.{NumbersSpent}
 use Rattle.office_model.specs.declared.refusal.Refusal.{Refusal}
 use Rattle.office_model.specs.declared.refusal.Refusal.TheVariants.{Broken, Halted as HaltedReply, DiskFault, Damaged, Memory}
+use Rattle.office_model.specs.Ids.{AreIds}
 use Rattle.office_model.specs.Office.{Office, Durable, Host, Names, IsSoundDurable, raised, reopened, last_sequence}
 use Rattle.office_model.specs.Meaning.{Reply}
 use Rattle.office_model.specs.UsedNames.{OnlyUsed}
@@ -106,6 +109,14 @@ module _ {D N S : Type 0} {d : DiskGhosts D} {n : NamerGhosts N S} where
     parked = held.parked;
   }
 
+  -- the ids of its contents are the names that its files list
+  found_ids : (journal : Journal D d) (pool : Pool N S n) (catalog : Known) (office : Durable) (names : Names)
+      → IsStored journal pool catalog office names → AreIds names.digest_of office.pool office.ids
+  found_ids journal pool catalog office names at =
+      subst (λ (digest_of : List ℕ → List ℕ). AreIds digest_of office.pool office.ids) (sym at.digest)
+      (are_ids n.digest_of (index_of (slots_of pool.names)) (contents_of at.all) office.pool office.ids at.stands.one at.stands.pool
+      at.stands.ids)
+
   -- a store of these parts is at work
   fresh_running : (parts : StoreParts D N S d n) (found : Found N S n) (office : Durable) (names : Names)
       → IsOfFound parts found names.next_stage names.next_reader → AreFresh (slots parts)
@@ -126,6 +137,7 @@ module _ {D N S : Type 0} {d : DiskGhosts D} {n : NamerGhosts N S} where
           distinct = held.stored.used.distinct;
           given = record { stages = λ i s at. absurd cc; readers = λ i r at. absurd cc };
         };
+        ids = found_ids parts.journal parts.pool parts.catalog (raised office) names held.stored;
       };
     };
     claimed = λ id. fresh_claims (slots parts id) (fresh id) ∙ sym (claims_in-none parts.sessions is.none id);
