@@ -63,7 +63,7 @@ module _ {D N S : Type 0} {d : DiskGhosts D} {n : NamerGhosts N S} where
           let judged : AbortEvent.carried session office ≡ Ok (record { answer = Done; after = next }) = rw found.is_at refl in
           record {
             next = next;
-            judged = judged;
+            made = judged;
             running = running_let_go old new office next names (λ id. claims_of_dump dump id)
                 (claims_in old.sessions) at.working at.claimed journal catalog counts partials views halted
                 (go (abort_enough index dump there office names at)) form
@@ -71,6 +71,6 @@ module _ {D N S : Type 0} {d : DiskGhosts D} {n : NamerGhosts N S} where
                 (sessions_ended old.sessions mid new.sessions dump_out stages_out index dumps n.holds (given (slots old)) (contents_of at.all)
                 (staging_of at.all names) office.volatile at.sessions session stages next_stage)
                 refl refl
-                (AreSound-carried office names (Abort session) (record { answer = Done; after = next }) names at.sound judged refl);
+                (AreSound-carried office names (Abort session) Done next names at.sound judged refl);
           })
           (λ office names. refl) refl

@@ -51,7 +51,8 @@ use Rattle.store_parts.specs.declared.parts.StoreParts.{StoreParts}
 use Rattle.store_parts.specs.Held.{given}
 use Rattle.store_parts.specs.Refusals.{IsReadFault}
 use Rattle.store_parts.specs.States.{slots, IsRunning, staging_of}
-use Rattle.store_parts.specs.Runs.{Runs, Reads}
+use Rattle.store_parts.specs.Runs.{IsCarried, Runs, Reads}
+use Rattle.store_parts.specs.StepLaws.{carried_plain}
 use Rattle.store_parts.specs.RunLaws.{runs_reads, runs_memory, runs_read_fault, counted_fine}
 use Rattle.store_dumps.specs.Base.{has_base, BeginsWith, IsFaultOf}
 use Rattle.store_dumps.specs.Claims.{Gains}
@@ -216,15 +217,16 @@ module _ {D N S : Type 0} {d : DiskGhosts D} {n : NamerGhosts N S} where
       pub rows_of : AreRowsOf (given (slots old)) (contents_of at.all) rows
 
     pub runs_begun : (new : StoreParts D N S d n) (session : SessionName)
+        → (meaning_of event).pools ≡ false
         → ((office : Office) (names : Names) (at : IsRunning old office names) → MayOpen office names at)
         → ((office : Office) (names : Names) (answer : Answer) → AreNamesAfter office names (meaning_of event) (Ok answer) names)
         → IsAnswerTo event (DumpAnswer session) → HasOpened old place kind start token rows session new
         → Runs old event (Ok (DumpAnswer session)) new
-    runs_begun new session may stay in_kind has =
+    runs_begun new session plain may stay in_kind has =
         runs_kept old new event (DumpAnswer session) has.journal has.halted makes (λ office names. stay office names (DumpAnswer session)) in_kind
       where
         makes : (office : Office) (names : Names) → IsRunning old office names → Makes event (DumpAnswer session) office names new
-        makes office names at = record { next = next; judged = judged; running = running }
+        makes office names at = record { next = next; made = made; running = running }
           where
             next : Office
             next = with_fresh office place kind start token (resolved (contents_of at.all) rows)
@@ -239,6 +241,9 @@ module _ {D N S : Type 0} {d : DiskGhosts D} {n : NamerGhosts N S} where
             judged =
                 (may office names at).judged
                 ∙ ap (λ (s : SessionName). Ok (record { answer = DumpAnswer s; after = next })) (sym answer)
+
+            made : IsCarried event office names (record { answer = DumpAnswer session; after = next })
+            made = carried_plain event office names (record { answer = DumpAnswer session; after = next }) plain judged
 
             rows_were : AreRowsOf (given (slots old)) (contents_of at.all) rows
             rows_were = (may office names at).rows_of
@@ -261,7 +266,7 @@ module _ {D N S : Type 0} {d : DiskGhosts D} {n : NamerGhosts N S} where
                 (λ are. sessions_opened (given (slots new)) (contents_of at.all) office place kind start token rows rows_are n.holds
                 (staging_of at.all names) old.sessions new.sessions old.catalog.epoch session epoch are has.sessions)
                 refl refl
-                (AreSound-carried office names event (record { answer = DumpAnswer session; after = next }) names at.sound judged
+                (AreSound-carried office names event (DumpAnswer session) next names at.sound made
                 (stay office names (DumpAnswer session)))
 
   -- its base was read, and memory was wanting
@@ -314,7 +319,7 @@ module _ {D N S : Type 0} {d : DiskGhosts D} {n : NamerGhosts N S} where
       pub runs_repeated : (answer : Answer) → repeated index.receipts old.sessions.dumps.items place token ≡ Some answer
           → Runs old (OpenDumpEvent name kind now token) (Ok answer) old
       runs_repeated answer is = runs_kept old old (OpenDumpEvent name kind now token) answer refl refl
-          (λ office names at. record { next = office; judged = carried_again office names at answer is; running = at })
+          (λ office names at. record { next = office; made = carried_again office names at answer is; running = at })
           (λ office names. refl) (kind_repeated index.receipts old.sessions.dumps.items place token answer is)
 
     -- an opening that repeats none
@@ -387,7 +392,7 @@ module _ {D N S : Type 0} {d : DiskGhosts D} {n : NamerGhosts N S} where
           runs_opened : (new : StoreParts D N S d n) (session : SessionName) (rows : Rows) → BeginsWith old place kind rows
               → HasOpened old place kind now token rows session new → Runs old Event' (Ok (DumpAnswer session)) new
           runs_opened new session rows begins has =
-              runs_begun old Event' place kind now token rows new session (λ office names at.
+              runs_begun old Event' place kind now token rows new session refl (λ office names at.
               let base = begins office names at (host_is office names at).host (host_is office names at).is_host
               (sym (has_same office names at) ∙ base_wanted) in
               record { judged = opened_by office names at (resolved (contents_of at.all) rows) base.is; rows_of = base.rows_of })

@@ -100,7 +100,7 @@ module _ {D N S : Type 0} {d : DiskGhosts D} {n : NamerGhosts N S} where
       runs_put_again kept = runs_kept old old (Put session path (Whole item) token) Done refl refl
           (λ office names at. record {
             next = office;
-            judged = carried_kept old session token index dump e there office names at office
+            made = carried_kept old session token index dump e there office names at office
                 (PutEvent.put session path (Whole item) office names) kept;
             running = at;
           })

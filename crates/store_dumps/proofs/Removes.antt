@@ -115,7 +115,7 @@ module _ {D N S : Type 0} {d : DiskGhosts D} {n : NamerGhosts N S} where
       runs_remove_again kept = runs_kept old old (Remove session path token) Done refl refl
           (λ office names at. record {
             next = office;
-            judged = carried_kept old session token index dump e there office names at office (RemoveEvent.removed session path office) kept;
+            made = carried_kept old session token index dump e there office names at office (RemoveEvent.removed session path office) kept;
             running = at;
           })
           (λ office names. refl) refl
@@ -176,7 +176,7 @@ module _ {D N S : Type 0} {d : DiskGhosts D} {n : NamerGhosts N S} where
           ∙ ap Ok (behind_set office index token found.value (RemoveEvent.with_removed found.value path) office.stages Done found.there) in
           record {
             next = next;
-            judged = judged;
+            made = judged;
             running = running_let_go old new office next names (λ id. occurrences id (within_rows path dump.tree))
                 (claims_in old.sessions) at.working at.claimed journal catalog counts partials views halted
                 (go (enough office names at)) form
@@ -188,6 +188,6 @@ module _ {D N S : Type 0} {d : DiskGhosts D} {n : NamerGhosts N S} where
                 (AreSessions-dump_edited old.sessions new.sessions only.beside n.holds (given (slots old)) (contents_of at.all)
                 (staging_of at.all names) office.volatile at.sessions index (keeping_behind token (RemoveEvent.with_removed found.value path)) (removed dump path token)
                 (dump_without (given (slots old)) (contents_of at.all) found.value dump path token (fresh_for dump.kept token first) found.is) dumps only.sequence)
-                refl refl (AreSound-carried office names (Remove session path token) (record { answer = Done; after = next }) names at.sound judged refl);
+                refl refl (AreSound-carried office names (Remove session path token) Done next names at.sound judged refl);
           })
           (λ office names. refl) refl

@@ -193,7 +193,7 @@ module _ {D N S : Type 0} {d : DiskGhosts D} {n : NamerGhosts N S} where
       runs_opened : RuleIs None → (new : StoreParts D N S d n) (session : SessionName) (file : PartialFile) → ResumesWith old place file
           → HasOpened old place file.kind file.start None file.rows session new → Runs old (Resume name) (Ok (DumpAnswer session)) new
       runs_opened is new session file begins has =
-          runs_begun old (Resume name) place file.kind file.start None file.rows new session (may_open is file begins) (λ office names answer. refl)
+          runs_begun old (Resume name) place file.kind file.start None file.rows new session refl (may_open is file begins) (λ office names answer. refl)
           refl has
 
   -- the partial is read before

@@ -110,13 +110,13 @@ module _ {D N S : Type 0} {d : DiskGhosts D} {n : NamerGhosts N S} where
     mid = record old { journal = journal; pool = pool }
 
     crash_may : (new : StoreParts D N S d n) → new.journal ≡ journal → (office : Office) (names : Names) → IsRunning old office names
-        → FindsOnly old.journal new.journal (MayRecover n.digest_of office ((meaning_of event).carried office names))
+        → FindsOnly old.journal new.journal (MayRecover n.digest_of (meaning_of event).pools names office ((meaning_of event).carried office names))
     crash_may new same office names at =
         subst (λ (j : Journal D d). FindsOnly old.journal j
-        (MayRecover n.digest_of office ((meaning_of event).carried office names))) (sym same)
+        (MayRecover n.digest_of (meaning_of event).pools names office ((meaning_of event).carried office names))) (sym same)
         (FindsOnly-each (λ found. StandsFor n.digest_of found office.durable)
-        (MayRecover n.digest_of office ((meaning_of event).carried office names)) old.journal journal
-        (λ found stands. recover_before n.digest_of office ((meaning_of event).carried office names) found stands)
+        (MayRecover n.digest_of (meaning_of event).pools names office ((meaning_of event).carried office names)) old.journal journal
+        (λ found stands. recover_before n.digest_of (meaning_of event).pools names office ((meaning_of event).carried office names) found stands)
         (crash_staged old mid office names at crash))
 
     counted_at : (new : StoreParts D N S d n) → new.journal ≡ journal → {P : Type 0}
@@ -232,7 +232,7 @@ module _ {D N S : Type 0} {d : DiskGhosts D} {n : NamerGhosts N S} where
                     (λ id. claims_in old.sessions id + claims_of_content content id)
                     (working_staged old mid office names at refl refl refl refl refl refl form stays s.has) s.claims same catalog counts partials
                     views halted (go (enough office names at p.node p.taken index dump e there)) kept p.claims p.sessions refl refl
-                    (AreSound-carried office names event (record { answer = Done; after = next }) used at.sound p.judged named);
+                    (AreSound-carried office names event Done next used at.sound p.judged named);
               };
           crash = λ office names at. crash_may new same office names at;
           in_kind = refl;

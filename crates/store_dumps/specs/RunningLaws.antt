@@ -45,7 +45,7 @@ use Rattle.store_parts.specs.KnownOffice.{known_of_office}
 use Rattle.store_parts.specs.declared.parts.StoreParts.{StoreParts}
 use Rattle.store_parts.specs.Held.{given, AreCountsOf, heads_of, IsKeptView, IsStored}
 use Rattle.store_parts.specs.States.{slots, IsWorking, IsRunning, staging_of}
-use Rattle.store_parts.specs.Runs.{MayRecover, Runs, Reads}
+use Rattle.store_parts.specs.Runs.{IsCarried, MayRecover, Runs, Reads}
 use Rattle.store_parts.specs.RunLaws.{running_reads, crash_quiet, counted_still, counted_then, works_same, works_reads, works_then}
 use Rattle.store_parts.specs.StepLaws.{step_memory, step_refused}
 use Rattle.store_dumps.specs.ClaimLaws.{lets_go_same}
@@ -170,7 +170,7 @@ module _ {D N S : Type 0} {d : DiskGhosts D} {n : NamerGhosts N S} where
   -- the event breaks no rule, and the parts hold the office after it
   pub record Makes (event : Event) (answer : Answer) (office : Office) (names : Names) (new : StoreParts D N S d n) : Type 0 where
     pub next : Office
-    pub judged : (meaning_of event).carried office names ≡ Ok (record { answer = answer; after = next })
+    pub made : IsCarried event office names (record { answer = answer; after = next })
     pub running : IsRunning new next names
 
   pub runs_kept : (old new : StoreParts D N S d n) (event : Event) (answer : Answer) → new.journal ≡ old.journal → new.halted ≡ old.halted
@@ -180,11 +180,11 @@ module _ {D N S : Type 0} {d : DiskGhosts D} {n : NamerGhosts N S} where
   runs_kept old new event answer journal halted makes stay in_kind = record {
     steps = λ office names at.
         let made = makes office names at in
-        record { next = Running made.next names; step = (made.judged, stay office names); undamaged = tt; in_state = made.running };
+        record { next = Running made.next names; step = (made.made, stay office names); undamaged = tt; in_state = made.running };
     crash = λ office names at.
-        subst (λ (j : Journal D d). FindsOnly old.journal j (MayRecover n.digest_of office ((meaning_of event).carried office names)))
+        subst (λ (j : Journal D d). FindsOnly old.journal j (MayRecover n.digest_of (meaning_of event).pools names office ((meaning_of event).carried office names)))
         (sym journal)
-        (FindsOnly-still old.journal (MayRecover n.digest_of office ((meaning_of event).carried office names)));
+        (FindsOnly-still old.journal (MayRecover n.digest_of (meaning_of event).pools names office ((meaning_of event).carried office names)));
     in_kind = in_kind;
     awake = λ e. absurd cc;
     halts = λ not. works_same old new halted (ap (λ (j : Journal D d). j.halted) journal);
@@ -214,9 +214,9 @@ module _ {D N S : Type 0} {d : DiskGhosts D} {n : NamerGhosts N S} where
           refl refl at.sound;
     };
     crash = λ office names at.
-        subst (λ (j : Journal D d). FindsOnly old.journal j (MayRecover n.digest_of office ((meaning_of event).carried office names)))
+        subst (λ (j : Journal D d). FindsOnly old.journal j (MayRecover n.digest_of (meaning_of event).pools names office ((meaning_of event).carried office names)))
         (sym kept.journal)
-        (FindsOnly-still old.journal (MayRecover n.digest_of office ((meaning_of event).carried office names)));
+        (FindsOnly-still old.journal (MayRecover n.digest_of (meaning_of event).pools names office ((meaning_of event).carried office names)));
     in_kind = tt;
     awake = λ e. at_work (let same : refusal ≡ Halted = cc in same);
     halts = λ not. works_same old new kept.halted (ap (λ (j : Journal D d). j.halted) kept.journal);
@@ -269,8 +269,8 @@ module _ {D N S : Type 0} {d : DiskGhosts D} {n : NamerGhosts N S} where
   runs_read_then old mid new event reply reads counted fine runs = record {
     steps = λ office names at. runs.steps office names (running_reads old mid office names at reads);
     crash = λ office names at.
-        FindsOnly-then (MayRecover n.digest_of office ((meaning_of event).carried office names)) old.journal mid.journal new.journal
-        (crash_quiet old mid office names at reads ((meaning_of event).carried office names))
+        FindsOnly-then (MayRecover n.digest_of (meaning_of event).pools names office ((meaning_of event).carried office names)) old.journal mid.journal new.journal
+        (crash_quiet old mid office names at reads (meaning_of event).pools ((meaning_of event).carried office names))
         (runs.crash office names (running_reads old mid office names at reads));
     in_kind = runs.in_kind;
     awake = runs.awake;
