@@ -1,5 +1,5 @@
 -- An event that reads and changes nothing: it was judged, and answers with what it was judged to be.
-use Rattle.std.specs.Prelude.{◌≡◌, Result, Ok, Err}
+use Rattle.std.specs.Prelude.{◌≡◌, false, Result, Ok, Err}
 use Rattle.std.proofs.Common.{refl, ap, ◌∙◌}
 use Rattle.fault_counts.specs.Counts.{Counted}
 use Rattle.disk_trait.specs.declared.disk.Disk.{Ghosts as DiskGhosts}
@@ -15,6 +15,7 @@ use Rattle.office_model.specs.UsedNames.{AreNamesAfter}
 use Rattle.store_parts.specs.declared.parts.StoreParts.{StoreParts}
 use Rattle.store_parts.specs.States.{IsRunning}
 use Rattle.store_parts.specs.Runs.{Reads, Runs}
+use Rattle.store_parts.specs.StepLaws.{carried_plain}
 use Rattle.store_parts.specs.RunLaws.{counted_fine, runs_reads, runs_refused, runs_memory, runs_read_fault}
 use Rattle.store_reads.specs.Shown.{Answers, IsRefusal}
 
@@ -59,7 +60,7 @@ module _ {D N S : Type 0} {d : DiskGhosts D} {n : NamerGhosts N S} where
       ≡ (judged office >>= λ x. Ok (record { answer = f x; after = office })))
       (touches : (office : Office) (names : Names) → (meaning_of event).touches office names ≡ ReadsFiles)
       (unnamed : (office : Office) (names : Names) (answer : Answer) → AreNamesAfter office names (meaning_of event) (Ok answer) names)
-      (in_kind : (x : A) → IsAnswerTo event (f x)) where
+      (in_kind : (x : A) → IsAnswerTo event (f x)) (plain : (meaning_of event).pools ≡ false) where
     carried_is : (office : Office) (names : Names) (told : Judged A) → judged office ≡ told
         → (meaning_of event).carried office names ≡ (told >>= λ x. Ok (record { answer = f x; after = office }))
     carried_is office names told e =
@@ -70,7 +71,10 @@ module _ {D N S : Type 0} {d : DiskGhosts D} {n : NamerGhosts N S} where
         → Counted (d.fault_count old.journal.disk) (d.fault_count new.journal.disk) failed → (failed → ⊥) → Runs old event (Ok (f x)) new
     runs_ok new x reads is counted fine =
         runs_reads old new event (Ok (f x)) reads
-        (λ office names at. (carried_is office names (Ok x) (is office names at), unnamed office names (f x))) (λ office names at. tt) (in_kind x)
+        (λ office names at. (
+          carried_plain event office names (record { answer = f x; after = office }) plain (carried_is office names (Ok x) (is office names at)),
+          unnamed office names (f x),
+        )) (λ office names at. tt) (in_kind x)
         (λ e. absurd cc) (counted_fine counted fine (λ e. absurd cc))
 
     pub runs_err : {T : Type 0} (new : StoreParts D N S d n) (refusal : Refusal) → Reads old new → IsRefusal old judged refusal

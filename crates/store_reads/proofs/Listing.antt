@@ -112,7 +112,7 @@ module _ {D N S : Type 0} {d : DiskGhosts D} {n : NamerGhosts N S} where
         → Runs old (ListEvent name number directory) (Err refusal) new
     list_refused refusal is counted =
         runs_err old (ListEvent name number directory) (λ office. E.entries_of office.hosts name number directory) Entries
-        (λ office names. refl) (λ office names. refl) (λ office names answer. refl) (λ x. refl) new refusal reads
+        (λ office names. refl) (λ office names. refl) (λ office names answer. refl) (λ x. refl) refl new refusal reads
         (refused_later old (λ office. backup_of office.hosts name number)
         (λ backup. E.list_rule backup.tree directory >> Ok (E.listed backup.tree directory)) refusal is) counted
 
@@ -128,21 +128,21 @@ module _ {D N S : Type 0} {d : DiskGhosts D} {n : NamerGhosts N S} where
           → Runs old (ListEvent name number directory) (Err (Broken rule)) new
       list_rule rule e =
           runs_err old (ListEvent name number directory) (λ office. E.entries_of office.hosts name number directory) Entries
-          (λ office names. refl) (λ office names. refl) (λ office names answer. refl) (λ x. refl) {T = Unit {0}} new (Broken rule) reads
+          (λ office names. refl) (λ office names. refl) (λ office names answer. refl) (λ x. refl) refl {T = Unit {0}} new (Broken rule) reads
           (λ office names at. list_is office names at ∙ ap (λ o. o >> Ok (entries_told directory rows)) e)
           (counted_fine counted fine (λ e. cc))
 
       pub list_memory : Runs old (ListEvent name number directory) (Err Memory) new
       list_memory =
           runs_err old (ListEvent name number directory) (λ office. E.entries_of office.hosts name number directory) Entries
-          (λ office names. refl) (λ office names. refl) (λ office names answer. refl) (λ x. refl) {T = Unit {0}} new Memory reads tt
+          (λ office names. refl) (λ office names. refl) (λ office names answer. refl) (λ x. refl) refl {T = Unit {0}} new Memory reads tt
           (counted_fine counted fine (λ e. cc))
 
       pub list_ok : (entries : List NamedNode) → list_told rows directory ≡ None → entries ≡ entries_told directory rows
           → Runs old (ListEvent name number directory) (Ok (Entries entries)) new
       list_ok entries e is =
           runs_ok old (ListEvent name number directory) (λ office. E.entries_of office.hosts name number directory) Entries
-          (λ office names. refl) (λ office names. refl) (λ office names answer. refl) (λ x. refl) new entries reads
+          (λ office names. refl) (λ office names. refl) (λ office names answer. refl) (λ x. refl) refl new entries reads
           (λ office names at. list_is office names at ∙ ap (λ o. o >> Ok (entries_told directory rows)) e
           ∙ ap (λ (es : List NamedNode). Ok es) (sym is))
           counted fine

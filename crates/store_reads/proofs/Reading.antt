@@ -76,7 +76,7 @@ module _ {D N S : Type 0} {d : DiskGhosts D} {n : NamerGhosts N S} where
         → Counted (count_of old) (count_of new) (Failed {T = Unit {0}} (Err refusal)) → Runs old (Lookup name number path) (Err refusal) new
     lookup_refused refusal is counted =
         runs_err old (Lookup name number path) (λ office. LookupEvent.node_of_path office.hosts name number path) Entry
-        (λ office names. refl) (λ office names. refl) (λ office names answer. refl) (λ x. refl) new refusal reads
+        (λ office names. refl) (λ office names. refl) (λ office names answer. refl) (λ x. refl) refl new refusal reads
         (refused_later old (λ office. backup_of office.hosts name number)
         (λ backup. found NoPath (node_at backup.tree path) >>= λ item. Ok (node_of item)) refusal is) counted
 
@@ -92,14 +92,14 @@ module _ {D N S : Type 0} {d : DiskGhosts D} {n : NamerGhosts N S} where
           → (failed → ⊥) → Runs old (Lookup name number path) (Ok (Entry node)) new
       lookup_ok node e counted fine =
           runs_ok old (Lookup name number path) (λ office. LookupEvent.node_of_path office.hosts name number path) Entry
-          (λ office names. refl) (λ office names. refl) (λ office names answer. refl) (λ x. refl) new node reads
+          (λ office names. refl) (λ office names. refl) (λ office names answer. refl) (λ x. refl) refl new node reads
           (λ office names at. lookup_told office names at ∙ e) counted fine
 
       pub lookup_err : (refusal : Refusal) {failed : Type 0} → Answers {A = Node} (node_told record_at) (Err refusal)
           → Counted (count_of old) (count_of new) failed → (failed → ⊥) → Runs old (Lookup name number path) (Err refusal) new
       lookup_err refusal answers counted fine =
           runs_err old (Lookup name number path) (λ office. LookupEvent.node_of_path office.hosts name number path) Entry
-          (λ office names. refl) (λ office names. refl) (λ office names answer. refl) (λ x. refl) {T = Node} new refusal reads
+          (λ office names. refl) (λ office names. refl) (λ office names answer. refl) (λ x. refl) refl {T = Node} new refusal reads
           (refused_answer old (λ office. LookupEvent.node_of_path office.hosts name number path)
           (node_told record_at) refusal lookup_told answers)
           (counted_fine counted fine (answers_fine (node_told record_at) refusal answers))
@@ -112,7 +112,7 @@ module _ {D N S : Type 0} {d : DiskGhosts D} {n : NamerGhosts N S} where
         → Runs old (ReadFile name number path) (Err refusal) mid
     file_refused refusal is counted =
         runs_err old (ReadFile name number path) (λ office. ReadFileEvent.read_of office.hosts name number path) Content
-        (λ office names. refl) (λ office names. refl) (λ office names answer. refl) (λ x. refl) mid refusal reads
+        (λ office names. refl) (λ office names. refl) (λ office names answer. refl) (λ x. refl) refl mid refusal reads
         (refused_later old (λ office. ReadFileEvent.file_of office.hosts name number path)
         (λ bytes. breaks (PutRule FileTooLarge) (nat_lt answer_limit (length bytes)) >> Ok bytes) refusal
         (refused_later old (λ office. backup_of office.hosts name number)
@@ -132,7 +132,7 @@ module _ {D N S : Type 0} {d : DiskGhosts D} {n : NamerGhosts N S} where
           → (failed → ⊥) → Runs old (ReadFile name number path) (Err (Broken rule)) mid
       file_rule rule e counted fine =
           runs_err old (ReadFile name number path) (λ office. ReadFileEvent.read_of office.hosts name number path) Content
-          (λ office names. refl) (λ office names. refl) (λ office names answer. refl) (λ x. refl) {T = Node} mid (Broken rule) reads
+          (λ office names. refl) (λ office names. refl) (λ office names answer. refl) (λ x. refl) refl {T = Node} mid (Broken rule) reads
           (λ office names at. read_told office names at ∙ ap (λ j. j >>= λ content. Ok (bytes_of (contents_of at.all) content)) e)
           (counted_fine counted fine (λ e. cc))
 
@@ -156,7 +156,7 @@ module _ {D N S : Type 0} {d : DiskGhosts D} {n : NamerGhosts N S} where
             → Counted (count_of mid) (count_of new) also → (also → ⊥) → Runs old (ReadFile name number path) (Ok (Content bytes)) new
         file_ok bytes read more fine_too =
             runs_ok old (ReadFile name number path) (λ office. ReadFileEvent.read_of office.hosts name number path) Content
-            (λ office names. refl) (λ office names. refl) (λ office names answer. refl) (λ x. refl) new bytes (reads_then old mid new reads looks)
+            (λ office names. refl) (λ office names. refl) (λ office names answer. refl) (λ x. refl) refl new bytes (reads_then old mid new reads looks)
             (λ office names at. read_told office names at
             ∙ ap (λ j. j >>= λ content. Ok (bytes_of (contents_of at.all) content)) is
             ∙ ap (λ (b : List ℕ). Ok b) (sym (read at.all (reads.quiet.told_same ∙ at.told_is))))
@@ -176,5 +176,5 @@ module _ {D N S : Type 0} {d : DiskGhosts D} {n : NamerGhosts N S} where
             → Runs old (ReadFile name number path) (Err refusal) new
         file_err refusal fault more =
             runs_err old (ReadFile name number path) (λ office. ReadFileEvent.read_of office.hosts name number path) Content
-            (λ office names. refl) (λ office names. refl) (λ office names answer. refl) (λ x. refl) new refusal (reads_then old mid new reads looks)
+            (λ office names. refl) (λ office names. refl) (λ office names answer. refl) (λ x. refl) refl new refusal (reads_then old mid new reads looks)
             (file_fault refusal fault) (counted_then counted fine more)
