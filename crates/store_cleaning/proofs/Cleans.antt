@@ -24,7 +24,7 @@ use Rattle.pool_index.specs.Items.{byte_of, item_at}
 use Rattle.pool_index.specs.Layout.{bucket_of}
 use Rattle.pool_index.specs.Index.{Index, TellsIn}
 use Rattle.pool_changes.specs.declared.slot.Slot.{Slot}
-use Rattle.pool_changes.specs.Slots.{Slots, is_given, claims_of}
+use Rattle.pool_changes.specs.Slots.{Slots, is_live, is_given, claims_of}
 use Rattle.pool_changes.specs.Kept.{IsSame, slots_of}
 use Rattle.pool_changes.specs.Listed.{item_of, index_of}
 use Rattle.pool_changes.specs.Indexed.{after}
@@ -49,12 +49,14 @@ use Rattle.office_model.specs.declared.refusal.BrokenRule.TheVariants.{BadBucket
 use Rattle.office_model.specs.declared.refusal.Refusal.{Refusal}
 use Rattle.office_model.specs.declared.refusal.Refusal.TheVariants.{Broken, DiskFault}
 use Rattle.office_model.specs.Meaning.{Carried, Nothing, Commits}
-use Rattle.office_model.specs.Office.{Office, Names, in_hosts, with_pool}
+use Rattle.office_model.specs.Office.{Office, Names, in_hosts, with_pool, with_ids}
 use Rattle.office_model.specs.Pool.{byte_cmp, cleaned, fated}
 use Rattle.office_model.specs.Step.{Running, IsStep, meaning_of}
 use Rattle.office_model.specs.events.Clean as CleanEvent
 use Rattle.office_model.specs.events.Clean.{in_bucket}
+use Rattle.office_model.specs.UsedNames.{AreIdsAfter}
 use Rattle.office_model.specs.laws.CleanLaws.{IsSound-cleaned}
+use Rattle.office_model.specs.laws.IdLaws.{IsSoundDurable-ids}
 use Rattle.office_model.specs.laws.StateLaws.{AreSound-carried}
 use Rattle.office_files.specs.Pooled.{contents_of, IsListed, HasNoIndex}
 use Rattle.office_files.specs.Stands.{Stands}
@@ -63,6 +65,7 @@ use Rattle.office_files.specs.TableLayoutLaws.{second_applied}
 use Rattle.office_changes.specs.BridgeLaws.{protected_counted}
 use Rattle.office_changes.specs.ChangeLaws.{is_of_index}
 use Rattle.office_changes.specs.CleanLaws.{IsCleanedIndex, clean_stands}
+use Rattle.office_changes.specs.IdLaws.{ids_left}
 use Rattle.office_changes.specs.LayoutLaws.{second_of_index}
 use Rattle.office_pool.specs.FitLaws.{given_one}
 use Rattle.store_parts.specs.declared.parts.StoreParts.{StoreParts}
@@ -70,13 +73,14 @@ use Rattle.store_parts.specs.Held.{given, AreCountsOf, IsKeptView}
 use Rattle.store_parts.specs.States.{slots, IsRunning, staging_of}
 use Rattle.store_parts.specs.Runs.{Runs}
 use Rattle.store_parts.specs.Writes.{Writes}
-use Rattle.store_parts.specs.StoredLaws.{contents_written}
+use Rattle.store_parts.specs.StoredLaws.{contents_written, listed_live}
 use Rattle.store_parts.specs.StepLaws.{IsCommitting}
 use Rattle.store_parts.specs.RunLaws.{runs_reads, reads_still, counted_still}
 use Rattle.store_parts.specs.RefusedLaws.{runs_broken}
 use Rattle.store_parts.specs.WriteLaws.{LeadsTo, Holds, runs_write_refused, runs_written}
 use Rattle.store_parts.specs.ListLaws.{entry_found}
 use Rattle.store_parts.specs.HoldingLaws.{any_found}
+use Rattle.store_cleaning.proofs.CleanIds.{ids_still, ids_cleaned}
 use Rattle.store_cleaning.specs.CleanLaws.{opened_has, protected_in, sessions_hold, hosts_count, AreKept, kept_by, listed_item, bucket_claimed, either_way, cleaned_used, cleaned_claims, cleaned_given, cleaned_index, cleaned_number, changes_in, none_cleaned, some_cleaned}
 
 -- ---- the model's side
@@ -118,6 +122,11 @@ unlisted false index files tells none id listed =
     let within = tells.within id listed in
     let byte = tells.each (byte_of id) within in
     no_items (byte_of id) byte.items id (index id) (sym byte.is ∙ none.each (byte_of id) within) (byte.each id refl) listed
+
+-- a live name is in use
+live_used : (slot : Option Slot) → is_live slot ≡ true → is_some slot ≡ true
+live_used None live = live
+live_used (Some slot) live = refl
 
 pub beyond : (bucket : ℕ) → 16 ≤ bucket → nat_le 16 bucket ≡ true
 beyond bucket h = grind (arith, nat_tests)
@@ -212,10 +221,13 @@ module _ {D N S : Type 0} {d : DiskGhosts D} {n : NamerGhosts N S} where
           let loses = sym lost ∙ none.1 in
           let leaves = sym left ∙ none.2 in
           let pool = none_cleaned inside protected office.pool (gains, loses, leaves) in (
-            judged ∙ (λ i. Ok (record {
-              answer = Cleaned (gains i) (loses i) (leaves i);
-              after = with_pool office (pool i);
-            })),
+            (
+              judged ∙ (λ i. Ok (record {
+                answer = Cleaned (gains i) (loses i) (leaves i);
+                after = with_pool office (pool i);
+              })),
+              ids_still office names at.sound,
+            ),
             refl,
           )
 
@@ -258,13 +270,26 @@ module _ {D N S : Type 0} {d : DiskGhosts D} {n : NamerGhosts N S} where
               let opened = opened_has office.volatile content in
               ap (λ (b : Bool). b || opened) e
 
-          stands : Stands n.digest_of (index_of relisted) at.shown (applied cleaning.change.changes at.all)
-              (after_cleaning inside office).durable
+          -- the office after it, with the ids that are left
+          abbrev cleaned_office : Office
+          cleaned_office = with_ids (after_cleaning inside office) (ids_left (index_of relisted) office.ids)
+
+          stands : Stands n.digest_of (index_of relisted) at.shown (applied cleaning.change.changes at.all) cleaned_office.durable
           stands = clean_stands n.digest_of inside protected (index_of (slots old)) (index_of relisted) at.shown at.all
               (applied cleaning.change.changes at.all) office.durable safe stays
               (λ id. applied_contents cleaning.change.changes at.all (F.Pool id) leads.are refl) headed index_cleaned
               (inr (leads.leads at.all at.tells))
-              (IsSound-cleaned office inside at.sound.office).kept at.stands
+              (IsSoundDurable-ids cleaned_office.durable office.ids (IsSound-cleaned office inside at.sound.office).kept) at.stands
+
+          ids : AreIdsAfter names office.durable cleaned_office.durable
+          ids = ids_cleaned names inside protected (index_of (slots old)) (index_of relisted) at.shown at.all
+              (applied cleaning.change.changes at.all) office.durable cleaned_office.durable
+              (subst (λ (f : List ℕ → List ℕ). Stands f (index_of (slots old)) at.shown at.all office.durable) (sym at.digest) at.stands)
+              (subst (λ (f : List ℕ → List ℕ). Stands f (index_of relisted) at.shown (applied cleaning.change.changes at.all) cleaned_office.durable)
+              (sym at.digest) stands)
+              index_cleaned
+              (λ id. sym (ap (λ (c : PoolId → List ℕ). c id) (contents_written cleaning.change.changes at.all leads.are)))
+              (λ id listed. at.used.among id (live_used (slots old id) (listed_live (slots old) id listed)))
 
           second : WriteNoFirst cleaning.change.changes
           second = second_of_index cleaning.change.changes
@@ -272,8 +297,8 @@ module _ {D N S : Type 0} {d : DiskGhosts D} {n : NamerGhosts N S} where
 
           leads_to : LeadsTo n.digest_of (Clean bucket) cleaning.change.changes office names at.all
           leads_to = record {
-            carried = carried_by inside office;
-            judged = judged;
+            carried = record { answer = (carried_by inside office).answer; after = cleaned_office };
+            judged = (judged, ids);
             stands = record { index = index_of relisted; shown = at.shown; stands = stands };
             second = second;
           }
@@ -326,7 +351,7 @@ module _ {D N S : Type 0} {d : DiskGhosts D} {n : NamerGhosts N S} where
                 (uncertain mid.journal) at.all image accepted file
                 (λ id. (w.committed.certain (ap is_some at.told_is)).each (F.Pool id) refl) at.fits
 
-            running : IsRunning new (after_cleaning inside office) names
+            running : IsRunning new cleaned_office names
             running = record {
               working = record {
                 ready = halted ∙ w.stays (λ e. absurd cc) ∙ at.ready;
@@ -336,7 +361,7 @@ module _ {D N S : Type 0} {d : DiskGhosts D} {n : NamerGhosts N S} where
                   shown = at.shown;
                   told_is = subst (λ (j : Journal D d). told j ≡ Some image) (sym journal)
                       (w.committed.done ∙ ap (option_map (applied cleaning.change.changes)) at.told_is);
-                  stands = subst (λ (i : Index). Stands n.digest_of i at.shown image (after_cleaning inside office).durable)
+                  stands = subst (λ (i : Index). Stands n.digest_of i at.shown image cleaned_office.durable)
                       (sym index) stands;
                   tells = subst (λ (b : Bool). TellsIn b (index_of (slots new)) image) (sym form)
                       (subst (λ (i : Index). TellsIn false i image) (sym index) (leads.leads at.all at.tells));
@@ -368,7 +393,7 @@ module _ {D N S : Type 0} {d : DiskGhosts D} {n : NamerGhosts N S} where
                       sym (ap (λ (c : PoolId → List ℕ). c id) (contents_written cleaning.change.changes at.all leads.are)),
                     )) at.sessions);
                 view = subst (λ (v : Views). IsKeptView v.kept office.hosts at.shown) (sym views) at.view;
-                sound = AreSound-carried office names (Clean bucket) (carried_by inside office) names at.sound judged refl;
+                sound = AreSound-carried office names (Clean bucket) (carried_by inside office).answer cleaned_office names at.sound (judged, ids) refl;
               };
               claimed = claimed;
             }

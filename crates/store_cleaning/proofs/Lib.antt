@@ -1,3 +1,4 @@
 pub mod StageFiles
 pub mod Sweeps
+pub mod CleanIds
 pub mod Cleans

@@ -301,11 +301,11 @@ module _ {D N S : Type 0} {d : DiskGhosts D} {n : NamerGhosts N S} where
       claimed = at.claimed;
     }
 
-    crash_at : (judged : Judged Carried) → FindsOnly old.journal journal (MayRecover n.digest_of office judged)
+    crash_at : (judged : Judged Carried) → FindsOnly old.journal journal (MayRecover n.digest_of false names office judged)
     crash_at judged =
         FindsOnly-each (IsAlikeBut at.all (λ asked. left_of old asked || uncertain old.journal asked))
-        (MayRecover n.digest_of office judged) old.journal journal
-        (λ found alike. recover_before n.digest_of office judged found
+        (MayRecover n.digest_of false names office judged) old.journal journal
+        (λ found alike. recover_before n.digest_of false names office judged found
         (alike_stands n.digest_of (index_of (slots old)) at.shown at.all found office.durable
         (λ asked. left_of old asked || uncertain old.journal asked)
         (λ id listed. at.fits.certain id (listed_live (slots old) id listed)) at.stands alike))
@@ -326,7 +326,7 @@ module _ {D N S : Type 0} {d : DiskGhosts D} {n : NamerGhosts N S} where
     runs_behind_stages new reply same undamaged runs = record {
       steps = λ office names at. runs.steps office names (running_left office names at);
       crash = λ office names at.
-          FindsOnly-then (MayRecover n.digest_of office ((meaning_of Sweep).carried office names)) old.journal mid.journal new.journal
+          FindsOnly-then (MayRecover n.digest_of false names office ((meaning_of Sweep).carried office names)) old.journal mid.journal new.journal
           (crash_at old mid.journal drops office names at ((meaning_of Sweep).carried office names))
           (runs.crash office names (running_left office names at));
       in_kind = runs.in_kind;

@@ -2,7 +2,7 @@
 --     IsSweptTo old new names stages all      the pool and the files have changed, and some of the names in use are left
 --     all_swept      without doomed names there is a name for each content that is held, and no other
 --     runs_swept, runs_unswept      the answers
-use Rattle.std.specs.Prelude.{◌≡◌, ◌⊎◌, ℕ, zero, suc, Bool, true, List, [], ◌∷◌, map, Option, Some, None, Ok, Err, is_some, option_map, slice_get, if◌then◌else◌}
+use Rattle.std.specs.Prelude.{◌≡◌, ◌⊎◌, ℕ, zero, suc, Bool, true, false, List, [], ◌∷◌, map, Option, Some, None, Ok, Err, is_some, option_map, slice_get, if◌then◌else◌}
 use Rattle.std.specs.List.{filter}
 use Rattle.std.proofs.Common.{refl, sym, ap, ◌∙◌, subst, inl, inr}
 use Rattle.std.proofs.lemmas.Bool.{false≢true}
@@ -248,11 +248,11 @@ module _ {D N S : Type 0} {d : DiskGhosts D} {n : NamerGhosts N S} where
             ∙ ap (λ (s : Sessions S). claims_in s id) (sym sessions);
       }
 
-      crash_swept : FindsOnly old.journal new.journal (MayRecover n.digest_of office ((meaning_of Sweep).carried office names))
+      crash_swept : FindsOnly old.journal new.journal (MayRecover n.digest_of false names office ((meaning_of Sweep).carried office names))
       crash_swept =
           FindsOnly-each (λ found. StandsFor n.digest_of found office.durable)
-          (MayRecover n.digest_of office ((meaning_of Sweep).carried office names)) old.journal new.journal
-          (λ found stands. recover_before n.digest_of office ((meaning_of Sweep).carried office names) found stands)
+          (MayRecover n.digest_of false names office ((meaning_of Sweep).carried office names)) old.journal new.journal
+          (λ found stands. recover_before n.digest_of false names office ((meaning_of Sweep).carried office names) found stands)
           (crash_staged old new office names at (λ all told c.
           let only = crash all told c in record { later = only.later; since = only.since }))
 

@@ -41,6 +41,7 @@ use Rattle.office_deletion.specs.OfficeLaws.{deletion_stands}
 use Rattle.store_parts.specs.declared.parts.StoreParts.{StoreParts}
 use Rattle.store_parts.specs.Held.{AreCounts, AreCountsOf}
 use Rattle.store_parts.specs.States.{slots, IsRunning}
+use Rattle.store_parts.specs.StepLaws.{carried_plain}
 use Rattle.store_deletions.specs.declared.plan.DeletionPlan.{DeletionPlan}
 use Rattle.store_deletions.specs.PartLaws.{backup_there}
 use Rattle.store_deletions.specs.Planned.{left_index, left_host, left_shown, IsHostAtWork, IsPlanned}
@@ -151,7 +152,9 @@ module _ {D N S : Type 0} {d : DiskGhosts D} {n : NamerGhosts N S} where
         (host_at_work old p office names at s.host s.is_host items has_items)
 
     pub sound_then : AreNamesAfter office names (meaning_of event) (Ok answer) names → AreSound office_then names
-    sound_then stay = AreSound-carried office names event (record { answer = answer; after = office_then }) names at.sound s.judged stay
+    sound_then stay =
+        AreSound-carried office names event answer office_then names at.sound
+        (carried_plain event office names (record { answer = answer; after = office_then }) s.plain s.judged) stay
 
     index_then : left_index numbers (index_of_host p host) ≡ index_of_host p (left_host numbers host)
     index_then =

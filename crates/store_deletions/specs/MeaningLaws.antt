@@ -109,6 +109,7 @@ module _ (office : Office) (names : Names) (name : List ℕ) (p : ℕ) (host : H
             })) (deleted_left host.backups d.place d.backup sound.backups.numbered.rise d.there
             ∙ ap (λ (k : ℕ). left_backups (k ∷ []) host.backups) d.number_is);
         touches = refl;
+        plain = refl;
       }
 
   -- ---- those that the rules name
@@ -161,6 +162,7 @@ module _ (office : Office) (names : Names) (name : List ℕ) (p : ℕ) (host : H
           }));
       touches = ap (touched now) judged
           ∙ ap (λ (b : Bool). if b then ReadsAndCommits else Reads) (flagged_some (named_of now host) (lines_of host.backups) some);
+      plain = refl;
     }
       where
         left : unflagged (named_of now host) host.backups ≡ left_backups (named_numbers host.rules now (lines_of host.backups)) host.backups

@@ -39,6 +39,7 @@ use Rattle.store_parts.specs.Runs.{Runs, Reads}
 use Rattle.store_parts.specs.Writes.{Writes}
 use Rattle.store_parts.specs.RunLaws.{runs_reads, reads_still, reads_behind, runs_behind, counted_still}
 use Rattle.store_parts.specs.RefusedLaws.{runs_not_planned}
+use Rattle.store_parts.specs.StepLaws.{carried_plain}
 use Rattle.store_parts.specs.WriteLaws.{LeadsTo, LeavesIndex, Holds, runs_write_refused, runs_written, running_hosts}
 use Rattle.store_deletions.specs.declared.plan.DeletionPlan.{DeletionPlan}
 use Rattle.store_deletions.specs.Planned.{left_host, IsPlanned, IsPlanFault}
@@ -152,7 +153,8 @@ module _ {D N S : Type 0} {d : DiskGhosts D} {n : NamerGhosts N S} where
           let t = then_is office names at in
           record {
             carried = record { answer = answer; after = office_then office names at };
-            judged = (shortens office names at).judged;
+            judged = carried_plain event office names (record { answer = answer; after = office_then office names at })
+                (shortens office names at).plain (shortens office names at).judged;
             stands = record { index = index_of (slots old); shown = t.shown; stands = t.stands };
             second = planned.second;
           }
@@ -266,12 +268,15 @@ module _ {D N S : Type 0} {d : DiskGhosts D} {n : NamerGhosts N S} where
         (runs_finished start event answer p numbers shortening_still has.0 plan items_still planned_still mid new done w f)
 
   -- nothing is to be done
-  pub runs_still : (old : StoreParts D N S d n) (event : Event) (answer : Answer)
+  pub runs_still : (old : StoreParts D N S d n) (event : Event) (answer : Answer) → (meaning_of event).pools ≡ false
       → ((office : Office) (names : Names) → old.catalog ≡ known_of_office office.durable → AreSound office names
       → (meaning_of event).carried office names ≡ Ok (record { answer = answer; after = office }))
       → ((office : Office) (names : Names) → AreNamesAfter office names (meaning_of event) (Ok answer) names) → IsAnswerTo event answer
       → Runs old event (Ok answer) old
-  runs_still old event answer carried stay in_kind =
+  runs_still old event answer plain carried stay in_kind =
       runs_reads old old event (Ok answer) (reads_still old)
-      (λ office names at. (carried office names at.catalog_is at.sound, stay office names)) (λ office names at. tt) in_kind (λ e. absurd cc)
+      (λ office names at. (
+        carried_plain event office names (record { answer = answer; after = office }) plain (carried office names at.catalog_is at.sound),
+        stay office names,
+      )) (λ office names at. tt) in_kind (λ e. absurd cc)
       (counted_still (d.fault_count old.journal.disk) _ (λ e. absurd cc))

@@ -5,7 +5,7 @@
 --         backups of these numbers
 --     Shortening known event answer p numbers      so with any office of which a catalog knows
 --     answered answer result      the reply of such an event
-use Rattle.std.specs.Prelude.{◌≡◌, ℕ, List, Option, Some, None, Result, Ok, Err, slice_get, slice_set}
+use Rattle.std.specs.Prelude.{◌≡◌, ℕ, false, List, Option, Some, None, Result, Ok, Err, slice_get, slice_set}
 use Rattle.std.specs.Option.{option_map_or}
 use Rattle.backup_rules.specs.declared.lines.Line.{Line}
 use Rattle.backup_rules.specs.Values.{RuleSet}
@@ -35,13 +35,14 @@ broken_rule lines number = broken_at lines (line_numbered lines number)
 abbrev pub named_numbers : RuleSet → ℕ → List Line → List ℕ
 named_numbers rules now lines = flagged_numbers (named_flags rules now lines) lines
 
--- it reads and commits
+-- it reads and commits, and leaves the pool's contents
 pub record Shortens (event : Event) (answer : Answer) (office : Office) (names : Names) (p : ℕ) (numbers : List ℕ) : Type 0 where
   pub host : Host
   pub is_host : slice_get office.hosts p ≡ Some host
   pub judged : (meaning_of event).carried office names
       ≡ Ok (record { answer = answer; after = with_hosts office (slice_set office.hosts p (left_host numbers host)) })
   pub touches : (meaning_of event).touches office names ≡ ReadsAndCommits
+  pub plain : (meaning_of event).pools ≡ false
 
 -- it does so with any sound office of this catalog; the names stay
 pub record Shortening (known : Known) (event : Event) (answer : Answer) (p : ℕ) (numbers : List ℕ) : Type 0 where

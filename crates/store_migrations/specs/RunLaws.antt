@@ -286,7 +286,7 @@ module _ {D N S : Type 0} {d : DiskGhosts D} {n : NamerGhosts N S} where
               subst (AreSecondBut (fewer office names at)) same (second_image office names at));
         };
         crash = λ office names at.
-            crash_quiet old mid office names at (reads_of old mid is_read) ((meaning_of (Migrate name)).carried office names);
+            crash_quiet old mid office names at (reads_of old mid is_read) (meaning_of (Migrate name)).pools ((meaning_of (Migrate name)).carried office names);
         in_kind = refl;
         awake = λ e. absurd cc;
         halts = λ not. works_reads old mid (reads_of old mid is_read);

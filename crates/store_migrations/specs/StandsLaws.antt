@@ -28,7 +28,7 @@ use Rattle.office_files.specs.Pooled.{contents_of, IsListed, HasNoIndex}
 use Rattle.office_files.specs.Hosts.{index_of_host, IsShown, StandsHost}
 use Rattle.office_files.specs.Stands.{names_of, Stands}
 use Rattle.office_files.specs.TableLayouts.{is_table}
-use Rattle.office_files.specs.KeptLaws.{IsHostFile-same, IsTableFile-same, IsCountsFile-same, partial_given, tells_kept, one_kept, pool_kept}
+use Rattle.office_files.specs.KeptLaws.{IsHostFile-same, IsTableFile-same, IsCountsFile-same, partial_given, tells_kept, one_kept, pool_kept, ids_kept}
 use Rattle.store_migrations.specs.Migrated.{AreRead, changes_of}
 use Rattle.store_migrations.specs.LayoutLaws.{second_fits, only_rows}
 use Rattle.store_migrations.specs.WrittenLaws.{other_file, IsRewritten, kept_or_rewritten}
@@ -80,6 +80,7 @@ module _ (files image : Files) (alike : AreTablesAlike files image) (index : Ind
       nothing_else = uncalled;
       one = one_kept index (contents_of files) (contents_of image) same stands.one;
       pool = pool_kept index (contents_of files) (contents_of image) same digest_of office.pool stands.pool;
+      ids = ids_kept index (contents_of files) (contents_of image) same office.ids stands.ids;
       sound = stands.sound;
     }
 

@@ -33,7 +33,7 @@ returns-then-is_empty-clause-runs g c =
     let there = index_there c.args.parts.now.catalog.hosts c.hosts.result.now c.in_ok-at.at c.index-hosts-at.result c.hosts.ensures.hosts
     c.in_ok-at.ensures.within c.index-hosts-at.is in
     let none = none_there c.as_slice-named.result.now (sym c.is_empty.ensures ∙ c.if-is_empty.true) in
-    runs_still c.args.parts.now (Expire c.args.host.now c.args.now) (Expired 0)
+    runs_still c.args.parts.now (Expire c.args.host.now c.args.now) (Expired 0) refl
     (expiring_none c.args.parts.now.catalog c.args.host.now c.in_ok-at.at c.index-hosts-at.result c.in_ok-at.ensures.found there c.args.now
     (sym c.in_ok-numbers.ensures ∙ sym c.as_slice-named.ensures.value ∙ none)) (λ office names. refl) refl
 
