@@ -75,15 +75,18 @@ no_reopening (it ∷ before) after call others = no_reopening before after call 
 abbrev Kept : (List ℕ → List ℕ) → State → Event → Files → Type 0
 Kept digest_of mid event found = (kept : Durable) × MayKeep mid event kept × StandsFor digest_of found kept
 
-kept_of : (digest_of : List ℕ → List ℕ) (office : Office) (judged : Judged Carried) (found : Files) → MayRecover digest_of office judged found
-    → (kept : Durable) × ((kept ≡ office.durable) ⊎ IsMadeBy judged kept) × StandsFor digest_of found kept
-kept_of digest_of office (Ok carried) found (inl stands) = (office.durable, inl refl, stands)
-kept_of digest_of office (Ok carried) found (inr stands) = (carried.after.durable, inr refl, stands)
-kept_of digest_of office (Err rule) found stands = (office.durable, inl refl, stands)
+kept_of : (digest_of : List ℕ → List ℕ) (pools : Bool) (names : Names) (office : Office) (judged : Judged Carried) (found : Files)
+    → MayRecover digest_of pools names office judged found
+    → (kept : Durable) × ((kept ≡ office.durable) ⊎ IsMadeBy pools names office.durable judged kept) × StandsFor digest_of found kept
+kept_of digest_of pools names office (Ok carried) found (inl stands) = (office.durable, inl refl, stands)
+kept_of digest_of false names office (Ok carried) found (inr stands) = (carried.after.durable, inr refl, stands)
+kept_of digest_of true names office (Ok carried) found (inr next) = (next.0, inr next.1, next.2)
+kept_of digest_of pools names office (Err rule) found stands = (office.durable, inl refl, stands)
 
 kept_in : (digest_of : List ℕ → List ℕ) (mid : State) (event : Event) (found : Files) → LeftBy digest_of false mid event found
     → Kept digest_of mid event found
-kept_in digest_of (Running office names) event found may = kept_of digest_of office ((meaning_of event).carried office names) found may
+kept_in digest_of (Running office names) event found may =
+    kept_of digest_of (meaning_of event).pools names office ((meaning_of event).carried office names) found may
 kept_in digest_of (Halted a b names) event found (inl stands) = (a, inl refl, stands)
 kept_in digest_of (Halted a b names) event found (inr stands) = (b, inr refl, stands)
 

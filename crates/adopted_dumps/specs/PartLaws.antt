@@ -150,7 +150,7 @@ never_halts event part old names judged before next may = part
 faulted_keeps : (event : Event) (office : Office) → ((meaning_of event).faulted office).durable ≡ office.durable
 faulted_keeps event office = let w = faulted_is event office in ap (λ (o : Office). o.durable) w.1
 
-part_replied : (event : Event) → IsPart event → (old : Office) (names : Names) (reply : Reply) (new : State) → IsUndamaged reply
+pub part_replied : (event : Event) → IsPart event → (old : Office) (names : Names) (reply : Reply) (new : State) → IsUndamaged reply
     → IsReply old names (meaning_of event) reply new → IsUnchanged (Running old names) new
 part_replied event part old names (Ok answer) (Running new n) fine is =
     part_keeps event part old names (record { answer = answer; after = new })

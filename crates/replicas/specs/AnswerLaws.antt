@@ -11,7 +11,7 @@ use Rattle.office_model.specs.declared.event.Event.TheVariants as E
 use Rattle.office_model.specs.declared.answer.Answer.{Answer}
 use Rattle.office_model.specs.declared.answer.Answer.TheVariants as A
 use Rattle.office_model.specs.declared.refusal.BrokenRule.TheVariants.{NoSession, NumberBehind}
-use Rattle.office_model.specs.Office.{Office, Host, Names, IsSound}
+use Rattle.office_model.specs.Office.{Office, Host, Names, IsSound, with_ids}
 use Rattle.office_model.specs.Meaning.{Carried, found}
 use Rattle.office_model.specs.Pool.{with_tree}
 use Rattle.office_model.specs.Parts.{dump_at}
@@ -76,4 +76,4 @@ adopt_answer office names faults name kind dump line tree answer calls more stat
     let f = dump_is_filled a.after a.after_names a.faults dump name (base_of kind o.host.backups) tree o.laid rest state' faults' a.sound
     (subst (HasDump a.after dump name) from b.4) is_tree o.is_laid a.rest in
     let c = answered f.office f.names f.faults (adopt_event dump line) answer more state' faults' f.rest in
-    adopted_answer f.office dump name tree line (record { answer = answer; after = c.after }) f.sound f.has c.carried
+    adopted_answer f.office dump name tree line (record { answer = answer; after = with_ids c.after f.office.ids }) f.sound f.has c.carried.0

@@ -251,7 +251,7 @@ unadded office names name rules HaltedReply new are fine is = absurd is
 unadded office names name rules DiskFault (Running new n) are fine is = same_shows office new name is.2
 unadded office names name rules DiskFault (Halted before next n) are fine is = step (AddHostEvent.carried name rules office) refl is
   where
-    step : (judged : Judged Carried) → AddHostEvent.carried name rules office ≡ judged → MayHalt Commits office judged before next
+    step : (judged : Judged Carried) → AddHostEvent.carried name rules office ≡ judged → MayHalt Commits false names office judged before next
         → Alike office.hosts before.hosts name × Alike office.hosts next.hosts name
     step (Ok c) e may = (
       subst (λ (kept : Durable). Alike office.hosts kept.hosts name) (sym may.0) (alike_itself office.hosts name),

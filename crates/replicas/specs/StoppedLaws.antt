@@ -1,17 +1,19 @@
 -- What a pull brought within which the server at home was stopped.
-use Rattle.std.specs.Prelude.{◌≡◌, ℕ, List, [], ◌∷◌, ◌++◌, Ok, Err, ◌⊎◌}
-use Rattle.std.proofs.Common.{refl, sym, ◌∙◌, subst, inl, inr, arith}
+use Rattle.std.specs.Prelude.{◌≡◌, ℕ, Bool, true, false, List, [], ◌∷◌, ◌++◌, Ok, Err, ◌⊎◌}
+use Rattle.std.proofs.Common.{refl, sym, ap, ◌∙◌, subst, inl, inr, arith}
 use Rattle.office_model.specs.declared.event.Event.{Event}
-use Rattle.office_model.specs.Office.{Office, Durable, Names}
-use Rattle.office_model.specs.UsedNames.{AreNamesAfter, IsRenamed}
+use Rattle.office_model.specs.declared.answer.Answer.{Answer}
+use Rattle.office_model.specs.Ids.{Ids}
+use Rattle.office_model.specs.Office.{Office, Durable, Names, with_ids}
+use Rattle.office_model.specs.UsedNames.{AreIdsAfter, AreNamesAfter, IsRenamed}
 use Rattle.office_model.specs.declared.refusal.Refusal.{Refusal}
 use Rattle.office_model.specs.Meaning.{Carried, Judged, Reply, NameChange, Same}
-use Rattle.office_model.specs.Step.{Call, State, Running, Halted, IsSoundState, meaning_of}
+use Rattle.office_model.specs.Step.{Call, State, Running, Halted, IsSoundState, IsMade, IsNext, meaning_of}
 use Rattle.office_model.specs.History.{Leads}
 use Rattle.office_model.specs.laws.HistoryLaws.{Leads-none, Leads-one, Leads-append}
 use Rattle.office_model.specs.laws.StateLaws.{AreSound-carried}
 use Rattle.adopted_dumps.specs.Adopted.{IsPart}
-use Rattle.adopted_dumps.specs.PartLaws.{part_keeps}
+use Rattle.adopted_dumps.specs.PartLaws.{part_replied}
 use Rattle.pull_work.specs.declared.plan.Plan.{Plan}
 use Rattle.pull_work.specs.Steps.{calls_in}
 use Rattle.pull_work.specs.Script.{Phase, Asking}
@@ -24,10 +26,32 @@ use Rattle.replicas.specs.CutLaws.{CutTo, Cuts, turns_cut, first_is_part}
 
 -- ---- what the disk keeps
 
+-- an office that keeps what an event made of the disk, by an answer of that event
+record Makes (pools : Bool) (names : Names) (office : Office) (judged : Judged Carried) (answer : Answer) (kept : Durable) : Type 0 where
+  pub after : Office
+  pub keeps : kept ≡ after.durable
+  pub made : IsMade pools names office judged answer after
+
+makes : (pools : Bool) (names : Names) (office : Office) (judged : Judged Carried) (carried : Carried) (kept : Durable) → judged ≡ Ok carried
+    → IsNext pools names office.durable carried.after.durable kept → Makes pools names office judged carried.answer kept
+makes false names office judged carried kept e is = record { after = carried.after; keeps = is; made = e }
+makes true names office judged carried kept e is =
+    let as_made = λ (ids : Ids). let made : Judged Carried = Ok (record { answer = carried.answer; after = with_ids carried.after ids }) in made in
+    let same : carried.after.ids ≡ office.ids = sym (ap (λ (d : Durable). d.ids) is.0) in
+    let keeps : kept ≡ (with_ids carried.after kept.ids).durable = ap (λ (d : Durable). record d { ids = kept.ids }) is.0 in
+    record {
+      after = with_ids carried.after kept.ids;
+      keeps = keeps;
+      made = (e ∙ ap as_made same, subst (AreIdsAfter names office.durable) keeps is.1);
+    }
+
 -- a part makes nothing of it
 part_made : (event : Event) → IsPart event → (office : Office) (names : Names) (kept : Durable) (judged : Judged Carried)
-    → (meaning_of event).carried office names ≡ judged → IsMadeBy judged kept → kept ≡ office.durable
-part_made event part office names kept (Ok carried) e made = made ∙ part_keeps event part office names carried e
+    → (meaning_of event).carried office names ≡ judged → IsMadeBy (meaning_of event).pools names office.durable judged kept
+    → kept ≡ office.durable
+part_made event part office names kept (Ok carried) e made =
+    let m = makes (meaning_of event).pools names office ((meaning_of event).carried office names) carried kept e made in
+    m.keeps ∙ part_replied event part office names (Ok carried.answer) (Running m.after names) tt m.made
 part_made event part office names kept (Err rule) e made = absurd made
 
 part_may : (event : Event) → IsPart event → (office : Office) (names : Names) (kept : Durable) → MayKeep (Running office names) event kept
@@ -37,17 +61,18 @@ part_may event part office names kept (inr made) =
     part_made event part office names kept ((meaning_of event).carried office names) refl made
 
 -- an event that breaks no rule may be answered
-carried_leads : (office : Office) (names : Names) (faults : ℕ) (event : Event) (carried : Carried) → IsSoundState (Running office names)
-    → (meaning_of event).renames ≡ Same → (meaning_of event).carried office names ≡ Ok carried
-    → Leads (Running office names) faults ((event, Ok carried.answer) ∷ []) (Running carried.after names) faults
-carried_leads office names faults event carried sound same e =
-    let named : AreNamesAfter office names (meaning_of event) (Ok carried.answer) names =
-    subst (λ (change : NameChange). IsRenamed change office names ((meaning_of event).carried office names) (Ok carried.answer) names) (sym same) refl in
+carried_leads : (office : Office) (names : Names) (faults : ℕ) (event : Event) (answer : Answer) (after : Office)
+    → IsSoundState (Running office names) → (meaning_of event).renames ≡ Same
+    → IsMade (meaning_of event).pools names office ((meaning_of event).carried office names) answer after
+    → Leads (Running office names) faults ((event, Ok answer) ∷ []) (Running after names) faults
+carried_leads office names faults event answer after sound same made =
+    let named : AreNamesAfter office names (meaning_of event) (Ok answer) names =
+    subst (λ (change : NameChange). IsRenamed change office names ((meaning_of event).carried office names) (Ok answer) names) (sym same) refl in
     Leads-one (Running office names) faults
-    (record { event = event; reply = Ok carried.answer; state = Running carried.after names; faults = faults })
+    (record { event = event; reply = Ok answer; state = Running after names; faults = faults })
     (record {
-      step = (e, named);
-      sound = AreSound-carried office names event carried names sound e named;
+      step = (made, named);
+      sound = AreSound-carried office names event answer after names sound made named;
       later = omega arith;
       cause = λ f. absurd (cc);
       undamaged = tt;
@@ -126,13 +151,15 @@ module _ (plan : Plan) (home first : Office) (phase : Phase) (state' : State) (k
     carried_there : (office : Office) (names : Names) → IsSoundState (Running office names)
         → Leads (Running home r.names) r.faults before (Running office names) faults → (meaning_of call.0).renames ≡ Same
         → ((reply : Reply) → CutTo plan Asking (steps_of r.turns) (before ++ (call.0, reply) ∷ [])) → (judged : Judged Carried)
-        → (meaning_of call.0).carried office names ≡ judged → IsMadeBy judged kept → IsBrought kept
+        → (meaning_of call.0).carried office names ≡ judged → IsMadeBy (meaning_of call.0).pools names office.durable judged kept
+        → IsBrought kept
     carried_there office names sound leads same cut (Ok carried) e made =
+        let m = makes (meaning_of call.0).pools names office ((meaning_of call.0).carried office names) carried kept e made in
         let c = cut (Ok carried.answer) in
-        at_work carried.after names c.to made
-        (cut_pulls (before ++ (call.0, Ok carried.answer) ∷ []) c (Running carried.after names) faults
-        (Leads-append (Running home r.names) (Running office names) (Running carried.after names) r.faults faults faults before
-        ((call.0, Ok carried.answer) ∷ []) leads (carried_leads office names faults call.0 carried sound same e)))
+        at_work m.after names c.to m.keeps
+        (cut_pulls (before ++ (call.0, Ok carried.answer) ∷ []) c (Running m.after names) faults
+        (Leads-append (Running home r.names) (Running office names) (Running m.after names) r.faults faults faults before
+        ((call.0, Ok carried.answer) ∷ []) leads (carried_leads office names faults call.0 carried.answer m.after sound same m.made)))
     carried_there office names sound leads same cut (Err rule) e made = absurd made
 
     unchanged_there : (office : Office) (names : Names) → IsSoundState (Running office names)

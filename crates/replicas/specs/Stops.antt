@@ -1,11 +1,11 @@
 -- A server at home that is stopped within a pull.
 --     StopsWithin      within one of these calls, and what the disk keeps behind it
 --     StoppedPullBrings      the host's backups are those before and a beginning of those to be brought, as of a pull that wasn't stopped
-use Rattle.std.specs.Prelude.{◌≡◌, ℕ, List, ◌∷◌, ◌++◌, Ok, Err, ◌⊎◌}
+use Rattle.std.specs.Prelude.{◌≡◌, ℕ, Bool, List, ◌∷◌, ◌++◌, Ok, Err, ◌⊎◌}
 use Rattle.office_model.specs.declared.event.Event.{Event}
-use Rattle.office_model.specs.Office.{Office, Durable}
+use Rattle.office_model.specs.Office.{Office, Durable, Names}
 use Rattle.office_model.specs.Meaning.{Carried, Judged}
-use Rattle.office_model.specs.Step.{Call, State, Running, Halted, meaning_of}
+use Rattle.office_model.specs.Step.{Call, State, Running, Halted, IsNext, meaning_of}
 use Rattle.office_model.specs.History.{Leads}
 use Rattle.pull_work.specs.declared.plan.Plan.{Plan}
 use Rattle.pull_work.specs.Steps.{calls_in}
@@ -15,14 +15,15 @@ use Rattle.replicas.specs.Replicas.{IsReplica, wanted, Brings, Pulls}
 
 -- ---- a stop at home
 
--- the disk keeps what an event makes of it that breaks no rule
-abbrev pub IsMadeBy : Judged Carried → Durable → Type 0
-IsMadeBy (Ok carried) kept = kept ≡ carried.after.durable
-IsMadeBy (Err rule) kept = ⊥
+-- the disk keeps what an event makes of it that breaks no rule; of one that moves contents, but for their ids
+abbrev pub IsMadeBy : Bool → Names → Durable → Judged Carried → Durable → Type 0
+IsMadeBy pools names old (Ok carried) kept = IsNext pools names old carried.after.durable kept
+IsMadeBy pools names old (Err rule) kept = ⊥
 
 -- what the disk may keep if the server is stopped within the call of an event: what it kept, or what the event makes of that
 abbrev pub MayKeep : State → Event → Durable → Type 0
-MayKeep (Running office names) event kept = (kept ≡ office.durable) ⊎ IsMadeBy ((meaning_of event).carried office names) kept
+MayKeep (Running office names) event kept =
+    (kept ≡ office.durable) ⊎ IsMadeBy (meaning_of event).pools names office.durable ((meaning_of event).carried office names) kept
 MayKeep (Halted before next names) event kept = (kept ≡ before) ⊎ (kept ≡ next)
 
 -- of these calls some were made, the server was stopped within the next one, and the disk keeps this
