@@ -95,10 +95,9 @@ module _ {D N S : Type 0} {d : DiskGhosts D} {n : NamerGhosts N S} where
             step = (to.judged, to.renamed);
             undamaged = tt;
             in_state = running_opened mid new office to.now names to.names' made.at.working made.stays to.alike to.sessions to.claimed
-                (AreSound-carried office names event (record { answer = answer; after = with_open office to.now }) to.names' at.sound
-                to.judged to.renamed);
+                (AreSound-carried office names event answer (with_open office to.now) to.names' at.sound to.judged to.renamed);
           };
-      crash = λ office names at. crash_stays old new office names at quiet ((meaning_of event).carried office names);
+      crash = λ office names at. crash_stays old new office names at quiet (meaning_of event).pools ((meaning_of event).carried office names);
       in_kind = in_kind;
       awake = λ e. absurd cc;
       halts = λ not. works_same old new halted quiet.halted_same;
@@ -115,7 +114,7 @@ module _ {D N S : Type 0} {d : DiskGhosts D} {n : NamerGhosts N S} where
         undamaged = tt;
         in_state = running_kept office names (still office names at);
       };
-      crash = λ office names at. crash_stays old new office names at quiet ((meaning_of event).carried office names);
+      crash = λ office names at. crash_stays old new office names at quiet (meaning_of event).pools ((meaning_of event).carried office names);
       in_kind = tt;
       awake = λ e. absurd cc;
       halts = λ not. works_same old new halted quiet.halted_same;

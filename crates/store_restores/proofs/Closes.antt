@@ -80,7 +80,7 @@ module _ {D N S : Type 0} {d : DiskGhosts D} {n : NamerGhosts N S} (old : StoreP
         (AreSessions-restore_taken old.sessions new.sessions only.beside n.holds (given (slots old)) (contents_of at.all)
         (staging_of at.all names) office.volatile at.sessions index restores only.sequence))
         claimed refl refl
-        (AreSound-carried office names (CloseRead session) (record { answer = Done; after = without office }) names at.sound judged refl)
+        (AreSound-carried office names (CloseRead session) Done (without office) names at.sound judged refl)
       where
         claimed : (id : PoolId) → claims_of (slots new id) ≡ claims_in new.sessions id
         claimed id = omega (

@@ -297,8 +297,7 @@ module _ {D N S : Type 0} {d : DiskGhosts D} {n : NamerGhosts N S} where
               judged = judged;
               running = running_moved new office names at (moved_on (value office names at)).position place stays names_same moves
                   (moves_on office names at frame place g)
-                  (AreSound-carried office names (ReadNext session) (record { answer = NextAnswer frame; after = after }) names at.sound judged
-                  refl);
+                  (AreSound-carried office names (ReadNext session) (NextAnswer frame) after names at.sound judged refl);
             })
             (λ office names. refl) refl
 

@@ -288,8 +288,7 @@ module _ {D N S : Type 0} {d : DiskGhosts D} {n : NamerGhosts N S} where
             (staging_of at.all names) office.volatile at.sessions restore (fresh session rows removed given_rows)
             is_restore has.sessions.restores has.sessions.sequence))
             claimed refl refl
-            (AreSound-carried office names event (record { answer = RestoreAnswer session; after = next }) names at.sound judged
-            refl)
+            (AreSound-carried office names event (RestoreAnswer session) next names at.sound judged refl)
 
       pub open_made : (new : StoreParts D N S d n) (session : SessionName) → mid.sessions.sequence < 2 ^ 64 - 1
           → HasOpened mid rows removed given_rows session new → new.journal ≡ mid.journal

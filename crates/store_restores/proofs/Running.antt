@@ -28,7 +28,7 @@ use Rattle.office_model.specs.declared.event.Event.{Event}
 use Rattle.office_model.specs.declared.refusal.Refusal.TheVariants.{Memory}
 use Rattle.office_model.specs.Meaning.{Carried, Judged}
 use Rattle.office_model.specs.Office.{Office, Durable, Volatile, Host, Names, Stage}
-use Rattle.office_model.specs.Step.{Running, IsAnswerTo, meaning_of}
+use Rattle.office_model.specs.Step.{Running, IsMade, IsAnswerTo, meaning_of}
 use Rattle.office_model.specs.UsedNames.{AreSound, AreNamesAfter}
 use Rattle.office_files.specs.Pooled.{contents_of}
 use Rattle.office_files.specs.Stands.{Stands}
@@ -197,17 +197,18 @@ module _ {D N S : Type 0} {d : DiskGhosts D} {n : NamerGhosts N S} where
 
   -- meanwhile a crash leaves what is durable
   crash_quiet : (old new : StoreParts D N S d n) (office : Office) (names : Names) → IsRunning old office names
-      → Quiet old.journal new.journal → (judged : Judged Carried) → FindsOnly old.journal new.journal (MayRecover n.digest_of office judged)
-  crash_quiet old new office names at quiet judged =
-      FindsOnly-each (IsAlikeBut at.all (uncertain old.journal)) (MayRecover n.digest_of office judged) old.journal new.journal
-      (λ found alike. recover_before n.digest_of office judged found
+      → Quiet old.journal new.journal → (pools : Bool) (judged : Judged Carried)
+      → FindsOnly old.journal new.journal (MayRecover n.digest_of pools names office judged)
+  crash_quiet old new office names at quiet pools judged =
+      FindsOnly-each (IsAlikeBut at.all (uncertain old.journal)) (MayRecover n.digest_of pools names office judged) old.journal new.journal
+      (λ found alike. recover_before n.digest_of pools names office judged found
       (stored_found old.journal old.pool old.catalog office.durable names at.stored found alike))
       (quiet.crash at.all at.told_is)
 
   -- the event breaks no rule, and the parts hold the office after it
   pub record Makes (event : Event) (answer : Answer) (office : Office) (names : Names) (new : StoreParts D N S d n) : Type 0 where
     pub next : Office
-    pub judged : (meaning_of event).carried office names ≡ Ok (record { answer = answer; after = next })
+    pub judged : IsMade (meaning_of event).pools names office ((meaning_of event).carried office names) answer next
     pub running : IsRunning new next names
 
   module _ (old new : StoreParts D N S d n) (event : Event) (quiet : Quiet old.journal new.journal) (halted : new.halted ≡ old.halted) {failed : Type 0}
@@ -220,7 +221,7 @@ module _ {D N S : Type 0} {d : DiskGhosts D} {n : NamerGhosts N S} where
       steps = λ office names at.
           let made = makes office names at in
           record { next = Running made.next names; step = (made.judged, stay office names); undamaged = tt; in_state = made.running };
-      crash = λ office names at. crash_quiet old new office names at quiet ((meaning_of event).carried office names);
+      crash = λ office names at. crash_quiet old new office names at quiet (meaning_of event).pools ((meaning_of event).carried office names);
       in_kind = in_kind;
       awake = λ e. absurd cc;
       halts = λ not. works_same old new halted quiet.halted_same;
@@ -238,7 +239,7 @@ module _ {D N S : Type 0} {d : DiskGhosts D} {n : NamerGhosts N S} where
         undamaged = tt;
         in_state = same office names at;
       };
-      crash = λ office names at. crash_quiet old new office names at quiet ((meaning_of event).carried office names);
+      crash = λ office names at. crash_quiet old new office names at quiet (meaning_of event).pools ((meaning_of event).carried office names);
       in_kind = tt;
       awake = λ e. absurd cc;
       halts = λ not. works_same old new halted quiet.halted_same;
