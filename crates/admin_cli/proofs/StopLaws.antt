@@ -17,11 +17,12 @@ use Rattle.office_model.specs.declared.refusal.Refusal.{Refusal}
 use Rattle.office_model.specs.declared.refusal.Refusal.TheVariants as R
 use Rattle.office_model.specs.declared.refusal.BrokenRule.TheVariants.{BadBucket}
 use Rattle.office_model.specs.Meaning.{Carried, Reply, Judged, breaks, ◌>>◌}
-use Rattle.office_model.specs.Office.{Office, Host, Names, with_hosts}
+use Rattle.office_model.specs.Office.{Office, Host, Names, with_hosts, with_ids}
 use Rattle.office_model.specs.Parts.{host_at}
 use Rattle.office_model.specs.PlacesLaws.{position-found, position-some}
-use Rattle.office_model.specs.Step.{Call, State, Running, Halted, IsStep, meaning_of}
+use Rattle.office_model.specs.Step.{Call, State, Running, Halted, IsMade, IsStep, meaning_of}
 use Rattle.office_model.specs.History.{Entry, IsUndamaged, IsHistory, calls_of, last_faults}
+use Rattle.office_model.specs.laws.IdLaws.{made_as}
 use Rattle.office_model.specs.events.Hosts.{names as names_in}
 use Rattle.office_model.specs.events.Expire.{named_of, without_named}
 use Rattle.call_scripts.specs.Scripts.{EndRefused, FollowsAfter, Follows, each_of}
@@ -132,10 +133,12 @@ same_carried : (judged : Judged Carried) (made other : Carried) → judged ≡ O
 same_carried judged made other is too = cc (is, too)
 
 same_hosts : (old new : Office) (names : Names) (event : Event) (answer : Answer) → Stays old names event
-    → (meaning_of event).carried old names ≡ Ok (record { answer = answer; after = new }) → names_in old.hosts ≡ names_in new.hosts
-same_hosts old new names event answer goes is =
+    → IsMade (meaning_of event).pools names old ((meaning_of event).carried old names) answer new → names_in old.hosts ≡ names_in new.hosts
+same_hosts old new names event answer goes made =
+    let w = made_as (meaning_of event).pools names old ((meaning_of event).carried old names) answer new made in
     sym goes.same
-    ∙ ap (λ (c : Carried). names_in c.after.hosts) (same_carried _ goes.carried (record { answer = answer; after = new }) goes.is is)
+    ∙ ap (λ (c : Carried). names_in c.after.hosts)
+    (same_carried _ goes.carried (record { answer = answer; after = with_ids new w.0 }) goes.is w.1)
 
 stops : (old : Office) (names : Names) (faults : ℕ) (entries : List Entry) (refusal : Refusal)
     → IsHistory (Running old names) faults entries → EndRefused refusal (calls_of entries)
@@ -205,7 +208,7 @@ first_may : (old : Office) (names : Names) (event : Event) (reply : Reply) (stat
     → FollowsAfter (night_script moment buckets) ((event, reply) ∷ []) calls → EachMay (names_in old.hosts) ((event, reply) ∷ calls)
 first_may old names event (Ok answer) (Running new names') refusal moment buckets calls small is step ended follows =
     let made : (meaning_of E.Hosts).carried old names ≡ Ok (record { answer = answer; after = new }) =
-    subst (λ (asked : Event). (meaning_of asked).carried old names ≡ Ok (record { answer = answer; after = new })) (sym is) step.0 in
+    subst (λ (asked : Event). IsMade (meaning_of asked).pools names old ((meaning_of asked).carried old names) answer new) (sym is) step.0 in
     let told : A.Hosts (names_in old.hosts) ≡ answer = ap (λ (c : Carried). c.answer) (same_carried ((meaning_of E.Hosts).carried old names)
     (record { answer = A.Hosts (names_in old.hosts); after = old }) (record { answer = answer; after = new }) refl made) in (
       subst (May (names_in old.hosts)) is tt,
