@@ -41,6 +41,7 @@ rule_named name =
     else if bytes_eq name (codes "SessionOpen") then Some B.SessionOpen
     else if bytes_eq name (codes "NoSession") then Some B.NoSession
     else if bytes_eq name (codes "NoPath") then Some B.NoPath
+    else if bytes_eq name (codes "NoContent") then Some B.NoContent
     else if bytes_eq name (codes "NotAFile") then Some B.NotAFile
     else if bytes_eq name (codes "NotADirectory") then Some B.NotADirectory
     else if bytes_eq name (codes "Kept") then Some B.Kept

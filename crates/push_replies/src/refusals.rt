@@ -69,6 +69,8 @@ fn rule_named(name: &str) -> Option<BrokenRule>
         Some(BrokenRule::NoSession)
     } else if name == "NoPath" {
         Some(BrokenRule::NoPath)
+    } else if name == "NoContent" {
+        Some(BrokenRule::NoContent)
     } else if name == "NotAFile" {
         Some(BrokenRule::NotAFile)
     } else if name == "NotADirectory" {
