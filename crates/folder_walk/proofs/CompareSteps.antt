@@ -24,6 +24,8 @@ use Rattle.folder_walk.specs.declared.refusals.DumpRefusal.TheVariants as D
 use Rattle.folder_walk.specs.Causes.{refusal_of, IsListFault}
 use Rattle.folder_walk.specs.Puts.{AnsweredOr}
 use Rattle.folder_walk.specs.Bases.{IsFailedWith, IsFailedCall, known_here, gone_of, knowns_of, IsCompared, ListFails, ComparesOne, ListsSoFar, ListsDone, ListsStop}
+use Rattle.folder_walk.specs.Events.{AreOfDump}
+use Rattle.folder_walk.proofs.EventLaws.{AreOfDump-append}
 use Rattle.folder_walk.proofs.WalkSteps.{list_unrefused, AnsweredOr-behind}
 
 -- ---- the entries of one listing
@@ -149,6 +151,13 @@ module _ {P : Type 0} (moves : P → List Call → P → Type 0) (old new : P) (
 
 -- ---- all directories
 
+-- the calls of a listing that failed are of events that a dump calls
+list_of_dump : (host : List ℕ) (number : ℕ) (known : Known) (calls : List Call) (o : Option Refusal) → ListFails host number known calls o
+    → AreOfDump calls
+list_of_dump host number known calls None (inl none) = subst AreOfDump (sym none) tt
+list_of_dump host number known calls None (inr one) = subst AreOfDump (sym one.1) (tt, tt)
+list_of_dump host number known calls (Some refusal) refused = subst AreOfDump (sym refused) (tt, tt)
+
 -- the calls of a listing that failed begin the script of the directories that are pending
 list_begins : (seen : Tree) (host : List ℕ) (number : ℕ) (dump : SessionName) (next : Script) (known : Known) (rest : List Known)
     (gone : List (List ℕ)) (calls : List Call) (o : Option Refusal) → ListFails host number known calls o
@@ -168,6 +177,7 @@ module _ {P : Type 0} (moves : P → List Call → P → Type 0) (joined : (p q 
     calls = [];
     moved = none port;
     answered = tt;
+    of_dump = tt;
     are = λ tree is is_tree. (sym (ap reverse (pushed ∙ ap (λ xs. xs ++ root ∷ []) bare)), sym empty);
   }
 
@@ -183,6 +193,7 @@ module _ {P : Type 0} (moves : P → List Call → P → Type 0) (joined : (p q 
     calls = so_far.calls ++ one.calls;
     moved = joined old mid new so_far.calls one.calls so_far.moved one.moved;
     answered = AreAnswered-append so_far.calls one.calls so_far.answered one.so;
+    of_dump = AreOfDump-append so_far.calls one.calls so_far.of_dump (subst AreOfDump (sym one.ends.1) (tt, tt));
     are = λ tree is is_tree.
         let entries : List NamedNode = one.ends.0 in
         let compared : IsCompared tree known entries front gone pending gone' = one.ends.2 tree (same ∙ is) is_tree in
@@ -206,6 +217,7 @@ module _ {P : Type 0} (moves : P → List Call → P → Type 0) (joined : (p q 
         calls = so_far.calls;
         moved = so_far.moved;
         answered = so_far.answered;
+        of_dump = so_far.of_dump;
         are = λ tree is is_tree. subst (λ ks. AreLists tree host number (root ∷ []) [] so_far.calls ks gone) (ap reverse bare) (so_far.are tree is is_tree);
       }
 
@@ -217,6 +229,7 @@ module _ {P : Type 0} (moves : P → List Call → P → Type 0) (joined : (p q 
     calls = so_far.calls ++ one.calls;
     moved = joined old mid new so_far.calls one.calls so_far.moved one.moved;
     so = AnsweredOr-behind (refusal_of fault) so_far.calls one.calls so_far.answered one.so;
+    of_dump = AreOfDump-append so_far.calls one.calls so_far.of_dump (list_of_dump host number known one.calls (refusal_of fault) one.ends);
     begins = λ tree is is_tree dump next.
         begins_lists tree host number dump next so_far.calls (root ∷ []) [] (known ∷ reverse front) gone one.calls
         (subst (λ ks. AreLists tree host number (root ∷ []) [] so_far.calls ks gone) (next_first items front known taken) (so_far.are tree is is_tree))
@@ -230,10 +243,11 @@ module _ {P : Type 0} (moves : P → List Call → P → Type 0) (joined : (p q 
     calls = so_far.calls;
     moved = so_far.moved;
     so = so_far.answered;
+    of_dump = so_far.of_dump;
     begins = λ tree is is_tree dump next.
         subst (λ cs. Begins (list_script tree host number dump next (root ∷ []) []) cs) (append-nil so_far.calls)
         (begins_lists tree host number dump next so_far.calls (root ∷ []) [] (reverse items) gone [] (so_far.are tree is is_tree) tt);
   }
 
   pub lists_nothing : (port : P) → ListsStop moves port port told host number D.Memory
-  lists_nothing port = record { calls = []; moved = none port; so = tt; begins = λ tree is is_tree dump next. tt }
+  lists_nothing port = record { calls = []; moved = none port; so = tt; of_dump = tt; begins = λ tree is is_tree dump next. tt }

@@ -24,9 +24,11 @@ use Rattle.folder_laws.specs.DumpScriptLaws.{AreAnswered-removes, begins_puts, b
 use Rattle.folder_walk.specs.declared.refusals.DumpRefusal.{DumpRefusal}
 use Rattle.folder_walk.specs.declared.refusals.DumpRefusal.TheVariants as D
 use Rattle.folder_walk.specs.Causes.{refusal_of}
+use Rattle.folder_walk.specs.Events.{AreOfDump}
 use Rattle.folder_walk.specs.Puts.{AnsweredOr, IsRefusedCall, IsCallFault, PutsAll}
 use Rattle.folder_walk.specs.Bases.{IsFailedWith, IsFailedCall, number_of, LastAsked, ListsDone, ListsStop, RemovesAll, MakesBase}
 use Rattle.folder_walk.specs.Dumps.{Fills, Dumped, Stopped}
+use Rattle.folder_walk.proofs.EventLaws.{AreOfDump-append, AreOfDump-removes}
 use Rattle.folder_walk.proofs.WalkSteps.{AnsweredOr-behind}
 
 -- ---- puts and removals begin their script
@@ -80,7 +82,7 @@ module _ {P : Type 0} (moves : P → List Call → P → Type 0) (joined : (p q 
     (none : (p : P) → moves p [] p) (told : Option Tree) (host : List ℕ) (dump : SessionName) where
   -- a full one's
   pub base_full : (port : P) → MakesBase moves port port told Full host dump (Ok tt)
-  base_full port = record { calls = []; moved = none port; so = tt; ends = λ tree is is_tree. refl }
+  base_full port = record { calls = []; moved = none port; so = tt; of_dump = tt; ends = λ tree is is_tree. refl }
 
   -- the backups weren't told
   pub base_unasked : (old new : P) (fault : DumpRefusal) → IsFailedCall moves old new (E.Backups host) fault
@@ -93,12 +95,14 @@ module _ {P : Type 0} (moves : P → List Call → P → Type 0) (joined : (p q 
         calls = [];
         moved = moved;
         so = subst (λ (r : Option Refusal). AnsweredOr r []) (sym is) tt;
+        of_dump = tt;
         ends = λ tree here is_tree next. tt;
       }
       step (Some refusal) is moved = record {
         calls = (E.Backups host, Err refusal) ∷ [];
         moved = moved;
         so = subst (λ (r : Option Refusal). AnsweredOr r ((E.Backups host, Err refusal) ∷ [])) (sym is) (refl, refl);
+        of_dump = (tt, tt);
         ends = λ tree here is_tree next. (refl, tt);
       }
 
@@ -108,6 +112,7 @@ module _ {P : Type 0} (moves : P → List Call → P → Type 0) (joined : (p q 
     calls = backups_call host asked.lines asked.next asked.dump ∷ [];
     moved = asked.moved;
     so = tt;
+    of_dump = (tt, tt);
     ends = λ tree is is_tree. (asked.lines, asked.next, asked.dump, [], step tree (last_line asked.lines) asked.last_is, refl);
   }
     where
@@ -135,6 +140,7 @@ module _ {P : Type 0} (moves : P → List Call → P → Type 0) (joined : (p q 
     calls = backups_call host asked.lines asked.next asked.dump ∷ stop.calls;
     moved = joined old mid new (backups_call host asked.lines asked.next asked.dump ∷ []) stop.calls asked.moved stop.moved;
     so = AnsweredOr-behind (refusal_of fault) (backups_call host asked.lines asked.next asked.dump ∷ []) stop.calls tt stop.so;
+    of_dump = (tt, stop.of_dump);
     ends = λ tree is is_tree next.
         begins_asked tree asked.lines asked.next asked.dump number stop.calls next asked.last_is (stop.begins tree is is_tree dump next);
   }
@@ -148,6 +154,10 @@ module _ {P : Type 0} (moves : P → List Call → P → Type 0) (joined : (p q 
         (joined mid listed new lists.calls removes.calls lists.moved removes.moved);
     so = AreAnswered-append lists.calls removes.calls lists.answered
         (subst AreAnswered (sym removes.ends) (AreAnswered-removes dump gone));
+    of_dump = (
+      tt,
+      AreOfDump-append lists.calls removes.calls lists.of_dump (subst AreOfDump (sym removes.ends) (AreOfDump-removes dump gone)),
+    );
     ends = λ tree is is_tree.
         (asked.lines, asked.next, asked.dump, lists.calls ++ removes.calls, step tree (last_line asked.lines) asked.last_is (lists.are tree is is_tree), refl);
   }
@@ -181,6 +191,12 @@ module _ {P : Type 0} (moves : P → List Call → P → Type 0) (joined : (p q 
             (subst (λ (r : Option Refusal). AnsweredOr r removes.calls) (sym is)
             (subst (λ cs. AnsweredOr (Some refusal) cs) (sym calls_are)
             (EndRefused-append (remove_calls dump done) ((E.Remove dump path None, Err refusal) ∷ []) refusal (AreAnswered-removes dump done) (refl, refl)))));
+        of_dump = (
+          tt,
+          AreOfDump-append lists.calls removes.calls lists.of_dump
+              (subst AreOfDump (sym calls_are)
+              (AreOfDump-append (remove_calls dump done) ((E.Remove dump path None, Err refusal) ∷ []) (AreOfDump-removes dump done) (tt, tt))),
+        );
         ends = λ tree here is_tree next.
             begins_asked tree asked.lines asked.next asked.dump number (lists.calls ++ removes.calls) next asked.last_is
             (begins_lists tree host number dump next lists.calls (root ∷ []) [] [] gone removes.calls (lists.are tree here is_tree)
@@ -200,6 +216,7 @@ module _ {P : Type 0} (moves : P → List Call → P → Type 0) (joined : (p q 
       clock = refl;
       moved = base.moved;
       so = base.so;
+      of_dump = base.of_dump;
       ends = λ tree is is_tree. base.ends tree is is_tree (puts_script dump tree (each_of []));
     }
 
@@ -211,6 +228,7 @@ module _ {P : Type 0} (moves : P → List Call → P → Type 0) (joined : (p q 
       clock = refl;
       moved = joined old based new base.calls puts.calls base.moved puts.moved;
       so = AnsweredOr-behind (refusal_of fault) base.calls puts.calls base.so puts.so;
+      of_dump = AreOfDump-append base.calls puts.calls base.of_dump puts.of_dump;
       ends = λ tree is is_tree.
           begins_base kind tree host dump (puts_script dump tree (each_of [])) base.calls puts.calls (base.ends tree is is_tree)
           (puts.puts tree is is_tree (each_of []));
@@ -234,6 +252,8 @@ module _ {P : Type 0} (moves : P → List Call → P → Type 0) (joined : (p q 
           so = AnsweredOr-behind (refusal_of fault) base.calls (puts.calls ++ (E.Commit dump moment, Err refusal) ∷ []) base.so
               (AnsweredOr-behind (refusal_of fault) puts.calls ((E.Commit dump moment, Err refusal) ∷ []) puts.so
               (subst (λ (r : Option Refusal). AnsweredOr r ((E.Commit dump moment, Err refusal) ∷ [])) (sym is) (refl, refl)));
+          of_dump = AreOfDump-append base.calls (puts.calls ++ (E.Commit dump moment, Err refusal) ∷ []) base.of_dump
+              (AreOfDump-append puts.calls ((E.Commit dump moment, Err refusal) ∷ []) puts.of_dump (tt, tt));
           ends = λ tree here is_tree.
               begins_base kind tree host dump (puts_script dump tree (each_of (E.Commit dump moment ∷ []))) base.calls
               (puts.calls ++ (E.Commit dump moment, Err refusal) ∷ []) (base.ends tree here is_tree)
@@ -252,6 +272,8 @@ module _ {P : Type 0} (moves : P → List Call → P → Type 0) (joined : (p q 
           (joined based filled new puts.calls (commit_call dump moment number ∷ []) puts.moved moved);
       so = AreAnswered-append base.calls (puts.calls ++ commit_call dump moment number ∷ []) base.so
           (AreAnswered-append puts.calls (commit_call dump moment number ∷ []) puts.so tt);
+      of_dump = AreOfDump-append base.calls (puts.calls ++ commit_call dump moment number ∷ []) base.of_dump
+          (AreOfDump-append puts.calls (commit_call dump moment number ∷ []) puts.of_dump (tt, tt));
       ends = λ tree is is_tree. (base.calls, puts.calls, moment, base.ends tree is is_tree, puts.puts tree is is_tree, refl, refl);
     }
 
@@ -271,6 +293,7 @@ module _ {P : Type 0} (moves : P → List Call → P → Type 0) (joined : (p q 
     clock = (first.0, subst (λ m. Gave m fills.later moments') first.1 fills.clock);
     moved = joined old opened new (open_call host kind now dump ∷ []) fills.calls open_moved fills.moved;
     answered = fills.so;
+    of_dump = (tt, fills.of_dump);
     whole = λ tree is is_tree.
         let e = fills.ends tree is is_tree in
         inl (record {
@@ -295,6 +318,7 @@ module _ {P : Type 0} (moves : P → List Call → P → Type 0) (joined : (p q 
     clock = (first.0, same ∙ first.1);
     moved = moved;
     answered = tt;
+    of_dump = (tt, tt);
     whole = λ tree is is_tree. inr (record { later_is = refl; calls_are = refl });
   }
 
@@ -311,6 +335,7 @@ module _ {P : Type 0} (moves : P → List Call → P → Type 0) (joined : (p q 
     moved = joined old opened new (open_call host kind now dump ∷ []) (fills.calls ++ (E.Abort dump, reply) ∷ []) open_moved
         (joined opened filled new fills.calls ((E.Abort dump, reply) ∷ []) fills.moved aborted);
     so = AnsweredOr-behind (refusal_of fault) (open_call host kind now dump ∷ []) fills.calls tt fills.so;
+    of_dump = (tt, fills.of_dump);
     aborted = (reply, refl);
     begins = λ tree is is_tree. (refl, fills.ends tree is is_tree);
   }
@@ -329,6 +354,7 @@ module _ {P : Type 0} (moves : P → List Call → P → Type 0) (joined : (p q 
         clock = (first.0, same ∙ first.1);
         moved = moved;
         so = subst (λ (r : Option Refusal). AnsweredOr r []) (sym is) tt;
+        of_dump = tt;
         aborted = refl;
         begins = λ tree here is_tree. tt;
       }
@@ -340,6 +366,7 @@ module _ {P : Type 0} (moves : P → List Call → P → Type 0) (joined : (p q 
         clock = (first.0, same ∙ first.1);
         moved = moved;
         so = subst (λ (r : Option Refusal). AnsweredOr r ((E.OpenDump host kind now None, Err refusal) ∷ [])) (sym is) (refl, refl);
+        of_dump = (tt, tt);
         aborted = refl;
         begins = λ tree here is_tree. (refl, tt);
       }

@@ -1,3 +1,4 @@
+mod EventLaws
 mod RowLaws
 mod PutLaws
 mod RowSteps

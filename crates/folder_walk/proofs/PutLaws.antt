@@ -81,6 +81,7 @@ module _ {P : Type 0} (moves : P → List Call → P → Type 0) (none : (p : P)
     calls = [];
     moved = none old;
     so = subst (λ (r : Option Refusal). AnsweredOr r []) (sym unrefused) tt;
+    of_dump = tt;
     ends = λ tree is item at found next. tt;
   }
 
@@ -90,6 +91,7 @@ module _ {P : Type 0} (moves : P → List Call → P → Type 0) (none : (p : P)
     calls = [];
     moved = none old;
     so = tt;
+    of_dump = tt;
     ends = λ tree is item at found. let clash : None ≡ Some item = gone tree is item at found in absurd (cc);
   }
 
@@ -104,6 +106,7 @@ module _ {P : Type 0} (moves : P → List Call → P → Type 0) (none : (p : P)
       calls = (E.Put dump path (Whole item) None, Ok A.Done) ∷ [];
       moved = moved;
       so = tt;
+      of_dump = (tt, tt);
       ends = λ tree is other at found.
           (0, ap (λ x. put_call dump path x ∷ []) (some_injects (there tree is other at found)) ∙ small_calls dump path other (small_item other found));
     }
@@ -115,6 +118,7 @@ module _ {P : Type 0} (moves : P → List Call → P → Type 0) (none : (p : P)
       calls = (E.Put dump path (Whole item) None, Err refusal) ∷ [];
       moved = moved;
       so = (refl, refl);
+      of_dump = (tt, tt);
       ends = λ tree is other at found next.
           subst (λ (x : Item). Begins (item_script dump path other next) ((E.Put dump path (Whole x) None, Err refusal) ∷ []))
           (sym (some_injects (there tree is other at found))) (small_script dump path other refusal next (small_item other found));
@@ -129,9 +133,9 @@ module _ {P : Type 0} (moves : P → List Call → P → Type 0) (none : (p : P)
 pub puts_passed : {P : Type 0} (moves : P → List Call → P → Type 0) (old new : P) (told : Option Tree) (dump : SessionName) (path : List ℕ)
     (node : FoundNode) (whole : Bool) → PutsEntry moves old new told dump path node (Ok whole)
     → PutsEntry {A = ⊤} moves old new told dump path node (Ok tt)
-puts_passed moves old new told dump path node whole puts = record { calls = puts.calls; moved = puts.moved; so = puts.so; ends = puts.ends }
+puts_passed moves old new told dump path node whole puts = record { calls = puts.calls; moved = puts.moved; so = puts.so; of_dump = puts.of_dump; ends = puts.ends }
 
 pub puts_failed : {P : Type 0} (moves : P → List Call → P → Type 0) (old new : P) (told : Option Tree) (dump : SessionName) (path : List ℕ)
     (node : FoundNode) (fault : DumpRefusal) → PutsEntry {A = Bool} moves old new told dump path node (Err fault)
     → PutsEntry {A = ⊤} moves old new told dump path node (Err fault)
-puts_failed moves old new told dump path node fault puts = record { calls = puts.calls; moved = puts.moved; so = puts.so; ends = puts.ends }
+puts_failed moves old new told dump path node fault puts = record { calls = puts.calls; moved = puts.moved; so = puts.so; of_dump = puts.of_dump; ends = puts.ends }

@@ -89,6 +89,7 @@ module _ {P : Type 0} (moves : P → List Call → P → Type 0) (old new : P) (
     calls = put.calls;
     moved = put.moved;
     so = put.so;
+    of_dump = put.of_dump;
     ends = put.ends;
     grows = λ tree is is_tree item at found. tt;
   }
@@ -99,6 +100,7 @@ module _ {P : Type 0} (moves : P → List Call → P → Type 0) (old new : P) (
     calls = put.calls;
     moved = put.moved;
     so = put.so;
+    of_dump = put.of_dump;
     ends = put.ends;
     grows = λ tree is is_tree item at found.
         sym (append-nil pending)
@@ -113,6 +115,7 @@ module _ {P : Type 0} (moves : P → List Call → P → Type 0) (old new : P) (
     calls = put.calls;
     moved = put.moved;
     so = put.so;
+    of_dump = put.of_dump;
     ends = put.ends;
     grows = λ tree is is_tree item at found. pushed tree is;
   }
@@ -123,6 +126,7 @@ module _ {P : Type 0} (moves : P → List Call → P → Type 0) (old new : P) (
     calls = put.calls;
     moved = put.moved;
     so = subst (λ (r : Option Refusal). AnsweredOr r put.calls) (sym unrefused) put.so;
+    of_dump = put.of_dump;
     ends = λ tree is item at found next.
         subst (λ cs. Begins (item_script dump row.path item next) cs) (append-nil put.calls)
         (begins_put dump (row.path, item) put.calls next [] (put.ends tree is item at found) tt);

@@ -31,6 +31,7 @@ use Rattle.folder_walk.specs.declared.refusals.DumpRefusal.TheVariants as D
 use Rattle.folder_walk.specs.Rows.{is_large_node}
 use Rattle.folder_walk.specs.Causes.{refusal_of, IsNoRefusal}
 use Rattle.folder_walk.specs.Puts.{AnsweredOr, IsRefusedCall, IsCallFault, PutsEntry, found_put, Taken, TakesSoFar, TakesAll}
+use Rattle.folder_walk.proofs.EventLaws.{AreOfDump-append}
 use Rattle.folder_walk.proofs.PutLaws.{some_injects, found_file}
 use Rattle.folder_walk.proofs.WalkSteps.{AnsweredOr-behind}
 
@@ -62,6 +63,7 @@ module _ {P : Type 0} (moves : P → List Call → P → Type 0) (joined : (p q 
     calls = [];
     moved = none port;
     answered = tt;
+    of_dump = tt;
     taken = λ tree is file at size_is. record { done = []; calls_are = refl; split = refl };
   }
 
@@ -72,6 +74,7 @@ module _ {P : Type 0} (moves : P → List Call → P → Type 0) (joined : (p q 
     calls = so_far.calls ++ piece_call stage bytes ∷ [];
     moved = joined old mid new so_far.calls (piece_call stage bytes ∷ []) so_far.moved moved;
     answered = AreAnswered-append so_far.calls (piece_call stage bytes ∷ []) so_far.answered tt;
+    of_dump = AreOfDump-append so_far.calls (piece_call stage bytes ∷ []) so_far.of_dump (tt, tt);
     taken = λ tree is file at size_is. step tree is file at size_is (so_far.taken tree is file at size_is);
   }
     where
@@ -93,6 +96,7 @@ module _ {P : Type 0} (moves : P → List Call → P → Type 0) (joined : (p q 
     calls = so_far.calls;
     moved = so_far.moved;
     so = so_far.answered;
+    of_dump = so_far.of_dump;
     ends = λ tree is file at size_is.
         let t : Taken stage file.bytes from so_far.calls = so_far.taken tree is file at size_is in
         let long : length (drop from file.bytes) ≡ length file.bytes - from = length-drop from file.bytes in
@@ -109,6 +113,7 @@ module _ {P : Type 0} (moves : P → List Call → P → Type 0) (joined : (p q 
     calls = so_far.calls;
     moved = so_far.moved;
     so = so_far.answered;
+    of_dump = so_far.of_dump;
     ends = λ tree is file at size_is.
         let clash : None ≡ Some (take room (drop from file.bytes)) = (read tree is).found file at in absurd (cc);
   }
@@ -121,6 +126,7 @@ module _ {P : Type 0} (moves : P → List Call → P → Type 0) (joined : (p q 
     calls = so_far.calls;
     moved = so_far.moved;
     so = so_far.answered;
+    of_dump = so_far.of_dump;
     ends = λ tree is file at size_is.
         let next = next_piece file.bytes size from room size_is before room_is in
         let none_left : length (take room (drop from file.bytes)) ≡ 0 = ap length (sym (some_injects ((read tree is).found file at)) ∙ bare) in
@@ -134,6 +140,7 @@ module _ {P : Type 0} (moves : P → List Call → P → Type 0) (joined : (p q 
     calls = so_far.calls;
     moved = so_far.moved;
     so = subst (λ (r : Option Refusal). AnsweredOr r so_far.calls) (sym unrefused) so_far.answered;
+    of_dump = so_far.of_dump;
     ends = λ tree is file at size_is next.
         let t : Taken stage file.bytes from so_far.calls = so_far.taken tree is file at size_is in
         let rest : List (List ℕ) = pieces (drop from file.bytes) in
@@ -150,6 +157,7 @@ module _ {P : Type 0} (moves : P → List Call → P → Type 0) (joined : (p q 
     calls = so_far.calls ++ (E.StagePiece stage bytes, Err refusal) ∷ [];
     moved = joined old mid new so_far.calls ((E.StagePiece stage bytes, Err refusal) ∷ []) so_far.moved refused;
     so = AnsweredOr-behind (Some refusal) so_far.calls ((E.StagePiece stage bytes, Err refusal) ∷ []) so_far.answered (refl, refl);
+    of_dump = AreOfDump-append so_far.calls ((E.StagePiece stage bytes, Err refusal) ∷ []) so_far.of_dump (tt, tt);
     ends = λ tree is file at size_is next. step tree is file at size_is next (so_far.taken tree is file at size_is);
   }
     where
@@ -211,6 +219,7 @@ module _ {P : Type 0} (moves : P → List Call → P → Type 0) (joined : (p q 
     calls = (E.StageOpen dump, Err refusal) ∷ [];
     moved = refused;
     so = (refl, refl);
+    of_dump = (tt, tt);
     ends = λ tree is item at found next. begins_large item next ((E.StageOpen dump, Err refusal) ∷ []) found (λ f item_is same. (refl, tt));
   }
   large_unopened old new (D.BadPath rule) refused = absurd refused
@@ -227,6 +236,7 @@ module _ {P : Type 0} (moves : P → List Call → P → Type 0) (joined : (p q 
       calls = (E.StageOpen dump, Ok (A.Stage stage)) ∷ takes.calls;
       moved = joined old opened taken ((E.StageOpen dump, Ok (A.Stage stage)) ∷ []) takes.calls open_moved takes.moved;
       so = AnsweredOr-behind (refusal_of fault) ((E.StageOpen dump, Ok (A.Stage stage)) ∷ []) takes.calls tt takes.so;
+      of_dump = (tt, takes.of_dump);
       ends = λ tree is item at found next.
           begins_large item next ((E.StageOpen dump, Ok (A.Stage stage)) ∷ takes.calls) found
           (λ f item_is same. (
@@ -260,6 +270,7 @@ module _ {P : Type 0} (moves : P → List Call → P → Type 0) (joined : (p q 
       calls = all_calls takes.calls (E.StageDrop stage, Ok A.Done);
       moved = all_moved new false takes (E.StageDrop stage, Ok A.Done) moved;
       so = AreAnswered-append takes.calls ((E.StageDrop stage, Ok A.Done) ∷ []) takes.so tt;
+      of_dump = (tt, AreOfDump-append takes.calls ((E.StageDrop stage, Ok A.Done) ∷ []) takes.of_dump (tt, tt));
       ends = λ tree is item at found. absurd (not_gone tree item is at found takes);
     }
 
@@ -269,6 +280,7 @@ module _ {P : Type 0} (moves : P → List Call → P → Type 0) (joined : (p q 
       calls = all_calls takes.calls (E.StageDrop stage, Err refusal);
       moved = all_moved new false takes (E.StageDrop stage, Err refusal) refused;
       so = AnsweredOr-behind (Some refusal) takes.calls ((E.StageDrop stage, Err refusal) ∷ []) takes.so (refl, refl);
+      of_dump = (tt, AreOfDump-append takes.calls ((E.StageDrop stage, Err refusal) ∷ []) takes.of_dump (tt, tt));
       ends = λ tree is item at found next. absurd (not_gone tree item is at found takes);
     }
     large_undropped new (D.BadPath rule) takes refused = absurd refused
@@ -283,6 +295,7 @@ module _ {P : Type 0} (moves : P → List Call → P → Type 0) (joined : (p q 
       calls = all_calls takes.calls (found_put dump path file stage, Ok A.Done);
       moved = all_moved new true takes (found_put dump path file stage, Ok A.Done) moved;
       so = AreAnswered-append takes.calls ((found_put dump path file stage, Ok A.Done) ∷ []) takes.so tt;
+      of_dump = (tt, AreOfDump-append takes.calls ((found_put dump path file stage, Ok A.Done) ∷ []) takes.of_dump (tt, tt));
       ends = λ tree is item at found.
           is_put_large item stage (all_calls takes.calls (found_put dump path file stage, Ok A.Done)) found
           (λ f item_is same.
@@ -296,6 +309,7 @@ module _ {P : Type 0} (moves : P → List Call → P → Type 0) (joined : (p q 
       calls = all_calls takes.calls (found_put dump path file stage, Err refusal);
       moved = all_moved new true takes (found_put dump path file stage, Err refusal) refused;
       so = AnsweredOr-behind (Some refusal) takes.calls ((found_put dump path file stage, Err refusal) ∷ []) takes.so (refl, refl);
+      of_dump = (tt, AreOfDump-append takes.calls ((found_put dump path file stage, Err refusal) ∷ []) takes.of_dump (tt, tt));
       ends = λ tree is item at found next.
           begins_large item next (all_calls takes.calls (found_put dump path file stage, Err refusal)) found
           (λ f item_is same.

@@ -30,6 +30,7 @@ use Rattle.folder_walk.specs.declared.refusals.DumpRefusal.TheVariants as D
 use Rattle.folder_walk.specs.Rows.{row_found, rows_found}
 use Rattle.folder_walk.specs.Causes.{refusal_of, IsNoRefusal, HasBadTarget, HasLargeFile, IsListFault, IsRowCause, IsCauseIn, IsDumpCause}
 use Rattle.folder_walk.specs.Puts.{AnsweredOr, PutEnds, Grows, PutsRow, Walked, PutsSoFar, PutsOf, PutsAll}
+use Rattle.folder_walk.proofs.EventLaws.{AreOfDump-append}
 
 link_targets : (a b : FoundLink) → N.Link a ≡ N.Link b → a.target ≡ b.target
 link_targets a b e = let same : a ≡ b = cc in ap (λ (l : FoundLink). l.target) same
@@ -213,7 +214,7 @@ module _ {P : Type 0} (moves : P → List Call → P → Type 0) (joined : (p q 
     (none : (p : P) → moves p [] p) (told : Option Tree) (dump : SessionName) where
   pub puts_first : (port : P) (pending : List Row) → ((tree : Tree) → told ≡ Some tree → pending ≡ [] ++ reverse (rows_found tree None))
       → PutsSoFar moves port port told dump pending
-  puts_first port pending are = record { calls = []; moved = none port; answered = tt; walked = λ tree is is_tree. walked_first dump tree is_tree pending (are tree is) }
+  puts_first port pending are = record { calls = []; moved = none port; answered = tt; of_dump = tt; walked = λ tree is is_tree. walked_first dump tree is_tree pending (are tree is) }
 
   pub puts_more : (old mid new : P) (front pending : List Row) (row : Row) → PutsSoFar moves old mid told dump (front ++ row ∷ [])
       → PutsRow moves mid new told dump row front pending (Ok tt) → PutsSoFar moves old new told dump pending
@@ -221,14 +222,15 @@ module _ {P : Type 0} (moves : P → List Call → P → Type 0) (joined : (p q 
     calls = so_far.calls ++ put.calls;
     moved = joined old mid new so_far.calls put.calls so_far.moved put.moved;
     answered = AreAnswered-append so_far.calls put.calls so_far.answered put.so;
+    of_dump = AreOfDump-append so_far.calls put.calls so_far.of_dump put.of_dump;
     walked = λ tree is is_tree. walked_more dump tree is_tree so_far.calls put.calls front pending row (so_far.walked tree is is_tree) (put.ends tree is) (put.grows tree is is_tree);
   }
 
   pub puts_all : (old new : P) → PutsSoFar moves old new told dump [] → PutsAll moves old new told dump (Ok tt)
-  puts_all old new so_far = record { calls = so_far.calls; moved = so_far.moved; so = so_far.answered; puts = λ tree is is_tree. walked_all dump tree is_tree so_far.calls (so_far.walked tree is is_tree) }
+  puts_all old new so_far = record { calls = so_far.calls; moved = so_far.moved; so = so_far.answered; of_dump = so_far.of_dump; puts = λ tree is is_tree. walked_all dump tree is_tree so_far.calls (so_far.walked tree is is_tree) }
 
   pub puts_memory : (old new : P) (pending : List Row) → PutsSoFar moves old new told dump pending → PutsAll moves old new told dump (Err D.Memory)
-  puts_memory old new pending so_far = record { calls = so_far.calls; moved = so_far.moved; so = so_far.answered; puts = λ tree is is_tree. walked_memory dump tree is_tree so_far.calls pending (so_far.walked tree is is_tree) }
+  puts_memory old new pending so_far = record { calls = so_far.calls; moved = so_far.moved; so = so_far.answered; of_dump = so_far.of_dump; puts = λ tree is is_tree. walked_memory dump tree is_tree so_far.calls pending (so_far.walked tree is is_tree) }
 
   pub puts_failed : (old mid new : P) (front pending : List Row) (row : Row) (fault : DumpRefusal) → PutsSoFar moves old mid told dump (front ++ row ∷ [])
       → PutsRow moves mid new told dump row front pending (Err fault) → PutsAll moves old new told dump (Err fault)
@@ -236,6 +238,7 @@ module _ {P : Type 0} (moves : P → List Call → P → Type 0) (joined : (p q 
     calls = so_far.calls ++ put.calls;
     moved = joined old mid new so_far.calls put.calls so_far.moved put.moved;
     so = AnsweredOr-behind (refusal_of fault) so_far.calls put.calls so_far.answered put.so;
+    of_dump = AreOfDump-append so_far.calls put.calls so_far.of_dump put.of_dump;
     puts = λ tree is is_tree. walked_failed dump tree is_tree so_far.calls put.calls front row fault (so_far.walked tree is is_tree) (put.ends tree is);
   }
 
@@ -245,6 +248,7 @@ module _ {P : Type 0} (moves : P → List Call → P → Type 0) (joined : (p q 
     calls = [];
     moved = none port;
     so = subst (λ (r : Option Refusal). AnsweredOr r []) (sym unrefused) tt;
+    of_dump = tt;
     puts = λ tree is is_tree next. tt;
   }
 

@@ -22,6 +22,7 @@ use Rattle.folder_laws.specs.Lists.{leaves, known_at, gone_from, known_from, lis
 use Rattle.folder_laws.specs.DumpScript.{list_script, base_script}
 use Rattle.folder_walk.specs.declared.refusals.DumpRefusal.{DumpRefusal}
 use Rattle.folder_walk.specs.Causes.{refusal_of}
+use Rattle.folder_walk.specs.Events.{AreOfDump}
 use Rattle.folder_walk.specs.Puts.{AnsweredOr, EndSo}
 
 -- ---- one call
@@ -94,6 +95,7 @@ pub record ListsSoFar {P : Type 0} (moves : P → List Call → P → Type 0) (o
   pub calls : List Call
   pub moved : moves old calls new
   pub answered : AreAnswered calls
+  pub of_dump : AreOfDump calls
   pub are : (tree : Tree) → told ≡ Some tree → IsTree is_dir tree → AreLists tree host number (root ∷ []) [] calls (reverse pending) gone
 
 -- all of them, from which these paths leave
@@ -102,6 +104,7 @@ pub record ListsDone {P : Type 0} (moves : P → List Call → P → Type 0) (ol
   pub calls : List Call
   pub moved : moves old calls new
   pub answered : AreAnswered calls
+  pub of_dump : AreOfDump calls
   pub are : (tree : Tree) → told ≡ Some tree → IsTree is_dir tree → AreLists tree host number (root ∷ []) [] calls [] gone
 
 -- the calls begin the script of the listings, whatever is called behind it
@@ -114,6 +117,7 @@ pub record ListsStop {P : Type 0} (moves : P → List Call → P → Type 0) (ol
   pub calls : List Call
   pub moved : moves old calls new
   pub so : AnsweredOr (refusal_of fault) calls
+  pub of_dump : AreOfDump calls
   pub begins : (tree : Tree) → told ≡ Some tree → IsTree is_dir tree → BeginsLists tree host number calls
 
 -- ---- removals
@@ -143,4 +147,5 @@ pub record MakesBase {P : Type 0} (moves : P → List Call → P → Type 0) (ol
   pub calls : List Call
   pub moved : moves old calls new
   pub so : EndSo result calls
+  pub of_dump : AreOfDump calls
   pub ends : (tree : Tree) → told ≡ Some tree → IsTree is_dir tree → BaseEnds kind tree host dump calls result

@@ -20,6 +20,7 @@ use Rattle.folder_walk.specs.declared.asking.Opening.{Opening}
 use Rattle.folder_walk.specs.declared.asking.Opening.TheVariants as O
 use Rattle.folder_walk.specs.declared.refusals.DumpRefusal.{DumpRefusal}
 use Rattle.folder_walk.specs.Causes.{refusal_of}
+use Rattle.folder_walk.specs.Events.{AreOfDump}
 use Rattle.folder_walk.specs.Puts.{AnsweredOr, EndSo}
 
 -- ---- an opening
@@ -47,6 +48,7 @@ pub record Fills {P : Type 0} (moves : P → List Call → P → Type 0) (old ne
   pub clock : Gave moments later moments'
   pub moved : moves old calls new
   pub so : EndSo result calls
+  pub of_dump : AreOfDump calls
   pub ends : (tree : Tree) → told ≡ Some tree → IsTree is_dir tree → FillEnds kind tree host dump later calls result
 
 -- ---- a dump
@@ -68,8 +70,8 @@ pub record IsKnown (kind : Kind) (host : List ℕ) (now : ℕ) (later : List ℕ
   pub calls_are : calls ≡ already_call host kind now number ∷ []
 
 -- A dump was committed as the backup of this number. The clock was read as it began and as it was committed. The calls lead from the
--- port's state before to that after, each was answered, and where the folder tells its tree, they are those of a dump of it; or the
--- opening alone was called, if it was answered with that number.
+-- port's state before to that after, each was answered and is of an event that a dump calls, and where the folder tells its tree, they
+-- are those of a dump of it; or the opening alone was called, if it was answered with that number.
 pub record Dumped {P : Type 0} (moves : P → List Call → P → Type 0) (old new : P) (told : Option Tree) (moments moments' : Option (List ℕ))
     (kind : Kind) (host : List ℕ) (number : ℕ) : Type 0 where
   pub now : ℕ
@@ -78,6 +80,7 @@ pub record Dumped {P : Type 0} (moves : P → List Call → P → Type 0) (old n
   pub clock : Gave moments (now ∷ later) moments'
   pub moved : moves old calls new
   pub answered : AreAnswered calls
+  pub of_dump : AreOfDump calls
   pub whole : (tree : Tree) → told ≡ Some tree → IsTree is_dir tree
       → IsDump kind tree host now later number calls ⊎ IsKnown kind host now later number calls
 
@@ -87,8 +90,8 @@ AreAborts ((asked, Ok (A.Dump dump)) ∷ calls) aborts = (reply : Reply) × (abo
 AreAborts calls aborts = aborts ≡ []
 
 -- A dump was refused so. The calls up to there lead, with an abort of the dump if it was open, from the port's state before to that
--- after. They were answered, but for the last if that is what was refused; and where the folder tells its tree, they begin the script
--- of a dump of it, in which the commit stands only once the clock was read a second time.
+-- after. They were answered, but for the last if that is what was refused, and are of events that a dump calls; and where the folder
+-- tells its tree, they begin the script of a dump of it, in which the commit stands only once the clock was read a second time.
 pub record Stopped {P : Type 0} (moves : P → List Call → P → Type 0) (old new : P) (told : Option Tree) (moments moments' : Option (List ℕ))
     (kind : Kind) (host : List ℕ) (fault : DumpRefusal) : Type 0 where
   pub now : ℕ
@@ -98,5 +101,6 @@ pub record Stopped {P : Type 0} (moves : P → List Call → P → Type 0) (old 
   pub clock : Gave moments (now ∷ later) moments'
   pub moved : moves old (calls ++ aborts) new
   pub so : AnsweredOr (refusal_of fault) calls
+  pub of_dump : AreOfDump calls
   pub aborted : AreAborts calls aborts
   pub begins : (tree : Tree) → told ≡ Some tree → IsTree is_dir tree → Begins (dump_script host kind now later tree) calls

@@ -24,6 +24,7 @@ use Rattle.folder_walk.specs.declared.rows.Row.{Row}
 use Rattle.folder_walk.specs.declared.refusals.DumpRefusal.{DumpRefusal}
 use Rattle.folder_walk.specs.Rows.{row_found, rows_found}
 use Rattle.folder_walk.specs.Causes.{refusal_of}
+use Rattle.folder_walk.specs.Events.{AreOfDump}
 
 -- this call was made, and refused so
 abbrev pub IsRefusedCall : {P : Type 0} → (P → List Call → P → Type 0) → P → P → Event → Option Refusal → Type 0
@@ -55,6 +56,7 @@ pub record PutsEntry {P A : Type 0} (moves : P → List Call → P → Type 0) (
   pub calls : List Call
   pub moved : moves old calls new
   pub so : EndSo result calls
+  pub of_dump : AreOfDump calls
   pub ends : (tree : Tree) → told ≡ Some tree → (item : Item) → node_at tree path ≡ Some item → node ≡ found_of item
       → PutEnds dump (path, item) calls result
 
@@ -76,6 +78,7 @@ pub record TakesSoFar {P : Type 0} (moves : P → List Call → P → Type 0) (o
   pub calls : List Call
   pub moved : moves old calls new
   pub answered : AreAnswered calls
+  pub of_dump : AreOfDump calls
   pub taken : (tree : Tree) → told ≡ Some tree → (file : File) → node_at tree path ≡ Some (I.File file) → size ≡ length file.bytes
       → Taken stage file.bytes from calls
 
@@ -90,6 +93,7 @@ pub record TakesAll {P : Type 0} (moves : P → List Call → P → Type 0) (old
   pub calls : List Call
   pub moved : moves old calls new
   pub so : EndSo result calls
+  pub of_dump : AreOfDump calls
   pub ends : (tree : Tree) → told ≡ Some tree → (file : File) → node_at tree path ≡ Some (I.File file) → size ≡ length file.bytes
       → TakeEnds stage file.bytes calls result
 
@@ -106,6 +110,7 @@ pub record PutsRow {P : Type 0} (moves : P → List Call → P → Type 0) (old 
   pub calls : List Call
   pub moved : moves old calls new
   pub so : EndSo result calls
+  pub of_dump : AreOfDump calls
   pub ends : (tree : Tree) → told ≡ Some tree → (item : Item) → node_at tree row.path ≡ Some item → row.node ≡ found_of item
       → PutEnds dump (row.path, item) calls result
   pub grows : (tree : Tree) → told ≡ Some tree → IsTree is_dir tree → (item : Item) → node_at tree row.path ≡ Some item
@@ -125,6 +130,7 @@ pub record PutsSoFar {P : Type 0} (moves : P → List Call → P → Type 0) (ol
   pub calls : List Call
   pub moved : moves old calls new
   pub answered : AreAnswered calls
+  pub of_dump : AreOfDump calls
   pub walked : (tree : Tree) → told ≡ Some tree → IsTree is_dir tree → Walked dump tree calls pending
 
 -- all rows were put; or the calls begin the script of that, whatever is called behind it
@@ -138,4 +144,5 @@ pub record PutsAll {P : Type 0} (moves : P → List Call → P → Type 0) (old 
   pub calls : List Call
   pub moved : moves old calls new
   pub so : EndSo result calls
+  pub of_dump : AreOfDump calls
   pub puts : (tree : Tree) → told ≡ Some tree → IsTree is_dir tree → PutsOf dump tree calls result

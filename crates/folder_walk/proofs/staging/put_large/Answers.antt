@@ -5,7 +5,7 @@ use Rattle.office_model.specs.declared.answer.Answer.TheVariants as A
 use Rattle.folder_walk.specs.declared.refusals.DumpRefusal.TheVariants as D
 use Rattle.folder_walk.specs.Puts.{IsCallFault, TakesAll, found_put}
 use Rattle.folder_walk.proofs.PutLaws.{puts_none}
-use Rattle.folder_walk.proofs.StageSteps.{large_untaken, large_dropped, large_undropped, large_put, large_unput}
+use Rattle.folder_walk.proofs.StageSteps.{large_unopened, large_untaken, large_dropped, large_undropped, large_put, large_unput}
 use Rattle.folder_walk.proofs.staging.put_large.Goals as goal
 
 pub returns-then-file-gt-CONTENT_LIMIT-clause-puts : goal.returns-then-file-gt-CONTENT_LIMIT-clause-puts
@@ -17,6 +17,11 @@ pub returns-in_default-clause-puts : goal.returns-in_default-clause-puts
 returns-in_default-clause-puts g c =
     puts_none g.P.Port.moves g.met.P.Port.none c.args.port.now c.args.port.now (g.F.Folder.tree c.args.folder.now) c.args.dump c.args.path.now
     (F.File c.args.file) D.Memory refl
+
+pub returns-in-Err-clause-puts : goal.returns-in-Err-clause-puts
+returns-in-Err-clause-puts g c =
+    large_unopened g.P.Port.moves g.met.P.Port.joined (g.F.Folder.tree c.args.folder.now) c.args.dump c.args.path.now c.args.file c.requires
+    c.args.port.now c.open_stage.new.port c.in-Err.fault c.in-Err.ensures.err
 
 pub returns-in-Err-send_pieces-clause-puts : goal.returns-in-Err-send_pieces-clause-puts
 returns-in-Err-send_pieces-clause-puts g c =
