@@ -1,10 +1,11 @@
 -- Why a run says that the disk failed, over any disk, of a command that calls no reopening: the disk's count rose.
---     night_fails, migration_fails, demo_fails, restore_fails, pull_fails
+--     night_fails, migration_fails, demo_fails, dump_fails, restore_fails, pull_fails
 use Rattle.std.specs.Prelude.{◌⊎◌, ◌++◌, Result}
 use Rattle.std.proofs.Common.{◌≡◌, ℕ, ℤ, Bool, true, false, List, [], ◌∷◌, Option, Ok, Err, refl, ap, subst, sym, inl, inr}
 use Rattle.fault_counts.specs.Counts.{Rose}
 use Rattle.disk_trait.specs.declared.disk.Disk.{Ghosts as DiskGhosts}
 use Rattle.attr_records.specs.Items.{Tree}
+use Rattle.backup_rules.specs.declared.lines.Kind.{Kind}
 use Rattle.office_model.specs.declared.event.Event.{Event}
 use Rattle.office_model.specs.declared.refusal.Refusal.{Refusal}
 use Rattle.office_model.specs.declared.refusal.Refusal.TheVariants as R
@@ -22,6 +23,8 @@ use Rattle.demo_work.specs.declared.ends.DemoEnd.TheVariants as Demo
 use Rattle.demo_work.specs.Ends.{Ends as DemoEnds}
 use Rattle.pull_work.specs.declared.ends.PullEnd.{PullEnd}
 use Rattle.pull_work.specs.declared.ends.PullEnd.TheVariants as Pull
+use Rattle.folder_walk.specs.declared.refusals.DumpRefusal.{DumpRefusal}
+use Rattle.folder_walk.specs.declared.refusals.DumpRefusal.TheVariants as Dump
 use Rattle.folder_restore.specs.declared.refusals.RestoreRefusal.{RestoreRefusal}
 use Rattle.folder_restore.specs.declared.refusals.RestoreRefusal.TheVariants as Restore
 use Rattle.admin_cli.specs.declared.note.Note.{Note}
@@ -30,9 +33,9 @@ use Rattle.admin_cli.specs.Nights.{note_of_all, note_of_night}
 use Rattle.admin_cli.specs.Migrations.{note_of_migration}
 use Rattle.admin_cli.specs.Demos.{note_of_demo}
 use Rattle.admin_cli.specs.Pulls.{note_of_pull}
-use Rattle.admin_cli.specs.Folders.{note_of_rule, note_of_call, note_of_restore, Restores}
+use Rattle.admin_cli.specs.Folders.{note_of_rule, note_of_call, note_of_dump, note_of_restore, Dumps, Restores}
 use Rattle.admin_cli.specs.Run.{LeadsOnDisk}
-use Rattle.admin_cli.proofs.OtherLaws.{AreOthers, rose_since, night_others, migration_others, demo_others, restored_others, stopped_others}
+use Rattle.admin_cli.proofs.OtherLaws.{AreOthers, rose_since, night_others, migration_others, demo_others, dump_others, aborted_others, restored_others, stopped_others}
 use Rattle.admin_cli.proofs.PullCalls.{EndedBy}
 
 -- ---- the last call failed
@@ -57,6 +60,11 @@ failed_among : (refusal : Refusal) (before : List Call) (event : Event) (behind 
     → HasFailed (before ++ (event, Err refusal) ∷ behind)
 failed_among refusal [] event behind of = failed_call refusal event behind of
 failed_among refusal (call ∷ before) event behind of = inr (failed_among refusal before event behind of)
+
+failed_ahead : (calls behind : List Call) → HasFailed calls → HasFailed (calls ++ behind)
+failed_ahead [] behind has = absurd has
+failed_ahead (call ∷ calls) behind (inl is) = inl is
+failed_ahead (call ∷ calls) behind (inr has) = inr (failed_ahead calls behind has)
 
 -- ---- what the note says
 
@@ -150,6 +158,26 @@ module _ {D : Type 0} (d : DiskGhosts D) (digest_of : List ℕ → List ℕ) (di
   pub pull_fails : (calls : List Call) → LeadsOnDisk d digest_of halted disk calls disk' → AreOthers calls → (host : List ℕ) (end : PullEnd)
       → EndedBy end calls → note_of_pull host end halted ≡ N.DiskFailed → HasRisen
   pull_fails calls leads others host end ended e = pull_rose calls leads others host end ended e
+
+  pub dump_fails : (told : Option Tree) (moments moments' : Option (List ℕ)) (kind : Kind) (host : List ℕ) (result : Result ℕ DumpRefusal)
+      (failed : Bool) → Dumps (LeadsOnDisk d digest_of halted) disk disk' told moments moments' kind host result
+      → note_of_dump result failed halted ≡ N.DiskFailed → HasRisen
+  dump_fails told moments moments' kind host (Ok number) failed is e =
+      rose_halted is.calls is.moved (dump_others is.calls is.of_dump) (all_said failed halted e)
+  dump_fails told moments moments' kind host (Err (Dump.Refused refusal)) failed is e =
+      rose_called (is.calls ++ is.aborts) is.moved (aborted_others is.calls is.aborts is.of_dump is.aborted) refusal
+      (λ of. failed_ahead is.calls is.aborts (failed_refused refusal is.calls of is.so)) e
+  dump_fails told moments moments' kind host (Err (Dump.BadPath rule)) failed is e =
+      rose_halted (is.calls ++ is.aborts) is.moved (aborted_others is.calls is.aborts is.of_dump is.aborted)
+      (rule_said N.BadPath halted (λ same. let no : ⊥ = cc (same) in no) e)
+  dump_fails told moments moments' kind host (Err Dump.BadTarget) failed is e =
+      rose_halted (is.calls ++ is.aborts) is.moved (aborted_others is.calls is.aborts is.of_dump is.aborted)
+      (rule_said N.BadTarget halted (λ same. let no : ⊥ = cc (same) in no) e)
+  dump_fails told moments moments' kind host (Err Dump.FileTooLarge) failed is e =
+      rose_halted (is.calls ++ is.aborts) is.moved (aborted_others is.calls is.aborts is.of_dump is.aborted)
+      (rule_said N.FileTooLarge halted (λ same. let no : ⊥ = cc (same) in no) e)
+  dump_fails told moments moments' kind host (Err Dump.Folder) failed is e = let no : ⊥ = cc (e) in absurd no
+  dump_fails told moments moments' kind host (Err Dump.Memory) failed is e = let no : ⊥ = cc (e) in absurd no
 
   pub restore_fails : (told told' : Option Tree) (host : List ℕ) (number : ℕ) (result : Result ℕ RestoreRefusal) (failed : Bool)
       → Restores (LeadsOnDisk d digest_of halted) disk disk' told told' host number result

@@ -53,7 +53,7 @@ use Rattle.admin_cli.proofs.ReadForeign.{restore_names}
 use Rattle.admin_cli.proofs.EndLaws.{rule_ends, call_ends, all_ends, said_rose}
 use Rattle.admin_cli.proofs.FolderStops.{refused_at_work, wider}
 use Rattle.admin_cli.proofs.RefusalLaws.{file_of}
-use Rattle.admin_cli.proofs.CauseLaws.{restore_fails}
+use Rattle.admin_cli.proofs.CauseLaws.{dump_fails, restore_fails}
 use Rattle.admin_cli.proofs.RunLaws.{leads, EndsWell}
 
 -- ---- by how it ended
@@ -83,6 +83,7 @@ module _ {P Q : Type 0} (moves : P → List Call → P → Type 0) (others : Q �
     clock = is.clock;
     moved = move is.calls is.moved;
     answered = is.answered;
+    of_dump = is.of_dump;
     whole = is.whole;
   }
   dumps_over told moments moments' kind host (Err fault) is = record {
@@ -93,6 +94,7 @@ module _ {P Q : Type 0} (moves : P → List Call → P → Type 0) (others : Q �
     clock = is.clock;
     moved = move (is.calls ++ is.aborts) is.moved;
     so = is.so;
+    of_dump = is.of_dump;
     aborted = is.aborted;
     begins = is.begins;
   }
@@ -297,10 +299,11 @@ module _ {D N S : Type 0} {d : DiskGhosts D} {n : NamerGhosts N S} (disk : D) (s
           cause = λ a b stands.
               dump_cause d n.digest_of disk store'.parts.journal.disk halted' (f.tree folder) moments moments' kind host result a b stands dumps;
           later = dump_later port port' (f.tree folder) moments moments' kind host result port_is store_is made;
-          foreign = λ file tree is named.
+          foreign = λ file named.
               subst (λ (s : Store D N S d n). IsDamagedFile (told s.parts.journal) file) (sym store_is)
-              (dump_names port port' (f.tree folder) moments moments' kind host result failed halted' file tree is (is_tree folder tree is)
-              made named);
+              (dump_names port port' (f.tree folder) moments moments' kind host result failed halted' file made named);
+          stops = λ is.
+              dump_fails d n.digest_of disk store'.parts.journal.disk halted' (f.tree folder) moments moments' kind host result failed dumps is;
           note_is = refl;
         })
 

@@ -1,6 +1,6 @@
 -- Calls of which none is a reopening, and commands that have no other.
 --     IsOther event, AreOthers calls      it is no reopening; none of them is
---     night_others, migration_others, demo_others, restored_others, stopped_others      those of these commands
+--     night_others, migration_others, demo_others, dump_others, aborted_others, restored_others, stopped_others      those of these commands
 --     rose_since      a store is halted behind such calls only if the disk's count rose
 use Rattle.std.proofs.Common.{◌≡◌, ℕ, ℤ, List, [], ◌∷◌, ◌++◌, None, Some, Ok, ap, sym, subst, inl, inr}
 use Rattle.fault_counts.specs.Counts.{Rose}
@@ -23,6 +23,8 @@ use Rattle.migrate_work.specs.KeepingLaws.{of_migration}
 use Rattle.demo_work.specs.declared.ends.DemoEnd.{DemoEnd}
 use Rattle.demo_work.specs.CallLaws.{AreOfDemo, IsOfDemo, of_demo}
 use Rattle.demo_work.specs.Ends.{Ends as DemoEnds}
+use Rattle.folder_walk.specs.Events.{IsOfDump, AreOfDump}
+use Rattle.folder_walk.specs.Dumps.{AreAborts}
 use Rattle.folder_restore.specs.declared.refusals.RestoreRefusal.{RestoreRefusal}
 use Rattle.folder_restore.specs.declared.refusals.RestoreRefusal.TheVariants as Restore
 use Rattle.folder_restore.specs.RestoreScript.{read_script, restore_script}
@@ -112,6 +114,31 @@ all_show (call ∷ calls) of = (shows call.0 of.0, all_show calls of.1)
 
 pub demo_others : (number : ℕ) (end : DemoEnd) (calls : List Call) → DemoEnds number end calls → AreOthers calls
 demo_others number end calls ends = all_show calls (of_demo number end calls ends)
+
+-- ---- a dump of a folder
+
+dumps : (event : Event) → IsOfDump event → IsOther event
+dumps E.Reopen of = absurd of
+dumps event of = tt
+
+pub dump_others : (calls : List Call) → AreOfDump calls → AreOthers calls
+dump_others [] of = tt
+dump_others (call ∷ calls) of = (dumps call.0 of.0, dump_others calls of.1)
+
+none_others : (calls : List Call) → calls ≡ [] → AreOthers calls
+none_others calls is = subst AreOthers (sym is) tt
+
+aborts_others : (calls aborts : List Call) → AreAborts calls aborts → AreOthers aborts
+aborts_others ((asked, Ok (A.Dump dump)) ∷ calls) aborts are = subst AreOthers (sym are.1) (tt, tt)
+aborts_others calls aborts are = none_others aborts are
+
+AreOthers-append : (xs ys : List Call) → AreOthers xs → AreOthers ys → AreOthers (xs ++ ys)
+AreOthers-append [] ys first rest = rest
+AreOthers-append (x ∷ xs) ys first rest = (first.0, AreOthers-append xs ys first.1 rest)
+
+-- one that was refused, with its abort
+pub aborted_others : (calls aborts : List Call) → AreOfDump calls → AreAborts calls aborts → AreOthers (calls ++ aborts)
+aborted_others calls aborts of are = AreOthers-append calls aborts (dump_others calls of) (aborts_others calls aborts are)
 
 -- ---- a restore
 

@@ -112,8 +112,8 @@ module _ {D : Type 0} (d : DiskGhosts D) (digest_of : List ℕ → List ℕ) whe
   module _ {F : Type 0} (f : FolderGhosts F) where
     -- The words ask for `dump-folder`, the store was opened, and the folder was dumped: its calls, which are the script of a dump of its
     -- tree, lead from the disk that came in to that handed back, and its line, if it was committed, was said on the link. Then, if the
-    -- folder tells its tree, the disk stands for an office in which that is the backup's; and over any disk a file is named only if it is
-    -- one that the disk handed back has damaged.
+    -- folder tells its tree, the disk stands for an office in which that is the backup's. Over any disk, whatever the folder tells, a file
+    -- is named only if it is one that the disk handed back has damaged, and the disk is said to have failed only if its count rose.
     pub record DumpsFolder (disk disk' : D) (line : Option Line) (settings : List ℕ) (link link' : LinkSeen)
         (moments moments' : Option (List ℕ)) (folder folder' : F) (note : Note) : Type 0 where
       pub host : List ℕ
@@ -135,8 +135,8 @@ module _ {D : Type 0} (d : DiskGhosts D) (digest_of : List ℕ → List ℕ) whe
           → HasDumpCause result (d.fault_count disk) (d.fault_count disk')
           × (halted ≡ true → Rose (d.fault_count disk) (d.fault_count disk'))
       pub later : d.fault_count disk ≤ d.fault_count disk'
-      pub foreign : (file : FileId) (tree : Tree) → f.tree folder ≡ Some tree → note ≡ N.Foreign file
-          → IsDamagedFile (option_map seen (d.files disk')) file
+      pub foreign : (file : FileId) → note ≡ N.Foreign file → IsDamagedFile (option_map seen (d.files disk')) file
+      pub stops : note ≡ N.DiskFailed → Rose (d.fault_count disk) (d.fault_count disk')
       pub note_is : note ≡ note_of_dump result failed halted
 
     -- The words ask for `restore-folder`, the store was opened, and the backup was restored: its calls, which are the script of a

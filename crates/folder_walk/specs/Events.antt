@@ -1,6 +1,6 @@
--- Which events a dump calls, whatever the folder tells and whatever was answered.
---     IsOfDump      one of them: no reopening is, and no event that reads a file's bytes
---     AreOfDump      all of these calls are of them
+-- Which events a dump calls up to its commit, whatever the folder tells and whatever was answered.
+--     IsOfDump      one of them: no reopening is, and none that reads a file's bytes
+--     AreOfDump      each of these calls is of one
 use Rattle.std.specs.Prelude.{List, [], ◌∷◌, ⊤}
 use Rattle.office_model.specs.declared.event.Event.{Event}
 use Rattle.office_model.specs.declared.event.Event.TheVariants as E
@@ -16,7 +16,6 @@ IsOfDump (E.StageOpen dump) = ⊤
 IsOfDump (E.StagePiece stage bytes) = ⊤
 IsOfDump (E.StageDrop stage) = ⊤
 IsOfDump (E.Commit dump now) = ⊤
-IsOfDump (E.Abort dump) = ⊤
 IsOfDump event = ⊥
 
 abbrev pub AreOfDump : List Call → Type 0

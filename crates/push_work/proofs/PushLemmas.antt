@@ -33,6 +33,7 @@ module _ {P Q : Type 0} (moves : P → List Call → P → Type 0) (others : Q �
     clock = d.clock;
     moved = seen old new d.calls d.moved;
     answered = d.answered;
+    of_dump = d.of_dump;
     whole = d.whole;
   }
   dumps-seen seen old new (Err fault) none d = record {
@@ -43,6 +44,7 @@ module _ {P Q : Type 0} (moves : P → List Call → P → Type 0) (others : Q �
     clock = d.clock;
     moved = seen old new _ d.moved;
     so = d.so;
+    of_dump = d.of_dump;
     aborted = d.aborted;
     begins = d.begins;
   }

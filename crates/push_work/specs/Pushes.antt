@@ -46,9 +46,10 @@ pub record IsBehindWire (wire link : LinkSeen) : Type 0 where
   pub sent : link.sent ≡ wire.sent
   pub faults : link.faults ≡ wire.faults
 
--- A folder was dumped over a link. The calls are the script of a dump of its tree, whole or up to what was refused, and lead over the
--- connection: on it stand their requests alone, and what was taken of its input are their responses. How it ended is what came of them;
--- the link's count rose exactly if the port ended by it. The folder is as it was.
+-- A folder was dumped over a link. The calls are the script of a dump of its tree, whole or up to what was refused, where it tells one,
+-- and are of events of a dump in any case. They lead over the connection: on it stand their requests alone, and what was taken of its
+-- input are their responses. How it ended is what came of them; the link's count rose exactly if the port ended by it. The folder is as
+-- it was.
 pub record Pushes {F : Type 0} (f : FolderGhosts F) (link link' : LinkSeen) (folder folder' : F) (moments moments' : Option (List ℕ))
     (kind : Kind) (host : List ℕ) (end : PushEnd) : Type 0 where
   pub result : Result ℕ DumpRefusal
