@@ -240,7 +240,7 @@ module _ (office : Office) (differ : Differ (λ (host : Host). host.name) office
       by event (Ok answer) (Running after names') step rest asked answered follows =
           let is : E.Hosts ≡ event = cc (asked) in
           let carried : HostsEvent.carried office ≡ Ok (record { answer = answer; after = after }) =
-          subst (λ (e : Event). (meaning_of e).carried office names ≡ Ok (record { answer = answer; after = after })) (sym is) step.0 in
+          subst (λ (e : Event). IsMade (meaning_of e).pools names office ((meaning_of e).carried office names) answer after) (sym is) step.0 in
           let both = hosts_carried office after answer carried in
           let same = both.0 in
           let named = both.1 in
