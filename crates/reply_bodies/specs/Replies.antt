@@ -4,7 +4,7 @@
 --     long_body      the body of the others, among them the bytes of a frame
 --     refusal_fields      the members that say why an event was refused
 -- The bytes of a file are a body as they are.
-use Rattle.std.specs.Prelude.{ℕ, Bool, true, false, ◌+◌, ◌/◌, ◌%◌, List, [], ◌∷◌, ◌++◌, map, codes, Option, Some, None}
+use Rattle.std.specs.Prelude.{ℕ, Bool, true, false, ◌+◌, ◌/◌, ◌%◌, List, [], ◌∷◌, ◌++◌, length, map, codes, Option, Some, None}
 use Rattle.std.specs.Option.{option_map}
 use Rattle.disk_trait.specs.Names.{real_name}
 use Rattle.attr_records.specs.Attributes.{Attributes}
@@ -66,6 +66,7 @@ short_fields event (A.Due blackout kind) = Some ((codes "blackout", Flag blackou
 short_fields event (A.Cleaned marked unmarked removed) =
     Some ((codes "marked", Count marked) ∷ (codes "removed", Count removed) ∷ (codes "unmarked", Count unmarked) ∷ [])
 short_fields event (A.Stats stats) = Some (stats_fields stats)
+short_fields event (A.PoolItems items) = Some ((codes "files", Count (length items)) ∷ [])
 short_fields event (A.Reopened epoch) = Some ((codes "epoch", Count epoch) ∷ [])
 short_fields event answer = None
 

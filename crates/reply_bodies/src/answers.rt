@@ -40,6 +40,7 @@ pub fn answer_text(event: &Event, answer: &Answer) -> Option<ShortText>
             removed,
         } => Some(cleaned_text(*marked, *unmarked, *removed)),
         Answer::Stats(stats) => Some(stats_text(stats)),
+        Answer::PoolItems(items) => Some(counted(b"files", items.as_slice().len() as u64)),
         Answer::Reopened(epoch) => Some(counted(b"epoch", *epoch)),
         _ => None,
     }
