@@ -1,6 +1,6 @@
 use attr_records::{Attr, Dir, File, HostName, Item, Link, LinkTarget, PathName};
 use backup_rules::{Kind, Period, Periods, RuleChange, Rules, Setting};
-use disk_trait::Bytes;
+use disk_trait::{Bytes, PoolId};
 use office_model::{Event, PIECE_LIMIT, PutItem, SessionName, StagedFile, Token};
 use std::alloc::Global;
 use std::test::Fail;
@@ -24,6 +24,8 @@ pub enum Ask {
     RemoveWith(u64, &'static str, u16),
     Stage(u64),
     Piece(u64, &'static str),
+    /// Of as many bytes as a piece may have, each an x.
+    FullPiece(u64),
     LongPiece(u64),
     StageDrop(u64),
     PutStage(u64, &'static str, u64),
@@ -60,6 +62,9 @@ pub enum Ask {
     Stats,
     Hosts,
     Backups(&'static str),
+    PoolList(u8),
+    /// From a place on.
+    PoolPiece(PoolId, u64),
     Reopen,
 }
 
@@ -127,9 +132,9 @@ fn put_stage(
     })
 }
 
-/// So many bytes.
+/// So many bytes, each an x.
 fn long_piece(alloc: Global, count: usize) -> Result<Bytes, Fail> {
-    Ok(Bytes::from_vec(vec![in alloc; 0; count]?))
+    Ok(Bytes::from_vec(vec![in alloc; b'x'; count]?))
 }
 
 fn file(alloc: Global, text: &str) -> Result<Item, Fail> {
@@ -190,6 +195,10 @@ fn session_event(alloc: Global, ask: Ask) -> Result<Event, Fail> {
         Ask::Piece(stage, text) => Ok(Event::StagePiece {
             stage,
             bytes: Bytes::from_slice(alloc, text.as_bytes())?,
+        }),
+        Ask::FullPiece(stage) => Ok(Event::StagePiece {
+            stage,
+            bytes: long_piece(alloc, PIECE_LIMIT)?,
         }),
         Ask::LongPiece(stage) => Ok(Event::StagePiece {
             stage,
@@ -327,6 +336,15 @@ fn token_event(alloc: Global, ask: Ask) -> Result<Event, Fail> {
     }
 }
 
+/// An event of the pool's contents, or one with a token.
+fn pool_event(alloc: Global, ask: Ask) -> Result<Event, Fail> {
+    match ask {
+        Ask::PoolList(part) => Ok(Event::PoolList { part }),
+        Ask::PoolPiece(id, from) => Ok(Event::PoolPiece { id, from }),
+        _ => token_event(alloc, ask),
+    }
+}
+
 /// The event that an ask stands for.
 pub fn event_of(alloc: Global, ask: Ask) -> Result<Event, Fail> {
     match ask {
@@ -374,6 +392,6 @@ pub fn event_of(alloc: Global, ask: Ask) -> Result<Event, Fail> {
         Ask::Backups(name) => Ok(Event::Backups {
             host: host(alloc, name)?,
         }),
-        _ => token_event(alloc, ask),
+        _ => pool_event(alloc, ask),
     }
 }

@@ -5,9 +5,11 @@
 #![tactic(auto)]
 
 mod asks;
+mod contents;
 mod rows;
 mod texts;
 
 pub use asks::{Ask, event_of};
+pub use contents::{CHAIN_EXAMPLES, POOL_EXAMPLES};
 pub use rows::{DUMP_EXAMPLES, RETRY_EXAMPLES, TREE_EXAMPLES};
 pub use texts::{expect_step, expect_steps, text_of};

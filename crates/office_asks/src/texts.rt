@@ -1,6 +1,7 @@
 use crate::asks::{Ask, event_of};
 use backup_rules::Line;
-use office_model::{Answer, Frame, Node, Port, Refusal};
+use disk_trait::Bytes;
+use office_model::{Answer, Frame, Node, PIECE_LIMIT, PoolItemList, Port, Refusal};
 use std::alloc::Global;
 use std::test::Fail;
 
@@ -20,6 +21,27 @@ fn lines_text(alloc: Global, lines: &[Line]) -> Result<String, Fail> {
         text.push_str(&format!(in alloc; "{number} {filled} ")?)?;
     }
     Ok(text)
+}
+
+/// The name, the size and the mark of each content.
+fn pool_text(alloc: Global, list: &PoolItemList) -> Result<String, Fail> {
+    let mut text = String::new(alloc);
+    for item in list.as_slice() {
+        let digest = hex::encode(alloc, &item.id.digest)?;
+        let (extension, size) = (item.id.extension, item.size);
+        let marked = if item.mark { "marked" } else { "unmarked" };
+        text.push_str(&format!(in alloc; "{digest}.{extension} {size} {marked} ")?)?;
+    }
+    Ok(text)
+}
+
+/// Bytes as they stand, or how many they are, if they fill a piece.
+fn bytes_text(alloc: Global, bytes: &Bytes) -> Result<String, Fail> {
+    if bytes.len() >= PIECE_LIMIT {
+        return Ok(format!(in alloc; "{} bytes", bytes.len())?);
+    }
+    let text = String::from_utf8_lossy(alloc, bytes.as_slice())?;
+    Ok(format!(in alloc; "{text}")?)
 }
 
 fn frame_text(alloc: Global, frame: &Frame) -> Result<String, Fail> {
@@ -59,10 +81,7 @@ fn answer_text(alloc: Global, answer: Answer) -> Result<String, Fail> {
             start,
         } => Ok(format!(in alloc; "{entries} {kind:?} {start}")?),
         Answer::Opened { reader, size } => Ok(format!(in alloc; "reader {reader} of {size}")?),
-        Answer::Content(bytes) | Answer::Part(bytes) => Ok(format!(in alloc;
-            "{}",
-            String::from_utf8_lossy(alloc, bytes.as_slice())?
-        )?),
+        Answer::Content(bytes) | Answer::Part(bytes) => bytes_text(alloc, &bytes),
         Answer::Contacts { good, bad } => Ok(format!(in alloc; "good {good} bad {bad}")?),
         Answer::Due { blackout, kind } => Ok(format!(in alloc; "{blackout} {kind:?}")?),
         Answer::Cleaned {
@@ -79,6 +98,7 @@ fn answer_text(alloc: Global, answer: Answer) -> Result<String, Fail> {
             let lines = lines_text(alloc, lines.as_slice())?;
             Ok(format!(in alloc; "{lines}next {next} dump {}", dump.is_some())?)
         }
+        Answer::PoolItems(list) => pool_text(alloc, &list),
         Answer::Reopened(epoch) => Ok(format!(in alloc; "epoch {epoch}")?),
         Answer::Next(frame) => frame_text(alloc, &frame),
         Answer::Done => Ok(String::from_str(alloc, "done")?),

@@ -1,5 +1,8 @@
-use office_asks::{Ask, DUMP_EXAMPLES, RETRY_EXAMPLES, TREE_EXAMPLES, expect_step, expect_steps};
-use pool_name::Md5Namer;
+use office_asks::{
+    Ask, CHAIN_EXAMPLES, DUMP_EXAMPLES, POOL_EXAMPLES, RETRY_EXAMPLES, TREE_EXAMPLES, expect_step,
+    expect_steps,
+};
+use pool_name::{FirstByteNamer, Md5Namer};
 use std::alloc::Global;
 use std::test::Fail;
 use tree_office::TreeOffice;
@@ -25,6 +28,20 @@ fn the_office_answers_of_trees_by_its_rules(rt: HostRuntime) -> Result<(), Fail>
 #[test]
 fn the_office_answers_retries_by_its_rules(rt: HostRuntime) -> Result<(), Fail> {
     expect_examples(rt.alloc(), RETRY_EXAMPLES)
+}
+
+#[test]
+fn the_office_answers_of_its_pool_by_its_rules(rt: HostRuntime) -> Result<(), Fail> {
+    expect_examples(rt.alloc(), POOL_EXAMPLES)
+}
+
+#[test]
+fn contents_of_one_digest_have_names_of_their_own(rt: HostRuntime) -> Result<(), Fail> {
+    let alloc = rt.alloc();
+    for steps in CHAIN_EXAMPLES {
+        expect_steps(alloc, &mut TreeOffice::new(alloc, FirstByteNamer), steps)?;
+    }
+    Ok(())
 }
 
 // A dump of the one host with a token, committed: of the same number.
