@@ -2,11 +2,12 @@
 
 use disk_trait::{DiskRoom, MemoryDisk};
 use office_asks::{
-    Ask, DUMP_EXAMPLES, RETRY_EXAMPLES, TREE_EXAMPLES, event_of, expect_step, expect_steps, text_of,
+    Ask, CHAIN_EXAMPLES, DUMP_EXAMPLES, POOL_EXAMPLES, RETRY_EXAMPLES, TREE_EXAMPLES, event_of,
+    expect_step, expect_steps, text_of,
 };
 use office_model::Port;
 use office_store::{DirectPort, Store};
-use pool_name::Md5Namer;
+use pool_name::{FirstByteNamer, Md5Namer};
 use std::alloc::Global;
 use std::test::Fail;
 
@@ -120,4 +121,28 @@ fn a_store_answers_of_trees_as_the_office_in_memory_does(rt: HostRuntime) -> Res
 #[test]
 fn a_store_answers_retries_as_the_office_in_memory_does(rt: HostRuntime) -> Result<(), Fail> {
     expect_examples(rt.alloc(), RETRY_EXAMPLES)
+}
+
+#[test]
+fn a_store_answers_of_its_pool_as_the_office_in_memory_does(rt: HostRuntime) -> Result<(), Fail> {
+    expect_examples(rt.alloc(), POOL_EXAMPLES)
+}
+
+/// The port of the store of a disk without files, where a content's digest is its first byte.
+fn open_chained(alloc: Global) -> Result<DirectPort<MemoryDisk, FirstByteNamer>, Fail> {
+    match Store::open(alloc, blank_disk(alloc, &[])?, FirstByteNamer) {
+        Ok(store) => Ok(DirectPort::new(store)),
+        Err(_) => Err(Fail::new("not opened")),
+    }
+}
+
+#[test]
+fn a_store_gives_contents_of_one_digest_the_names_that_the_office_in_memory_gives(
+    rt: HostRuntime,
+) -> Result<(), Fail> {
+    let alloc = rt.alloc();
+    for steps in CHAIN_EXAMPLES {
+        expect_steps(alloc, &mut open_chained(alloc)?, steps)?;
+    }
+    Ok(())
 }
