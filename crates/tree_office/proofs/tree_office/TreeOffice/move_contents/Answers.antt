@@ -12,8 +12,8 @@ use Rattle.tree_office.proofs.tree_office.TreeOffice.move_contents.Goals as goal
 pub apply-requires : goal.apply-requires
 apply-requires g c = subst (λ (n : Numbers). AreGivenOut n.stage n.reader c.self.inside.office.volatile) (sym c.numbers-numbers.ensures) c.self.invariant.given
 
-pub invariant_of-self-in-Ok : goal.invariant_of-self-in-Ok
-invariant_of-self-in-Ok g c =
+pub invariant_of-self : goal.invariant_of-self
+invariant_of-self g c =
     let made = subst (λ (n : Numbers). IsMemoryStep (judged_by g.N.Namer.digest_of false n c.args.event.now c.self.inside.office) c.self.inside.office (Ok c.in-Ok.answer) c.apply.new.self) c.numbers-numbers.ensures c.in-Ok.ensures in
     let ids = c.take_ids.ensures ∙ ap (λ (all : Ids). with_ids c.apply.new.self (pooled_in c.apply.new.self.pool all)) c.in_ok-ids.ensures in
     subst (λ (o : Office). AreNames g.N.Namer.digest_of o c.self.inside.table) (sym ids)
@@ -29,8 +29,8 @@ returns-in-Ok-clause-step g c =
     (state_of g.N.Namer.digest_of (record { office = with_ids c.apply.new.self (pooled_in c.apply.new.self.pool (ids_named [] c.self.inside.table.names)); table = c.self.inside.table }))) c.self.view_is
     (step_moved g.N.Namer.digest_of c.self.inside.office c.self.inside.table c.self.invariant c.sound.ensures c.args.event.now c.requires c.in-Ok.answer c.apply.new.self made))
 
-pub invariant_of-self-in-Err : goal.invariant_of-self-in-Err
-invariant_of-self-in-Err g c =
+pub invariant_of-self-in-Err-1 : goal.invariant_of-self-in-Err-1
+invariant_of-self-in-Err-1 g c =
     names_refused g.N.Namer.digest_of c.self.inside.office c.self.inside.table c.self.invariant _ c.in-Err.refusal c.apply.new.self c.in-Err.ensures
 
 pub returns-in-Err-clause-step : goal.returns-in-Err-clause-step
