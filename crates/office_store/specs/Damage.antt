@@ -1,21 +1,22 @@
 -- What an answer says of the files that its event called for, over any disk that tells its files.
 --     IsStill none old reply new      an event that finds nothing to be done reads and writes nothing
 --     IsThere old event reply      Ok and Damaged are said only of a host, a restore or a reader that is there
---     NextSays, PartSays, PutSays, SweepSays, ReopeningSays      of a restore's next frame, of a reader's next part, of a put, of a sweep and
---         of a reopening
+--     NextSays, PartSays, PutSays, SweepSays, ListSays, ReopeningSays      of a restore's next frame, of a reader's next part, of a put, of a
+--         sweep, of a listing of the pool and of a reopening
 --     SaysOfFiles old event reply new      Ok is said only if they were there, each in its grammar or with its digest; Damaged names one
 --         that wasn't, with what was found of it
 --     TellsDamage old event reply new      both, if the store didn't answer that it is halted
 --     WritesNoFile event      an abort, and what opens a restore or gives its next frame
 --     LeavesTold old event reply new      what the disk tells is as before behind such an event, and behind one that found a damaged file, but for
 --         a reopening and the put of a stage
-use Rattle.std.specs.Prelude.{⊤, ◌≡◌, ℕ, [], ◌∷◌, Some, Ok, Err, OnOk, slice_get}
+use Rattle.std.specs.Prelude.{⊤, ◌≡◌, ℕ, [], ◌∷◌, Some, Ok, Err, IfOk, OnOk, slice_get}
 use Rattle.disk_trait.specs.Files.{Files}
 use Rattle.disk_trait.specs.declared.disk.Disk.{Ghosts as DiskGhosts}
 use Rattle.pool_name.specs.declared.namer.Namer.{Ghosts as NamerGhosts}
 use Rattle.backup_index.specs.Index.{Index}
 use Rattle.journal_view.specs.View.{told}
 use Rattle.office_catalog.specs.Known.{host_named, names_of}
+use Rattle.pool_changes.specs.Listed.{index_of}
 use Rattle.office_model.specs.declared.answer.Answer.{Answer}
 use Rattle.office_model.specs.declared.answer.Answer.TheVariants.{Cleaned, Expired}
 use Rattle.office_model.specs.declared.event.Event.{Event}
@@ -32,6 +33,7 @@ use Rattle.open_sessions.specs.Places.{next_in}
 use Rattle.store_parts.specs.declared.parts.StoreParts.{StoreParts}
 use Rattle.store_parts.specs.FoundLaws.{reader_place}
 use Rattle.store_parts.specs.Runs.{CopiesNone}
+use Rattle.store_parts.specs.States.{slots}
 use Rattle.store_dumps.specs.Opening.{OpensDump}
 use Rattle.store_dumps.specs.Resuming.{ResumesDump}
 use Rattle.store_partials.specs.Heeding.{HeedsPartial, IsKnownFor, IsKnownNamed}
@@ -43,6 +45,8 @@ use Rattle.store_restores.specs.Opening.{SaysOpened}
 use Rattle.store_readers.specs.Finding.{HasReader}
 use Rattle.store_readers.specs.Giving.{GivesPart}
 use Rattle.store_readers.specs.Opening.{OpensFile}
+use Rattle.store_checks.specs.Giving.{GivesPiece}
+use Rattle.store_checks.specs.Listing.{ListsPart}
 use Rattle.store_cleaning.specs.StageFiles.{OnlyOpen}
 use Rattle.store_commits.specs.Tables.{HeedsTables, HeedsAdopted}
 use Rattle.store_deletions.specs.Called.{SaysOfTables, HasHost}
@@ -87,6 +91,10 @@ module _ {D N S : Type 0} {d : DiskGhosts D} {n : NamerGhosts N S} where
   SweepSays old reply new = IsUndamaged reply
       × OnOk reply ((all : Files) → told old.journal ≡ Some all → OnlyOpen old.sessions.stages.items.items all (told new.journal))
 
+  -- a listing of a part of the pool calls for no file: it is that of the index in memory
+  abbrev pub ListSays : StoreParts D N S d n → ℕ → Reply → Type 0
+  ListSays old part reply = IsUndamaged reply × IfOk reply (ListsPart (index_of (slots old)) part)
+
   -- after Ok the parts have what the files hold, and no other file is there
   abbrev pub ReopeningSays : StoreParts D N S d n → Reply → StoreParts D N S d n → Type 0
   ReopeningSays old (Ok answer) new = HasAllOf new
@@ -127,6 +135,8 @@ module _ {D N S : Type 0} {d : DiskGhosts D} {n : NamerGhosts N S} where
       × IsStill (Expired 0) old reply new
   SaysOfFiles old (E.Migrate host) reply new = SaysOfMigration old host reply new
   SaysOfFiles old (E.Clean bucket) reply new = IsUndamaged reply × IsStill (Cleaned 0 0 0) old reply new
+  SaysOfFiles old (E.PoolList part) reply new = ListSays old part reply
+  SaysOfFiles old (E.PoolPiece id from) reply new = GivesPiece old id from reply
   SaysOfFiles old E.Reopen reply new = ReopeningSays old reply new
   SaysOfFiles old event reply new = IsUndamaged reply
 

@@ -29,6 +29,7 @@ abbrev pub NamesTables : Event → Type 0
 NamesTables (E.ReadFile host number path) = ⊥
 NamesTables (E.ReadPart number) = ⊥
 NamesTables (E.ReadNext restore) = ⊥
+NamesTables (E.PoolPiece id from) = ⊥
 NamesTables E.Reopen = ⊥
 NamesTables event = ⊤
 
@@ -142,9 +143,11 @@ module _ {D N S : Type 0} {d : DiskGhosts D} {n : NamerGhosts N S} where
       let said = says.1 in table_of (told old.journal) said.place _ file found said.damaged
   by_event old new (E.Clean bucket) file found names says = absurd says.1.0
   by_event old new E.Sweep file found names says = absurd says.1.0
+  by_event old new (E.PoolList part) file found names says = absurd says.1.0
   by_event old new (E.ReadFile host number path) file found names says = absurd names
   by_event old new (E.ReadPart number) file found names says = absurd names
   by_event old new (E.ReadNext restore) file found names says = absurd names
+  by_event old new (E.PoolPiece id from) file found names says = absurd names
   by_event old new E.Reopen file found names says = absurd names
   by_event old new event file found names says = absurd says.1
 

@@ -29,10 +29,12 @@ is_reopen Reopen = true
 is_reopen event = false
 
 -- A reopening leaves one of the state's two offices, or one of them in its next epoch; any other event of an office at work
--- what is durable of it before or after; of a halted one its two offices.
+-- what is durable of it before or after, as judged or, where contents may join or leave the pool, but for the ids; of a halted one its two
+-- offices.
 abbrev pub LeftBy : (List ℕ → List ℕ) → Bool → State → Event → Files → Type 0
 LeftBy digest_of true state event found = MayLeave digest_of (first_of state) (second_of state) found
-LeftBy digest_of false (Running office names) event found = MayRecoverOf digest_of office ((meaning_of event).carried office names) found
+LeftBy digest_of false (Running office names) event found =
+    MayRecoverOf digest_of (meaning_of event).pools names office ((meaning_of event).carried office names) found
 LeftBy digest_of false (Halted a b names) event found = IsEither digest_of a b found
 
 abbrev pub MayRecover : (List ℕ → List ℕ) → State → Event → Files → Type 0

@@ -58,7 +58,7 @@ module _ {D N S : Type 0} {d : DiskGhosts D} {n : NamerGhosts N S} where
       old.parts.journal (λ found is. inl is) (found_either old state at)
   left_at_start old (Running office names) event false at =
       found_running old office names (LeftBy n.digest_of false (Running office names) event) at
-      (recover_before n.digest_of office ((meaning_of event).carried office names))
+      (recover_before n.digest_of (meaning_of event).pools names office ((meaning_of event).carried office names))
   left_at_start old (Halted a b names) event false at = at.may_be.each
 
   pub start_found : (old : Store D N S d n) (state : State) (event : Event) → InState old.parts state

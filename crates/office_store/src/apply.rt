@@ -11,6 +11,7 @@ use disk_trait::Disk;
 use office_model::{Answer, Event, PutItem, Refusal};
 use pool_name::Namer;
 use std::alloc::Global;
+use store_checks::{pool_list, pool_piece};
 use store_cleaning::{clean, sweep};
 use store_commits::{adopt_dump, commit_dump};
 use store_deletions::{delete, expire};
@@ -104,6 +105,8 @@ fn carry_out<D: Disk, N: Namer>(
         Event::Stats => stats(parts),
         Event::Hosts => hosts(parts, alloc),
         Event::Backups { host } => backups(parts, alloc, host),
+        Event::PoolList { part } => pool_list(parts, alloc, *part),
+        Event::PoolPiece { id, from } => pool_piece(parts, alloc, *id, *from),
         Event::Reopen => unreachable!(),
     }
 }

@@ -102,7 +102,7 @@ fn expect_reply(alloc: Global, parts: &mut Parts, ask: Ask, reply: &str) -> Resu
 }
 
 /// Asks for each, and fails where one has another reply.
-fn expect_replies(alloc: Global, parts: &mut Parts, steps: Steps) -> Result<(), Fail> {
+pub fn expect_replies(alloc: Global, parts: &mut Parts, steps: Steps) -> Result<(), Fail> {
     for (ask, reply) in steps {
         expect_reply(alloc, parts, *ask, reply)?;
     }
@@ -117,7 +117,7 @@ fn add_piece(parts: &mut Parts, piece: &[u8]) -> Result<(), Fail> {
 }
 
 /// The parts of a store with an open dump, whose one stage has these bytes.
-fn parts_with_stage(alloc: Global, bytes: &[u8]) -> Result<Parts, Fail> {
+pub fn parts_with_stage(alloc: Global, bytes: &[u8]) -> Result<Parts, Fail> {
     let mut parts = blank_parts(alloc)?;
     expect_replies(alloc, &mut parts, OPENED)?;
     for piece in bytes.chunks(PIECE_LIMIT) {
@@ -127,7 +127,7 @@ fn parts_with_stage(alloc: Global, bytes: &[u8]) -> Result<Parts, Fail> {
 }
 
 /// Gives a file of the pool or of a stage other bytes, or takes it away.
-fn alter(parts: &mut Parts, file: FileId, bytes: Option<&[u8]>) -> Result<(), Fail>
+pub fn alter(parts: &mut Parts, file: FileId, bytes: Option<&[u8]>) -> Result<(), Fail>
     requires { is_data file ≡ true }
 {
     expect_ready(parts)?;
@@ -153,7 +153,7 @@ fn is_found(found: &Option<Bytes>, holds: Option<&[u8]>) -> bool {
 }
 
 /// Whether a reply says that a file is damaged, with what was found of it.
-fn is_damaged(reply: &Result<Answer, Refusal>, of: FileId, holds: Option<&[u8]>) -> bool {
+pub fn is_damaged(reply: &Result<Answer, Refusal>, of: FileId, holds: Option<&[u8]>) -> bool {
     match reply {
         Err(Refusal::Damaged { file, found }) => *file == of && is_found(found, holds),
         _ => false,
@@ -191,7 +191,7 @@ fn other_at_its_end(alloc: Global, bytes: &[u8]) -> Result<Vec<u8>, Fail> {
 }
 
 /// The pool's file of a content.
-fn pool_file(bytes: &[u8]) -> PoolId {
+pub fn pool_file(bytes: &[u8]) -> PoolId {
     PoolId {
         digest: Md5Namer.name(bytes),
         extension: 0,
