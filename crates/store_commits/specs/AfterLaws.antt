@@ -1,5 +1,6 @@
 -- The files after a planned commit stand for the office after it.
 --     stored_after      for the office that the parts hold
+--     ids_committed      its ids
 use Rattle.std.specs.Prelude.{◌≡◌, ℕ, ◌≤◌, true, false, not, List, ◌++◌, length, Option, Some, None, is_some, slice_get, slice_set}
 use Rattle.std.specs.Option.{option_map}
 use Rattle.std.proofs.Common.{refl, sym, ap, ◌∙◌, subst, arith}
@@ -32,6 +33,7 @@ use Rattle.office_catalog.specs.Held.{HoldsCatalog}
 use Rattle.office_catalog.specs.Known.{Known, with_line}
 use Rattle.office_model.specs.Office.{Office, Durable, Host, Names, IsSound, IsSoundDurable, IsSoundHost, backup_index}
 use Rattle.office_model.specs.PlacesLaws.{slice_get-set_same}
+use Rattle.office_model.specs.UsedNames.{AreIdsAfter}
 use Rattle.office_model.specs.Parts.{lines_of}
 use Rattle.office_model.specs.Pool.{Pool, with_tree}
 use Rattle.office_model.specs.events.Commit.{new_backup, with_commit}
@@ -43,6 +45,7 @@ use Rattle.office_files.specs.Pooled.{contents_of, IsListed}
 use Rattle.office_files.specs.Stands.{Stands}
 use Rattle.office_changes.specs.Commits.{IsListedWith}
 use Rattle.office_changes.specs.CommitLaws.{backups_alone}
+use Rattle.office_changes.specs.IdLaws.{ids_with}
 use Rattle.store_parts.specs.KnownOffice.{stands_catalog}
 use Rattle.office_changes.specs.ChangeLaws.{is_of_host, is_of_index}
 use Rattle.office_changes.specs.PoolLaws.{listed_with, told_with}
@@ -70,8 +73,9 @@ use Rattle.store_commits.specs.HostFileLaws.{index_after}
 use Rattle.store_commits.specs.HostAfterLaws.{IsBuiltOf, HostAfter, host_after}
 use Rattle.store_commits.specs.KeptLaws.{kept_after}
 use Rattle.store_commits.specs.OfficeLaws.{listed_rows, office_committed}
+use Rattle.store_commits.specs.MovedLaws.{ids_moved_by}
 use Rattle.store_commits.specs.ReadyLaws.{index_there}
-use Rattle.store_commits.specs.Committing.{office_after, IsMeant, IsStoredAfter}
+use Rattle.store_commits.specs.Committing.{office_after, named_by, IsMeant, IsStoredAfter}
 
 some_same : {A : Type 0} (a b : A) → Some a ≡ Some b → a ≡ b
 some_same a b e = cc
@@ -272,19 +276,22 @@ module _ {D N S : Type 0} {d : DiskGhosts D} {n : NamerGhosts N S} where
     abbrev with_pool : Pool → Durable
     with_pool pool = record office.durable { hosts = slice_set office.hosts number new; pool = pool }
 
+    abbrev with_names : Pool → Durable
+    with_names pool = record (with_pool pool) { ids = ids_with rows (contents_of at.all) office.ids }
+
     -- what is stored of the host then
     abbrev after : StoredHost
     after = backups_alone host_then.after
 
-    stands : Stands n.digest_of next (slice_set at.shown number after) image (with_pool (with_tree office.pool m.dump.tree))
-    stands = subst (λ tree. Stands n.digest_of next (slice_set at.shown number after) image (with_pool (with_tree office.pool tree)))
+    stands : Stands n.digest_of next (slice_set at.shown number after) image (with_names (with_tree office.pool m.dump.tree))
+    stands = subst (λ tree. Stands n.digest_of next (slice_set at.shown number after) image (with_names (with_tree office.pool tree)))
         (sym m.is.tree)
         (office_committed n.digest_of (slots parts) (uncertain parts.journal) at.all at.fits rows m.is.tree_rows.told at.shown image
         office.durable number m.host new after contents_are m.here refl stays host_then.beyond host_then.stands tells
         (subst (λ tree. IsSoundDurable (with_pool (with_tree office.pool tree))) m.is.tree sound.kept) at.stands)
 
     pub stored_after : IsStoredAfter parts at.all (ids_in rows) plan.changes (slice_set parts.counts number planned.counts)
-        (office_after office place m.dump m.host line)
+        (named_by rows (contents_of at.all) (office_after office place m.dump m.host line))
     stored_after = record {
       shown = slice_set at.shown number after;
       stands = stands;
@@ -292,3 +299,9 @@ module _ {D N S : Type 0} {d : DiskGhosts D} {n : NamerGhosts N S} where
       counted = pairs_set AreCounts parts.counts at.shown at.counted number planned.counts after host_then.counted;
       view = kept_after office.hosts at.shown number m.host new found.0 after m.here found.1 host_then.still parts.views.kept at.view;
     }
+
+    pub ids_committed : AreIdsAfter names office.durable (named_by rows (contents_of at.all) (office_after office place m.dump m.host line)).durable
+    ids_committed =
+        ids_moved_by parts office names at rows m.is.tree_rows.told plan.changes (slice_set at.shown number after)
+        (named_by rows (contents_of at.all) (office_after office place m.dump m.host line)).durable (planned_changes parts session line plan planned)
+        stands

@@ -1,5 +1,6 @@
 -- What a commit of an open dump is to the model, and the files that stand for the office after it.
---     office_after      the office after the commit
+--     office_after      the office after the commit, but for the ids
+--     named_by rows contents office      the office with the names of rows among its ids
 --     EndsAs parts event name place line      the event ends the open dump at a place as the backup of this line
 --     IsMeant, meant      the dump of the model that an open dump at a place is, and its host, which has no receipt of its token
 --     IsStoredAfter      files that stand for an office after changes, by what parts at work hold
@@ -15,18 +16,20 @@ use Rattle.backup_rules.specs.declared.lines.Line.{Line}
 use Rattle.backup_index.specs.Index.{Index}
 use Rattle.pool_index.specs.Index.{TellsIn}
 use Rattle.pool_changes.specs.Listed.{index_of}
+use Rattle.merge_view.specs.Views.{Rows}
 use Rattle.ref_counts.specs.Numbers.{Items}
 use Rattle.ref_counts.specs.Stored.{StoredHost}
 use Rattle.open_sessions.specs.declared.sessions.OpenDump.{OpenDump}
 use Rattle.open_sessions.specs.Opened.{IsDump}
 use Rattle.receipts.specs.declared.session.SessionName.{SessionName}
 use Rattle.office_model.specs.declared.event.Event.{Event}
-use Rattle.office_model.specs.Office.{Office, Host, Dump, Names, IsUnspent, number_limit, with_dumps, with_hosts, with_pool, with_stages, stages_left}
+use Rattle.office_model.specs.Office.{Office, Host, Dump, Names, IsUnspent, number_limit, with_dumps, with_hosts, with_ids, with_pool, with_stages, stages_left}
 use Rattle.office_model.specs.Pool.{with_tree}
 use Rattle.office_model.specs.Step.{meaning_of}
 use Rattle.office_model.specs.events.Commit.{Ending, with_commit, ends}
 use Rattle.office_files.specs.Pooled.{contents_of}
 use Rattle.office_files.specs.Stands.{Stands}
+use Rattle.office_changes.specs.IdLaws.{ids_with}
 use Rattle.store_parts.specs.declared.parts.StoreParts.{StoreParts}
 use Rattle.store_parts.specs.Held.{given, AreCountsOf, IsKeptView}
 use Rattle.store_parts.specs.States.{slots, IsRunning}
@@ -42,6 +45,10 @@ office_ended session office place dump host line =
 -- its own name
 abbrev pub office_after : Office → ℕ → Dump → Host → Line → Office
 office_after office place dump host line = office_ended dump.name office place dump host line
+
+-- with the names of rows among its ids, each with its content
+abbrev pub named_by : Rows → (PoolId → List ℕ) → Office → Office
+named_by rows contents office = with_ids office (ids_with rows contents office.ids)
 
 module _ {D N S : Type 0} {d : DiskGhosts D} {n : NamerGhosts N S} where
   -- The event ends the open dump of a name, which is at this place; and to what the dump and its host are in the model the ending gives

@@ -31,7 +31,7 @@ use Rattle.office_model.specs.Office.{Office, Names, dump_index}
 use Rattle.office_model.specs.Parts.{dump_at}
 use Rattle.office_model.specs.Repeats.{again, receipt_named as named}
 use Rattle.office_model.specs.Step.{Running, IsStep, meaning_of}
-use Rattle.office_model.specs.UsedNames.{AreNamesAfter}
+use Rattle.office_model.specs.UsedNames.{AreSound, AreNamesAfter}
 use Rattle.office_model.specs.events.Commit as CommitEvent
 use Rattle.office_files.specs.Pooled.{contents_of}
 use Rattle.store_parts.specs.KnownOffice.{receipt_known}
@@ -39,6 +39,7 @@ use Rattle.store_parts.specs.declared.parts.StoreParts.{StoreParts}
 use Rattle.store_parts.specs.Held.{given}
 use Rattle.store_parts.specs.States.{slots, IsRunning}
 use Rattle.store_parts.specs.Runs.{Runs}
+use Rattle.store_parts.specs.StepLaws.{carried_pooling}
 use Rattle.store_parts.specs.RunLaws.{counted_still, reads_behind, reads_still, runs_reads}
 use Rattle.store_parts.specs.RefusedLaws.{runs_broken, runs_not_planned as runs_plan_refused}
 use Rattle.store_commits.specs.declared.former.Folding.{Folding}
@@ -46,6 +47,7 @@ use Rattle.store_commits.specs.declared.judge.Lines.{Lines}
 use Rattle.store_commits.specs.declared.plan.Plan.{Plan}
 use Rattle.store_commits.specs.Committing.{EndsAs}
 use Rattle.store_commits.specs.Former.{IsFolded}
+use Rattle.store_commits.specs.MovedLaws.{ids_still}
 use Rattle.store_commits.specs.Parked.{AreParked}
 use Rattle.store_commits.specs.Planned.{IsBuilt, IsPlanned, IsPlanFault}
 use Rattle.store_commits.specs.ReadyLaws.{running_ready}
@@ -91,14 +93,18 @@ module _ {D N S : Type 0} {d : DiskGhosts D} {n : NamerGhosts N S} where
     again_as None is = runs_broken old event NoSession (λ office names at. carried_again office names at None is)
     again_as (Some receipt) is =
         runs_reads old old event (Ok (Committed receipt.number)) (reads_still old)
-        (λ office names at. step office names (carried_again office names at (Some receipt) is)) (λ office names at. tt)
+        (λ office names at. step office names at.sound (carried_again office names at (Some receipt) is)) (λ office names at. tt)
         (sym (ap (λ (m : Meaning). m.kind) means)) (λ e. absurd cc)
         (counted_still (d.fault_count old.journal.disk) (Ok (Committed receipt.number) ≡ Err DiskFault) (λ e. absurd cc))
       where
-        step : (office : Office) (names : Names)
+        step : (office : Office) (names : Names) → AreSound office names
             → (meaning_of event).carried office names ≡ Ok (record { answer = Committed receipt.number; after = office })
             → IsStep (Running office names) event (Ok (Committed receipt.number)) (Running office names)
-        step office names is = (is, named_still event name ending means office names (Committed receipt.number))
+        step office names sound is = (
+          carried_pooling event office names (record { answer = Committed receipt.number; after = office })
+              (ap (λ (m : Meaning). m.pools) means) is (ids_still names office.durable sound.ids),
+          named_still event name ending means office names (Committed receipt.number),
+        )
 
     pub runs_again : (reply : Reply) → reply ≡ again_of (receipt_named old.catalog.hosts name) → Runs old event reply old
     runs_again reply is =

@@ -32,14 +32,15 @@ use Rattle.office_model.specs.Repeats.{again, receipt_named}
 use Rattle.office_model.specs.declared.event.Event.{Event}
 use Rattle.office_model.specs.declared.refusal.BrokenRule.TheVariants.{NoSession}
 use Rattle.office_model.specs.declared.refusal.Refusal.{Refusal}
-use Rattle.office_model.specs.Office.{Office, Names, dump_index}
-use Rattle.office_model.specs.Meaning.{Meaning}
+use Rattle.office_model.specs.Office.{Office, Names, IsSound, dump_index}
+use Rattle.office_model.specs.Meaning.{Meaning, Carried}
 use Rattle.office_model.specs.Step.{meaning_of}
 use Rattle.office_model.specs.UsedNames.{AreSound}
 use Rattle.office_model.specs.Parts.{dump_at}
 use Rattle.office_model.specs.laws.Judging.{at_found}
 use Rattle.office_model.specs.laws.Lookups.{named}
 use Rattle.office_model.specs.laws.StateLaws.{AreSound-carried}
+use Rattle.office_model.specs.laws.StepLaws.{lawful}
 use Rattle.office_model.specs.events.Commit as CommitEvent
 use Rattle.office_files.specs.Hosts.{index_of_host}
 use Rattle.office_files.specs.Pooled.{contents_of}
@@ -47,10 +48,11 @@ use Rattle.store_parts.specs.KnownOffice.{known_of_office}
 use Rattle.store_parts.specs.declared.parts.StoreParts.{StoreParts}
 use Rattle.store_parts.specs.Held.{given, AreCountsOf, heads_of, IsKeptView}
 use Rattle.store_parts.specs.States.{slots, IsRunning, staging_of}
-use Rattle.store_parts.specs.Runs.{Runs}
+use Rattle.store_parts.specs.Runs.{IsCarried, Runs}
 use Rattle.store_parts.specs.Writes.{Writes}
 use Rattle.store_parts.specs.HeadLaws.{heads-set}
 use Rattle.store_parts.specs.RunLaws.{reads_behind, runs_behind}
+use Rattle.store_parts.specs.StepLaws.{carried_pooling}
 use Rattle.store_parts.specs.WriteLaws.{LeadsTo, Holds, runs_write_refused, runs_written}
 use Rattle.store_dumps.specs.Claims.{LetsGo}
 use Rattle.store_commits.specs.declared.plan.Plan.{Plan}
@@ -65,9 +67,9 @@ use Rattle.store_commits.specs.LayoutLaws.{second_planned}
 use Rattle.store_commits.specs.RunningLaws.{running_committed}
 use Rattle.store_commits.specs.Ending.{EndsDump}
 use Rattle.store_commits.specs.EndingLaws.{AreSessions-dump_ended, claims_in-dump_ended}
-use Rattle.store_commits.specs.Committing.{office_ended, office_after, EndsAs, IsMeant, IsStoredAfter}
+use Rattle.store_commits.specs.Committing.{office_ended, office_after, named_by, EndsAs, IsMeant, IsStoredAfter}
 use Rattle.store_commits.specs.CommittingLaws.{meant}
-use Rattle.store_commits.specs.AfterLaws.{stored_after}
+use Rattle.store_commits.specs.AfterLaws.{stored_after, ids_committed}
 use Rattle.store_commits.specs.KnownLaws.{index_found, catalog_committed}
 use Rattle.store_commits.specs.EventLaws.{named_still, place_is, there_within, planned_read}
 
@@ -110,18 +112,22 @@ module _ {D N S : Type 0} {d : DiskGhosts D} {n : NamerGhosts N S} where
         ends.gives session planned.judged.index there planned.judged.here m.host m.dump
         (ap (λ (i : Index). i.next) (index_is office names at m)) m.is.start m.is.kind
 
+    -- the office after it
+    abbrev made : (office : Office) (names : Names) (at : IsRunning old office names) → IsMeant old place session office names at → Office
+    made office names at m = named_by session.tree (contents_of at.all) (office_after office place m.dump m.host line)
+
     -- what the event is to an office that the parts hold
     record IsStep (office : Office) (names : Names) (at : IsRunning old office names) : Type 0 where
       pub m : IsMeant old place session office names at
-      pub judged : (meaning_of event).carried office names
-          ≡ Ok (record { answer = Committed line.number; after = office_after office place m.dump m.host line })
-      pub sound : AreSound (office_after office place m.dump m.host line) names
+      pub carried : IsCarried event office names (record { answer = Committed line.number; after = made office names at m })
+      pub sound : AreSound (made office names at m) names
       pub stored : IsStoredAfter old at.all (ids_in session.tree) plan.changes (slice_set old.counts m.dump.host planned.counts)
-          (office_after office place m.dump m.host line)
+          (made office names at m)
 
-    step_of : (office : Office) (names : Names) (at : IsRunning old office names) → IsStep office names at
-    step_of office names at =
-        let m : IsMeant old place session office names at = meant old place session office names at there in
+    judged_as : (office : Office) (names : Names) (at : IsRunning old office names) (m : IsMeant old place session office names at)
+        → (meaning_of event).carried office names
+        ≡ Ok (record { answer = Committed line.number; after = office_after office place m.dump m.host line })
+    judged_as office names at m =
         let at_place = place_is old name (Some place) ends.found office names at in
         let is_at : dump_at office.dumps name ≡ Ok (record { index = place; value = m.dump }) =
         at_found NoSession office.dumps (dump_index office.dumps name) place m.dump at_place m.there in
@@ -132,29 +138,35 @@ module _ {D N S : Type 0} {d : DiskGhosts D} {n : NamerGhosts N S} where
         ≡ Ok (record { answer = Committed line.number; after = office_ended name office place m.dump m.host line }) =
         ap (λ (repeated : Option Answer). again office repeated (CommitEvent.ended name ends.ending office))
         (open_repeats_none name office place at_place) ∙ ended_by in
-        let judged : (meaning_of event).carried office names
-        ≡ Ok (record { answer = Committed line.number; after = office_after office place m.dump m.host line }) =
         ap (λ (meaning : Meaning). meaning.carried office names) ends.means ∙ judged_by ∙ ap (λ (s : SessionName). Ok (record {
           answer = Committed line.number;
           after = office_ended s office place m.dump m.host line;
         }))
-        (sym (named office.dumps name place m.dump at_place m.there)) in
-        let sound : AreSound (office_after office place m.dump m.host line) names =
-        AreSound-carried office names event
-        (record { answer = Committed line.number; after = office_after office place m.dump m.host line }) names at.sound judged
-        (named_still event name ends.ending ends.means office names (Committed line.number)) in
+        (sym (named office.dumps name place m.dump at_place m.there))
+
+    step_of : (office : Office) (names : Names) (at : IsRunning old office names) → IsStep office names at
+    step_of office names at =
+        let m : IsMeant old place session office names at = meant old place session office names at there in
+        let c : Carried = record { answer = Committed line.number; after = office_after office place m.dump m.host line } in
+        let judged : (meaning_of event).carried office names ≡ Ok c = judged_as office names at m in
+        let sound : IsSound (office_after office place m.dump m.host line) = (lawful event office names c at.sound judged).sound in
+        let carried : IsCarried event office names (record { answer = Committed line.number; after = made office names at m }) =
+        carried_pooling event office names (record { answer = Committed line.number; after = made office names at m })
+        (ap (λ (meaning : Meaning). meaning.pools) ends.means) judged
+        (ids_committed old place session line plan office names at planned m sound) in
         record {
           m = m;
-          judged = judged;
-          sound = sound;
-          stored = stored_after old place session line plan office names at planned m sound.office;
+          carried = carried;
+          sound = AreSound-carried office names event (Committed line.number) (made office names at m) names at.sound carried
+              (named_still event name ends.ending ends.means office names (Committed line.number));
+          stored = stored_after old place session line plan office names at planned m sound;
         }
 
     leads_to : (office : Office) (names : Names) (at : IsRunning old office names) → IsStep office names at
         → LeadsTo n.digest_of event plan.changes office names at.all
     leads_to office names at s = record {
-      carried = record { answer = Committed line.number; after = office_after office place s.m.dump s.m.host line };
-      judged = s.judged;
+      carried = record { answer = Committed line.number; after = made office names at s.m };
+      judged = s.carried;
       stands = record { index = _; shown = s.stored.shown; stands = s.stored.stands };
       second = second_planned old session line plan planned;
     }
@@ -238,15 +250,15 @@ module _ {D N S : Type 0} {d : DiskGhosts D} {n : NamerGhosts N S} where
           ∙ sym (heads-set office.hosts m.dump.host (CommitEvent.with_commit m.host m.dump line))
 
       running_after : (office : Office) (names : Names) (at : IsRunning old office names) (s : IsStep office names at)
-          → IsRunning new (office_after office place s.m.dump s.m.host line) names
+          → IsRunning new (made office names at s.m) names
       running_after office names at s =
-          running_committed old mid new office (office_after office place s.m.dump s.m.host line) names at plan.changes done w
+          running_committed old mid new office (made office names at s.m) names at plan.changes done w
           (planned_changes old session line plan planned) (ids_in session.tree) (claims_of_dump session) s.stored.shown
           (record { go = go office names at }) f.form
           (claims_in-dump_ended old.sessions new.sessions place session ends_is there)
           s.stored.stands s.stored.tells
           (sessions_after office names at s.m)
-          (subst (λ (v : Views). IsKeptView v.kept (office_after office place s.m.dump s.m.host line).hosts s.stored.shown)
+          (subst (λ (v : Views). IsKeptView v.kept (made office names at s.m).hosts s.stored.shown)
           (sym (f.views ∙ w.views_same)) s.stored.view)
           (subst (λ (c : List Items). AreCountsOf c s.stored.shown) (sym (counts_after office names at s.m)) s.stored.counted)
           (parked_after office names at s.m) s.sound (second_planned old session line plan planned) f.journal

@@ -9,6 +9,7 @@ pub mod HostLaws
 pub mod AcceptLaws
 pub mod RunningLaws
 pub mod OfficeLaws
+pub mod MovedLaws
 pub mod Former
 pub mod Parked
 pub mod ParkedLaws

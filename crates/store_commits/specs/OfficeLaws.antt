@@ -19,12 +19,14 @@ use Rattle.stored_trees.specs.Resolved.{resolved, AreTold, IsOneToOne}
 use Rattle.ref_counts.specs.Stored.{StoredHost}
 use Rattle.office_model.specs.Pool.{with_tree}
 use Rattle.office_model.specs.Office.{Durable, Host, IsSoundDurable, backup_index}
+use Rattle.office_model.specs.laws.IdLaws.{IsSoundDurable-ids}
 use Rattle.office_files.specs.Pooled.{contents_of, IsListed}
 use Rattle.office_files.specs.Hosts.{StandsHost}
 use Rattle.office_files.specs.Stands.{Stands}
 use Rattle.office_changes.specs.ChangeLaws.{is_of_host, is_of_index}
 use Rattle.office_changes.specs.Commits.{IsListedWith}
 use Rattle.office_changes.specs.CommitLaws.{commit_stands}
+use Rattle.office_changes.specs.IdLaws.{ids_with}
 use Rattle.office_changes.specs.PoolLaws.{named_given}
 use Rattle.office_pool.specs.AddedLaws.{listed_with_added}
 use Rattle.office_pool.specs.FitLaws.{given_one, given_digest, given_size}
@@ -38,6 +40,14 @@ live_given None e = e
 live_given (Some (Live size mark claims)) e = refl
 live_given (Some (Staged size claims)) e = refl
 live_given (Some Doomed) e = e
+
+-- with another host, and with the contents of these rows and their names
+abbrev office_with : ℕ → Host → Rows → (PoolId → List ℕ) → Durable → Durable
+office_with number new rows contents office = record office {
+  hosts = slice_set office.hosts number new;
+  pool = with_tree office.pool (resolved contents rows);
+  ids = ids_with rows contents office.ids;
+}
 
 module _ (digest_of : List ℕ → List ℕ) (slots : Slots) (out : FileSet) (all : Files) (fits : Fits digest_of slots out all) (rows : Rows)
     (told : AreTold (λ id. is_given (slots id) ≡ true) (contents_of all) rows) where
@@ -57,10 +67,10 @@ module _ (digest_of : List ℕ → List ℕ) (slots : Slots) (out : FileSet) (al
       → IsSoundDurable (record office { hosts = slice_set office.hosts number new; pool = with_tree office.pool (resolved (contents_of all) rows) })
       → Stands digest_of (index_of slots) backups all office
       → Stands digest_of (index_of (with_added (ids_in rows) slots)) (slice_set backups number shown) image
-      (record office { hosts = slice_set office.hosts number new; pool = with_tree office.pool (resolved (contents_of all) rows) })
+      (office_with number new rows (contents_of all) office)
   office_committed backups image office number host new shown same here name stays none stands_new tells sound stands =
       subst (λ (c : PoolId → List ℕ). Stands digest_of (index_of (with_added (ids_in rows) slots)) (slice_set backups number shown) image
-      (record office { hosts = slice_set office.hosts number new; pool = with_tree office.pool (resolved c rows) })) same
+      (office_with number new rows c office)) same
       (commit_stands digest_of (index_of slots) (index_of (with_added (ids_in rows) slots)) backups all image office number host new shown rows
       (λ id. is_given (slots id) ≡ true) here name stays
       (λ id listed. (live_given (slots id) (listed_live slots id listed), sym (ap (λ (c : PoolId → List ℕ). c id) same)))
@@ -69,8 +79,9 @@ module _ (digest_of : List ℕ → List ℕ) (slots : Slots) (out : FileSet) (al
       (subst (λ (c : PoolId → List ℕ). AreTold (λ id. is_given (slots id) ≡ true) c rows) (sym same) told)
       (subst (λ (c : PoolId → List ℕ). IsOneToOne (λ id. is_given (slots id) ≡ true) c) (sym same) (given_one digest_of slots out all fits))
       (λ id g. given_digest digest_of slots out all fits id g ∙ ap (λ (c : PoolId → List ℕ). digest_of (c id)) (sym same))
+      (IsSoundDurable-ids (office_with number new rows (contents_of image) office) office.ids
       (subst (λ (c : PoolId → List ℕ). IsSoundDurable (record office {
         hosts = slice_set office.hosts number new;
         pool = with_tree office.pool (resolved c rows);
       }))
-      (sym same) sound) stands)
+      (sym same) sound)) stands)

@@ -44,7 +44,7 @@ use Rattle.office_model.specs.laws.StateLaws.{AreSound-carried}
 use Rattle.office_files.specs.Owners.{has_backup}
 use Rattle.office_files.specs.Pooled.{contents_of, IsListed}
 use Rattle.office_files.specs.Hosts.{StandsHost}
-use Rattle.office_files.specs.KeptLaws.{tells_kept, one_kept, pool_kept}
+use Rattle.office_files.specs.KeptLaws.{tells_kept, one_kept, pool_kept, ids_kept}
 use Rattle.office_files.specs.Stands.{Stands}
 use Rattle.office_files.specs.TableLayouts.{WriteNoFirst}
 use Rattle.office_files.specs.TableLayoutLaws.{second_applied}
@@ -146,8 +146,8 @@ module _ {D N S : Type 0} {d : DiskGhosts D} {n : NamerGhosts N S} where
           host = w.host;
           here = w.is_host;
           judged = judged;
-          sound = AreSound-carried office names (DropPartial name)
-              (record { answer = Done; after = with_hosts office (slice_set office.hosts place (with_partial w.host None)) }) names at.sound judged refl;
+          sound = AreSound-carried office names (DropPartial name) Done (with_hosts office (slice_set office.hosts place (with_partial w.host None))) names
+              at.sound judged refl;
         }
 
     -- a fault of the disk in the reading comes where no rule is broken
@@ -242,11 +242,12 @@ module _ {D N S : Type 0} {d : DiskGhosts D} {n : NamerGhosts N S} where
             → Stands n.digest_of (index_of (slots old)) (slice_set at.shown place after) image (with_hosts office new_hosts).durable
         stands sound =
             host_changed n.digest_of (index_of (slots old)) (index_of (slots old)) at.shown at.all image office.durable place host (with_partial host None)
-            after office.pool here refl stays still beyond stands_host
+            after office.pool office.ids here refl stays still beyond stands_host
             (tells_kept at.all image (at_pool_index [] place (counts_file place planned.counts) None at.all none_of_index)
             (at_pool_bucket [] place (counts_file place planned.counts) None at.all none_of_index) (index_of (slots old)) at.stands.index_told)
             (one_kept (index_of (slots old)) (contents_of at.all) (contents_of image) same at.stands.one)
             (pool_kept (index_of (slots old)) (contents_of at.all) (contents_of image) same n.digest_of office.pool at.stands.pool)
+            (ids_kept (index_of (slots old)) (contents_of at.all) (contents_of image) same office.ids at.stands.ids)
             sound.office.kept at.stands
 
       image_is : (all : Files) → applied (host_part place (counts_file place planned.counts) None) all ≡ applied plan.changes all

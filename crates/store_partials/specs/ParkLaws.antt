@@ -31,11 +31,13 @@ use Rattle.office_model.specs.declared.event.Event.TheVariants.{Park}
 use Rattle.office_model.specs.declared.refusal.BrokenRule.TheVariants.{NoSession}
 use Rattle.office_model.specs.declared.refusal.Refusal.{Refusal}
 use Rattle.office_model.specs.declared.refusal.Refusal.TheVariants.{Broken, Halted, DiskFault}
-use Rattle.office_model.specs.Office.{Office, Names, dump_index}
+use Rattle.office_model.specs.Office.{Office, Names, IsSound, dump_index}
+use Rattle.office_model.specs.Meaning.{Carried}
 use Rattle.office_model.specs.UsedNames.{AreSound}
 use Rattle.office_model.specs.Parts.{dump_at}
 use Rattle.office_model.specs.laws.Judging.{at_found}
 use Rattle.office_model.specs.laws.StateLaws.{AreSound-carried}
+use Rattle.office_model.specs.laws.StepLaws.{lawful}
 use Rattle.office_model.specs.events.Park as ParkEvent
 use Rattle.office_files.specs.Pooled.{contents_of}
 use Rattle.office_changes.specs.BoundLaws.{length-map_values}
@@ -43,7 +45,7 @@ use Rattle.store_parts.specs.KnownOffice.{known_of_office, hosts_counted}
 use Rattle.store_parts.specs.declared.parts.StoreParts.{StoreParts}
 use Rattle.store_parts.specs.Held.{given, AreCountsOf, head_of, heads_of, IsKeptView}
 use Rattle.store_parts.specs.States.{slots, IsRunning, staging_of}
-use Rattle.store_parts.specs.Runs.{Runs}
+use Rattle.store_parts.specs.Runs.{IsCarried, Runs}
 use Rattle.store_parts.specs.HeadLaws.{heads-set, length-heads}
 use Rattle.store_parts.specs.Writes.{Writes}
 use Rattle.store_parts.specs.RunLaws.{reads_behind, runs_behind}
@@ -54,7 +56,7 @@ use Rattle.store_commits.specs.Ids.{ids_in}
 use Rattle.store_commits.specs.IdsLaws.{given_ids, all_given}
 use Rattle.store_commits.specs.AcceptLaws.{Loses, with_added, IsAccepted}
 use Rattle.store_commits.specs.RunningLaws.{running_committed}
-use Rattle.store_commits.specs.Committing.{IsMeant, IsStoredAfter}
+use Rattle.store_commits.specs.Committing.{named_by, IsMeant, IsStoredAfter}
 use Rattle.store_commits.specs.CommittingLaws.{meant}
 use Rattle.store_commits.specs.EventLaws.{place_is, there_within}
 use Rattle.store_partials.specs.declared.plan.ParkPlan.{ParkPlan}
@@ -62,7 +64,7 @@ use Rattle.store_partials.specs.Parked.{IsRecounted, IsTold, IsPlanned, IsReady,
 use Rattle.store_partials.specs.RowLaws.{whole_unmarked}
 use Rattle.store_partials.specs.MemoryLaws.{catalog_same}
 use Rattle.store_partials.specs.HostLaws.{told_then}
-use Rattle.store_partials.specs.StoredLaws.{office_parked, planned_changes, second_planned, stored_parked}
+use Rattle.store_partials.specs.StoredLaws.{office_parked, planned_changes, second_planned, stored_parked, ids_parked}
 
 -- no claim is let go
 nothing_lost : (id : PoolId) (slot : Option Slot) → Loses 0 id slot slot
@@ -113,13 +115,17 @@ module _ {D N S : Type 0} {d : DiskGhosts D} {n : NamerGhosts N S} where
   module _ (old : StoreParts D N S d n) (name : SessionName) (place : ℕ) (session : OpenDump) (plan : ParkPlan)
       (found : Some place ≡ dump_place old name) (there : slice_get old.sessions.dumps.items place ≡ Some session)
       (planned : IsPlanned old session plan) where
+    -- the office after it
+    abbrev made : (office : Office) (names : Names) (at : IsRunning old office names) → IsMeant old place session office names at → Office
+    made office names at m = named_by session.tree (contents_of at.all) (office_parked office m.dump m.host)
+
     -- what the event is to an office that the parts hold
     record IsStep (office : Office) (names : Names) (at : IsRunning old office names) : Type 0 where
       pub m : IsMeant old place session office names at
-      pub judged : ParkEvent.carried name office ≡ Ok (record { answer = Done; after = office_parked office m.dump m.host })
-      pub sound : AreSound (office_parked office m.dump m.host) names
+      pub carried : IsCarried (Park name) office names (record { answer = Done; after = made office names at m })
+      pub sound : AreSound (made office names at m) names
       pub stored : IsStoredAfter old at.all (ids_in session.tree) plan.changes (slice_set old.counts m.dump.host planned.counts)
-          (office_parked office m.dump m.host)
+          (made office names at m)
 
     step_of : (office : Office) (names : Names) (at : IsRunning old office names) → IsStep office names at
     step_of office names at =
@@ -127,22 +133,23 @@ module _ {D N S : Type 0} {d : DiskGhosts D} {n : NamerGhosts N S} where
         let at_place = place_is old name (Some place) found office names at in
         let is_at : dump_at office.dumps name ≡ Ok (record { index = place; value = m.dump }) =
         at_found NoSession office.dumps (dump_index office.dumps name) place m.dump at_place m.there in
-        let judged : ParkEvent.carried name office ≡ Ok (record { answer = Done; after = office_parked office m.dump m.host }) =
-        rw (is_at, m.here) refl in
-        let sound : AreSound (office_parked office m.dump m.host) names =
-        AreSound-carried office names (Park name) (record { answer = Done; after = office_parked office m.dump m.host }) names at.sound judged refl in
+        let c : Carried = record { answer = Done; after = office_parked office m.dump m.host } in
+        let judged : ParkEvent.carried name office ≡ Ok c = rw (is_at, m.here) refl in
+        let sound : IsSound (office_parked office m.dump m.host) = (lawful (Park name) office names c at.sound judged).sound in
+        let carried : IsCarried (Park name) office names (record { answer = Done; after = made office names at m }) =
+        (judged, ids_parked old place session plan office names at planned m sound) in
         record {
           m = m;
-          judged = judged;
-          sound = sound;
-          stored = stored_parked old place session plan office names at planned m sound.office;
+          carried = carried;
+          sound = AreSound-carried office names (Park name) Done (made office names at m) names at.sound carried refl;
+          stored = stored_parked old place session plan office names at planned m sound;
         }
 
     leads_to : (office : Office) (names : Names) (at : IsRunning old office names) → IsStep office names at
         → LeadsTo n.digest_of (Park name) plan.changes office names at.all
     leads_to office names at s = record {
-      carried = record { answer = Done; after = office_parked office s.m.dump s.m.host };
-      judged = s.judged;
+      carried = record { answer = Done; after = made office names at s.m };
+      judged = s.carried;
       stands = record { index = _; shown = s.stored.shown; stands = s.stored.stands };
       second = second_planned old session plan planned;
     }
@@ -210,14 +217,14 @@ module _ {D N S : Type 0} {d : DiskGhosts D} {n : NamerGhosts N S} where
           ∙ (λ i. known_of office.epoch (sym (catalog_same office.hosts m.dump.host m.host (Some (ParkEvent.partial_of m.dump)) m.here) i))
 
       running_after : (office : Office) (names : Names) (at : IsRunning old office names) (s : IsStep office names at)
-          → IsRunning new (office_parked office s.m.dump s.m.host) names
+          → IsRunning new (made office names at s.m) names
       running_after office names at s =
-          running_committed old mid new office (office_parked office s.m.dump s.m.host) names at plan.changes done w
+          running_committed old mid new office (made office names at s.m) names at plan.changes done w
           (planned_changes old session plan planned) (ids_in session.tree) (λ id. 0) s.stored.shown
           (accepted office names at) f.form claims_are s.stored.stands s.stored.tells
           (subst (λ (o : Sessions S). AreSessions n.holds (given (slots old)) (contents_of at.all) (staging_of at.all names) office.volatile o)
           (sym sessions_are) at.sessions)
-          (subst (λ (v : Views). IsKeptView v.kept (office_parked office s.m.dump s.m.host).hosts s.stored.shown)
+          (subst (λ (v : Views). IsKeptView v.kept (made office names at s.m).hosts s.stored.shown)
           (sym (f.views ∙ w.views_same)) s.stored.view)
           (subst (λ (c : List Items). AreCountsOf c s.stored.shown) (sym (counts_after office names at s.m)) s.stored.counted)
           (partials_after office names at s.m) s.sound (second_planned old session plan planned) f.journal (catalog_after office names at s.m) f.halted

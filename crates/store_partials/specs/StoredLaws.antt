@@ -1,8 +1,9 @@
 -- The files after a planned park stand for the office after it.
---     office_parked      the office after the park of an open dump
+--     office_parked      the office after the park of an open dump, but for the ids
 --     planned_changes      the changes of a plan name metadata files, none twice
 --     second_planned      and write no table of the first layout
 --     stored_parked      for the office that the parts hold
+--     ids_parked      its ids
 use Rattle.std.specs.Prelude.{◌≡◌, ℕ, true, false, List, ◌++◌, Option, Some, None, is_some, slice_set}
 use Rattle.std.proofs.Common.{refl, sym, ap, ◌∙◌, subst}
 use Rattle.disk_trait.specs.declared.ids.PoolId.{PoolId}
@@ -29,6 +30,7 @@ use Rattle.host_partials.specs.Held.{head_at}
 use Rattle.open_sessions.specs.declared.sessions.OpenDump.{OpenDump}
 use Rattle.open_sessions.specs.SessionLaws.{pairs_set}
 use Rattle.office_model.specs.Office.{Office, Durable, Host, Dump, Names, IsSound, IsSoundDurable, backup_index, with_hosts, with_pool}
+use Rattle.office_model.specs.UsedNames.{AreIdsAfter}
 use Rattle.office_model.specs.Pool.{Pool, with_tree}
 use Rattle.office_model.specs.events.Park.{partial_of, with_partial}
 use Rattle.office_files.specs.Hosts.{StandsPartial, StandsHost}
@@ -39,6 +41,7 @@ use Rattle.office_files.specs.Stands.{Stands}
 use Rattle.office_files.specs.TableLayouts.{WriteNoFirst}
 use Rattle.office_files.specs.TableLayoutLaws.{none_in_both}
 use Rattle.office_changes.specs.Commits.{IsListedWith}
+use Rattle.office_changes.specs.IdLaws.{ids_with}
 use Rattle.office_changes.specs.ChangeLaws.{is_of_host, is_of_index}
 use Rattle.office_changes.specs.PoolLaws.{listed_with, told_with}
 use Rattle.office_changes.specs.LayoutLaws.{second_of_index}
@@ -52,7 +55,8 @@ use Rattle.store_commits.specs.IdsLaws.{given_ids, all_given}
 use Rattle.store_commits.specs.WrittenLaws.{AreOfIndex}
 use Rattle.store_commits.specs.CommittedLaws.{of_index}
 use Rattle.store_commits.specs.OfficeLaws.{listed_rows, office_committed}
-use Rattle.store_commits.specs.Committing.{IsMeant, IsStoredAfter}
+use Rattle.store_commits.specs.MovedLaws.{ids_moved_by}
+use Rattle.store_commits.specs.Committing.{named_by, IsMeant, IsStoredAfter}
 use Rattle.store_partials.specs.declared.plan.ParkPlan.{ParkPlan}
 use Rattle.store_partials.specs.Parked.{dump_file, IsRecounted, IsPlanned}
 use Rattle.store_partials.specs.Written.{host_part}
@@ -212,15 +216,18 @@ module _ {D N S : Type 0} {d : DiskGhosts D} {n : NamerGhosts N S} where
     abbrev with_the_pool : Pool → Durable
     with_the_pool pool = record office.durable { hosts = slice_set office.hosts number new; pool = pool }
 
-    stands : Stands n.digest_of next (slice_set at.shown number after) image (with_the_pool (with_tree office.pool m.dump.tree))
-    stands = subst (λ tree. Stands n.digest_of next (slice_set at.shown number after) image (with_the_pool (with_tree office.pool tree)))
+    abbrev with_names : Pool → Durable
+    with_names pool = record (with_the_pool pool) { ids = ids_with rows (contents_of at.all) office.ids }
+
+    stands : Stands n.digest_of next (slice_set at.shown number after) image (with_names (with_tree office.pool m.dump.tree))
+    stands = subst (λ tree. Stands n.digest_of next (slice_set at.shown number after) image (with_names (with_tree office.pool tree)))
         (sym m.is.tree)
         (office_committed n.digest_of (slots parts) (uncertain parts.journal) at.all at.fits rows m.is.tree_rows.told at.shown image
         office.durable number m.host new after contents_are m.here refl stays beyond stands_host tells
         (subst (λ tree. IsSoundDurable (with_the_pool (with_tree office.pool tree))) m.is.tree sound.kept) at.stands)
 
     pub stored_parked : IsStoredAfter parts at.all (ids_in rows) plan.changes (slice_set parts.counts number planned.counts)
-        (office_parked office m.dump m.host)
+        (named_by rows (contents_of at.all) (office_parked office m.dump m.host))
     stored_parked = record {
       shown = slice_set at.shown number after;
       stands = stands;
@@ -229,3 +236,8 @@ module _ {D N S : Type 0} {d : DiskGhosts D} {n : NamerGhosts N S} where
       view = view_same office.hosts at.shown number m.host of (Some (partial_of m.dump)) (Some rows) m.here
           (found parts office names at number m.host m.here).1 parts.views.kept at.view;
     }
+
+    pub ids_parked : AreIdsAfter names office.durable (named_by rows (contents_of at.all) (office_parked office m.dump m.host)).durable
+    ids_parked =
+        ids_moved_by parts office names at rows m.is.tree_rows.told plan.changes (slice_set at.shown number after)
+        (named_by rows (contents_of at.all) (office_parked office m.dump m.host)).durable (planned_changes parts session plan planned) stands
