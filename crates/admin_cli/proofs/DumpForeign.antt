@@ -30,6 +30,7 @@ names_tables : (event : Event) → IsOfDump event → NamesTables event
 names_tables (E.ReadFile host number path) of = absurd of
 names_tables (E.ReadPart number) of = absurd of
 names_tables (E.ReadNext restore) of = absurd of
+names_tables (E.PoolPiece id from) of = absurd of
 names_tables E.Reopen of = absurd of
 names_tables event of = tt
 
